@@ -1,0 +1,12 @@
+pub mod Best
+pub mod ByRank
+pub mod Earlier
+pub mod Examples
+pub mod Kept
+pub mod Maker
+pub mod Members
+pub mod More
+pub mod Order
+pub mod Paper
+pub mod Rules
+pub mod Words

@@ -1,0 +1,246 @@
+-- Lawful layouts, which comes first, and the answer. Assumes nothing: these are definitions.
+use mathlib.Core.Bool.{Bool, true, false, _&&_, _||_, not, cond}
+use mathlib.Core.List.{List, [], _∷_, _++_}
+use mathlib.Core.Option.{Option, none, some}
+use Prim.Native.Nat.{ℕ, zero, suc, _+_, _*_, _-_, _/_, _%_, _^_}
+use lib.Dec.{ltb, leb, eqb}
+use lib.ListN.{length, getD, take, drop, replicate}
+use Rattle.sheet.specs.Sheet.{all, kindOf, bits, Site, Colour, Sheet, rankOf, rankTop, sheetIn, sheetFault}
+
+abbrev pub apart : ℕ → ℕ → ℕ
+apart a b = (a - b) + (b - a)
+
+-- a tied site: its slot beside it
+pub record Tied : Type 0 where
+  pub site : Site
+  pub slot : ℕ
+
+unfoldable pub tiedOf : List Site → (slots : List ℕ) → List Tied
+tiedOf [] ks = []
+tiedOf (s ∷ ss) [] = []
+tiedOf (s ∷ ss) (k ∷ ks) = record { site = s; slot = k } ∷ tiedOf ss ks
+
+abbrev pub heightOf : Sheet → (slot : ℕ) → ℕ
+heightOf s k = getD (s .slots) k 0
+
+unfoldable pub isUsed : (slot : ℕ) → (ties : List ℕ) → Bool
+isUsed k [] = false
+isUsed k (j ∷ js) = eqb j k || isUsed k js
+
+unfoldable pub usedFrom : (slot : ℕ) → ℕ → (ties : List ℕ) → List ℕ
+usedFrom k zero js = []
+usedFrom k (suc n) js = cond (isUsed k js) (k ∷ usedFrom (suc k) n js) (usedFrom (suc k) n js)
+
+abbrev pub usedOf : Sheet → (ties : List ℕ) → List ℕ
+usedOf s js = usedFrom 0 (length (s .slots)) js
+
+abbrev pub tied : Sheet → (ties : List ℕ) → List Tied
+tied s js = tiedOf (s .sites) js
+
+-- the left end of a label: the least x among its sites, or 0 on a two-sided sheet
+abbrev pub least : ℕ → ℕ → ℕ
+least a b = cond (ltb b a) b a
+
+unfoldable pub leastX : (slot width : ℕ) → List Tied → ℕ
+leastX k w [] = w
+leastX k w (t ∷ ts) = cond (eqb (t .slot) k) (least (t .site .x) (leastX k w ts)) (leastX k w ts)
+
+abbrev pub leftEnd : Sheet → (ties : List ℕ) → (slot : ℕ) → ℕ
+leftEnd s js k = cond (s .isTwoSided) 0 (leastX k (s .width) (tied s js))
+
+-- 1: sites that share a slot share a colour
+abbrev pub colourKept : Tied → Tied → Bool
+colourKept t u = not (eqb (t .slot) (u .slot)) || eqb (t .site .colour) (u .site .colour)
+
+abbrev pub coloursOf : List Tied → Tied → Bool
+coloursOf ts t = all (colourKept t) ts
+
+abbrev pub coloursKept : List Tied → Bool
+coloursKept ts = all (coloursOf ts) ts
+
+-- 2: no colour uses more slots than its bound
+unfoldable pub slotsOf : (colour : ℕ) → List Tied → List ℕ
+slotsOf c [] = []
+slotsOf c (t ∷ ts) = cond (eqb (t .site .colour) c) (t .slot ∷ slotsOf c ts) (slotsOf c ts)
+
+unfoldable pub boundsKept : Sheet → (ties : List ℕ) → (colour : ℕ) → List Colour → Bool
+boundsKept s js c [] = true
+boundsKept s js c (k ∷ ks) =
+    (eqb (k .bound) 255 || leb (length (usedOf s (slotsOf c (tied s js)))) (k .bound)) && boundsKept s js (suc c) ks
+
+-- 3: labels at least D apart
+abbrev pub noColour : Colour
+noColour = record { bound = 0; sites = 0 }
+
+abbrev pub isFar : Sheet → (slot colour other its : ℕ) → Bool
+isFar s j c k d = leb (s .gap) (apart (heightOf s j) (heightOf s k))
+
+abbrev pub gapKept : Sheet → Tied → Tied → Bool
+gapKept s t u = eqb (t .slot) (u .slot) || isFar s (t .slot) (t .site .colour) (u .slot) (u .site .colour)
+
+abbrev pub gapsOf : Sheet → List Tied → Tied → Bool
+gapsOf s ts t = all (gapKept s t) ts
+
+abbrev pub gapsKept : Sheet → List Tied → Bool
+gapsKept s ts = all (gapsOf s ts) ts
+
+-- 4: no vertical shares a point with the backbone of another label
+abbrev pub isOver : (low high h : ℕ) → Bool
+isOver a b h = leb a h && leb h b
+
+abbrev pub verticalHas : (y end h : ℕ) → Bool
+verticalHas y e h = isOver (least y e) (cond (ltb y e) e y) h
+
+abbrev pub misses : Sheet → (ties : List ℕ) → Tied → (slot : ℕ) → Bool
+misses s js t k =
+    eqb (t .slot) k || not (leb (leftEnd s js k) (t .site .x) && verticalHas (t .site .y) (heightOf s (t .slot)) (heightOf s k))
+
+abbrev pub missesAll : Sheet → (ties : List ℕ) → Tied → Bool
+missesAll s js t = all (misses s js t) (usedOf s js)
+
+-- 5: a backbone lies at least D from every site of another label at or right of its left end
+abbrev pub clears : Sheet → (ties : List ℕ) → Tied → (slot : ℕ) → Bool
+clears s js t k =
+    eqb (t .slot) k || not (leb (leftEnd s js k) (t .site .x)) || leb (s .gap) (apart (heightOf s k) (t .site .y))
+
+abbrev pub clearsAll : Sheet → (ties : List ℕ) → Tied → Bool
+clearsAll s js t = all (clears s js t) (usedOf s js)
+
+-- 6: count and length
+abbrev pub countOf : Sheet → (ties : List ℕ) → ℕ
+countOf s js = length (usedOf s js)
+
+unfoldable pub backbones : Sheet → (ties used : List ℕ) → ℕ
+backbones s js [] = 0
+backbones s js (k ∷ ks) = (s .width - leftEnd s js k) + backbones s js ks
+
+-- a site's share of the length, by the height of its slot and its own
+unfoldable pub siteShare : Sheet → (height y : ℕ) → ℕ
+siteShare s h y = apart h y
+
+unfoldable pub drops : Sheet → List Tied → ℕ
+drops s [] = 0
+drops s (t ∷ ts) = siteShare s (heightOf s (t .slot)) (t .site .y) + drops s ts
+
+abbrev pub lengthOf : Sheet → (ties : List ℕ) → ℕ
+lengthOf s js = backbones s js (usedOf s js) + drops s (tied s js)
+
+-- the least broken rule of 1 to 5, or 0
+abbrev pub brokenIn : Sheet → (ties : List ℕ) → ℕ
+brokenIn s js =
+    cond (not (coloursKept (tied s js))) 1
+    (cond (not (boundsKept s js 0 (s .colours))) 2
+    (cond (not (gapsKept s (tied s js))) 3
+    (cond (not (all (missesAll s js) (tied s js))) 4 (cond (not (all (clearsAll s js) (tied s js))) 5 0))))
+
+-- LAYOUTS as words
+unfoldable pub tieWords : (ties : List ℕ) → List ℕ
+tieWords [] = []
+tieWords (k ∷ ks) = (9 * 268435456 + k) ∷ tieWords ks
+
+abbrev pub layoutWords : (count size : ℕ) → (ties : List ℕ) → List ℕ
+layoutWords c l js = (8 * 268435456 + c * 2097152 + l) ∷ tieWords js
+
+abbrev pub statedCount : (words : List ℕ) → ℕ
+statedCount ws = bits (getD ws 0 0) 21 7
+
+abbrev pub statedLength : (words : List ℕ) → ℕ
+statedLength ws = bits (getD ws 0 0) 0 21
+
+unfoldable pub tiesIn : (words : List ℕ) → List ℕ
+tiesIn [] = []
+tiesIn (w ∷ ws) = bits w 0 8 ∷ tiesIn ws
+
+abbrev pub isTie : Sheet → (word : ℕ) → Bool
+isTie s w = eqb (kindOf w) 9 && eqb (bits w 8 20) 0 && ltb (bits w 0 8) (length (s .slots))
+
+-- a layout of a sheet, in form
+abbrev pub isLayout : Sheet → (words : List ℕ) → Bool
+isLayout s ws =
+    eqb (length ws) (length (s .sites) + 1) && eqb (kindOf (getD ws 0 0)) 8 && all (isTie s) (drop 1 ws)
+
+abbrev pub brokenBy : Sheet → (words : List ℕ) → ℕ
+brokenBy s ws =
+    cond (not (eqb (brokenIn s (tiesIn (drop 1 ws))) 0)) (brokenIn s (tiesIn (drop 1 ws)))
+    (cond (eqb (statedCount ws) (countOf s (tiesIn (drop 1 ws))) && eqb (statedLength ws) (lengthOf s (tiesIn (drop 1 ws)))) 0 6)
+
+abbrev pub isLawful : Sheet → (words : List ℕ) → Bool
+isLawful s ws = isLayout s ws && eqb (brokenBy s ws) 0
+
+-- WHICH COMES FIRST: by the aim, then the other number, then by sites of rising x the lower slot number
+unfoldable pub nextRank : (after best : ℕ) → List Tied → ℕ
+nextRank a b [] = b
+nextRank a b (t ∷ ts) = cond (ltb a (rankOf (t .site) + 1) && ltb (rankOf (t .site)) b) (nextRank a (rankOf (t .site)) ts) (nextRank a b ts)
+
+unfoldable pub slotAt : (x : ℕ) → List Tied → ℕ
+slotAt x [] = 0
+slotAt x (t ∷ ts) = cond (eqb (rankOf (t .site)) x) (t .slot) (slotAt x ts)
+
+-- slots of the sites by rising x; fuel: the sites
+unfoldable pub byRank : ℕ → (from : ℕ) → List Tied → List ℕ
+byRank zero a ts = []
+byRank (suc n) a ts = slotAt (nextRank a rankTop ts) ts ∷ byRank n (nextRank a rankTop ts + 1) ts
+
+abbrev pub slotsByRank : Sheet → (ties : List ℕ) → List ℕ
+slotsByRank s js = byRank (length (s .sites)) 0 (tied s js)
+
+unfoldable pub comesFirst : List ℕ → List ℕ → Bool
+comesFirst [] ys = false
+comesFirst (x ∷ xs) [] = false
+comesFirst (x ∷ xs) (y ∷ ys) = ltb x y || (eqb x y && comesFirst xs ys)
+
+abbrev pub firstNumber : Sheet → (ties : List ℕ) → ℕ
+firstNumber s js = cond (s .isShortest) (lengthOf s js) (countOf s js)
+
+abbrev pub secondNumber : Sheet → (ties : List ℕ) → ℕ
+secondNumber s js = cond (s .isShortest) (countOf s js) (lengthOf s js)
+
+abbrev pub isBetter : Sheet → (one other : List ℕ) → Bool
+isBetter s js ks =
+    ltb (firstNumber s js) (firstNumber s ks) ||
+    (eqb (firstNumber s js) (firstNumber s ks) &&
+    (ltb (secondNumber s js) (secondNumber s ks) ||
+    (eqb (secondNumber s js) (secondNumber s ks) && comesFirst (slotsByRank s js) (slotsByRank s ks))))
+
+-- THE ANSWER: the best of all ties whatsoever that obey rules 1 to 5. Ties are tried site by site
+abbrev pub betterOf : Sheet → Option (List ℕ) → Option (List ℕ) → Option (List ℕ)
+betterOf s none y = y
+betterOf s (some a) none = some a
+betterOf s (some a) (some b) = some (cond (isBetter s b a) b a)
+
+unfoldable pub bestOver : (List ℕ → Option (List ℕ)) → Sheet → (slot : ℕ) → ℕ → (ties : List ℕ) → Option (List ℕ)
+bestOver f s k zero js = none
+bestOver f s k (suc n) js = betterOf s (f (js ++ (k ∷ []))) (bestOver f s (suc k) n js)
+
+unfoldable pub bestFrom : ℕ → Sheet → (ties : List ℕ) → Option (List ℕ)
+bestFrom zero s js = cond (eqb (brokenIn s js) 0) (some js) none
+bestFrom (suc n) s js = bestOver (bestFrom n s) s 0 (length (s .slots)) js
+
+abbrev pub best : Sheet → Option (List ℕ)
+best s = bestFrom (length (s .sites)) s []
+
+abbrev pub answerOf : Sheet → (ties : List ℕ) → List ℕ
+answerOf s js = layoutWords (countOf s js) (lengthOf s js) js
+
+abbrev pub answerBy : Sheet → Option (List ℕ) → List ℕ
+answerBy s none = []
+answerBy s (some js) = answerOf s js
+
+abbrev pub answer : Sheet → List ℕ
+answer s = answerBy s (best s)
+
+-- STORED SHEETS: the layout begins at the first word of kind 8
+unfoldable pub sheetPart : List ℕ → List ℕ
+sheetPart [] = []
+sheetPart (w ∷ ws) = cond (eqb (kindOf w) 8) [] (w ∷ sheetPart ws)
+
+abbrev pub layoutPart : List ℕ → List ℕ
+layoutPart ws = drop (length (sheetPart ws)) ws
+
+abbrev pub judgeFault : (words : List ℕ) → ℕ
+judgeFault ws =
+    cond (not (eqb (sheetFault (sheetPart ws)) 0)) (sheetFault (sheetPart ws))
+    (cond (isLayout (sheetIn (sheetPart ws)) (layoutPart ws)) 0 11)
+
+abbrev pub judged : (words : List ℕ) → ℕ
+judged ws = brokenBy (sheetIn (sheetPart ws)) (layoutPart ws)

@@ -1,0 +1,198 @@
+-- The cells hold the table, and the walk by cells is the walk by the table. Assumes nothing but that the colours of the sites
+-- are below C.
+use mathlib.Core.Path.{_≡_, refl, sym, ap, ap₂, _∙_, subst, subst⁻¹}
+use mathlib.Core.Logic.{_⊎_, inl, inr, _↔_}
+use mathlib.Core.Bool.{Bool, true, false, cond, _&&_, _||_, not}
+use mathlib.Core.List.{List, [], _∷_, _++_}
+use Prim.Native.Nat.{ℕ, zero, suc, _+_, _-_, _*_, _/_, _%_, _≤_, _<_, min}
+use native.Mathlib.Omega.{arith}
+use lib.Dec.{eqb, leb, ltb}
+use lib.ListN.{length, getD, set, replicate, length-set, length-replicate}
+use borrow.Author.Tests.{leb-true, leb-false, ltb-true, ltb-false, le-leb, lt-leb, lt-ltb, le-ltb, eqb-true, eqb-false, eq-eqb, ne-eqb}
+use Rattle.lists.proofs.Tests.{by-test, by-order, by-equal, by-either, and-both, and-of, clash, tests}
+use mathlib.Core.Path.{fun-ext}
+use mathlib.Core.Option.{Option, none, some}
+use native.Mathlib.Nat.{mod-lt, div-lt-iff-lt-mul, le-antisymm}
+use lib.Arith.{digits-div, digits-mod}
+use Rattle.search.specs.Cost.{plus, least, least-cong, first-cong, top-plus}
+use Rattle.search.specs.Semi.{fold, fold-prod, prod, one-prod}
+use Rattle.search.specs.Share.{Sharing, conv, just, semiring, conv-one, conv-le-top}
+use Rattle.search.specs.Radix.{below, sharing}
+use Rattle.search.specs.Plan.{Laws, T, Rest, T-nil, T-in, T-out, T-le-top, Rest-one, Rest-two, Rest-cons}
+use Rattle.search.specs.Walk.{answerBy, walkBy, chooseBy}
+use Rattle.optimum.specs.Strips.{Point, Strip, Instance, inside, marked, opens, joinsUp, joinsDown, cost, draw, children, rulesOf, stripsFrom, strips, State, next, labels, value}
+use Rattle.optimum.proofs.StripsHeld.{Rising, laws, set-other, set-same}
+use Rattle.optimum.proofs.Pairs.{zeros}
+use Rattle.optimum.specs.Cells.{build, cells, cellOf, stripAt, shareAt, shareCells, stepCell, entryOf, level, joinCells, foldCells, startCells, valueCells}
+
+pub build-at : (n : ℕ) (f : ℕ → ℕ) (i : ℕ) → i < n → getD (build n f) i 0 ≡ f i
+unfolding build
+build-at zero f i h = absurd (omega arith)
+build-at (suc n) f zero h = refl
+build-at (suc n) f (suc i) h = build-at n (λ k. f (suc k)) i (omega arith)
+
+pub build-long : (n : ℕ) (f : ℕ → ℕ) → length (build n f) ≡ n
+unfolding build
+build-long zero f = refl
+build-long (suc n) f = ap suc (build-long n (λ k. f (suc k)))
+
+pack-lt : (x y X B : ℕ) → x < X → y < B → x * B + y < X * B
+pack-lt x y X B h k =
+    let e : X ≡ suc x + (X - suc x) = omega arith in
+    omega (arith, ap (λ (z : ℕ). z * B) e)
+
+set-past : (L : List ℕ) (k c : ℕ) → length L ≤ k → set L k c ≡ L
+set-past [] k c h = refl
+set-past (u ∷ L) zero c h = absurd (omega arith)
+set-past (u ∷ L) (suc k) c h = ap (λ (z : List ℕ). u ∷ z) (set-past L k c (omega arith))
+
+set-under : (L : List ℕ) (k c b : ℕ) → c < b → ((j : ℕ) → getD L j 0 < b) → (j : ℕ) → getD (set L k c) j 0 < b
+set-under L k c b h f j =
+    by-equal j k
+    (λ e. by-order (length L) k (λ l. rw (set-past L k c l) (f j)) (λ l. rw (e, set-same L k c l) h))
+    (λ n. rw (set-other L k c j n) (f j))
+
+-- the sites' colours are below C
+unfoldable pub Coloured : ℕ → List Point → Type 0
+Coloured C [] = Unit
+Coloured C (s ∷ ss) = (s .c < C) × Coloured C ss
+
+module _ (P : Instance) (C R : ℕ) where
+  open Instance P using (m, top, kinds, turn, share, lead, drawOf, radices, word)
+
+  pub record InRange (p : Strip) : Type 0 where
+    pub ra : p .a < m + 2
+    pub rca : p .ca < C + 1
+    pub rb : p .b < m + 2
+    pub rcb : p .cb < C + 1
+    pub rd : p .d < kinds
+
+  pub cell-low : (p : Strip) (v : ℕ) → InRange p → v < R → cellOf P C R p v < cells P C R
+  unfolding cellOf
+  cell-low p v r h =
+      pack-lt _ v _ R (pack-lt _ (p .d) _ kinds (pack-lt _ (p .cb) _ (C + 1) (pack-lt _ (p .b) _ (m + 2) (pack-lt (p .a) (p .ca) (m + 2) (C + 1) (r .ra) (r .rca)) (r .rb)) (r .rcb)) (r .rd)) h
+
+  pub share-cell : (p : Strip) (v : ℕ) → v < R → shareAt P C R (cellOf P C R p v) ≡ v
+  unfolding cellOf shareAt
+  share-cell p v h = digits-mod _ h
+
+  pub strip-cell : (p : Strip) (v : ℕ) → InRange p → v < R → stripAt P C R (cellOf P C R p v) ≡ p
+  unfolding cellOf stripAt
+  strip-cell p v r h =
+      let d₀ = digits-div ((((p .a * (C + 1) + p .ca) * (m + 2) + p .b) * (C + 1) + p .cb) * kinds + p .d) h in
+      let d₁ = digits-div (((p .a * (C + 1) + p .ca) * (m + 2) + p .b) * (C + 1) + p .cb) (r .rd) in
+      let d₂ = digits-div ((p .a * (C + 1) + p .ca) * (m + 2) + p .b) (r .rcb) in
+      let d₃ = digits-div (p .a * (C + 1) + p .ca) (r .rb) in
+      rw (d₀, d₁, d₂, d₃, digits-div (p .a) (r .rca), digits-mod (p .a) (r .rca), digits-mod (p .a * (C + 1) + p .ca) (r .rb), digits-mod ((p .a * (C + 1) + p .ca) * (m + 2) + p .b) (r .rcb), digits-mod (((p .a * (C + 1) + p .ca) * (m + 2) + p .b) * (C + 1) + p .cb) (r .rd))
+
+  -- the level holds the table of the sites ss
+  abbrev pub Level : List ℕ → List Point → Type 0
+  Level low ss = (p : Strip) (v : ℕ) → InRange p → v < R → getD low (cellOf P C R p v) 0 ≡ T (rulesOf P) ss p v
+
+  module _ (rising : Rising P) (turn-low : (s : Point) (k : ℕ) → turn s k < kinds) where
+    pub share-two : (low : List ℕ) (ss : List Point) → Level low ss → (p q : Strip) (u : ℕ) → InRange p → InRange q → u < R
+        → shareCells P C R low p q u ≡ Rest (rulesOf P) ss (p ∷ q ∷ []) u
+    unfolding shareCells conv
+    share-two low ss h p q u rp rq l =
+        least-cong top (suc u) _ _ (λ w lw. ap₂ (λ (a b : ℕ). cond (below radices w u) (plus top a b) top) (h p w rp (omega arith)) (h q (u - w) rq (omega arith)))
+        ∙ sym (Rest-two (rulesOf P) (laws P rising) ss p q u)
+
+    pub step-cell : (low : List ℕ) (ss : List Point) → Level low ss → (p : Strip) (s : Point) (k v : ℕ) → InRange p → s .c < C → k < m → v < R
+        → stepCell P C R low p s k v ≡ cond (below radices (draw P p s k) v) (plus top (cost P p s k) (Rest (rulesOf P) ss (children P p s k) (v - draw P p s k))) top
+    unfolding stepCell draw cost children
+    step-cell low ss h p s k v r c l lv =
+        by-test (opens P p s k)
+        (λ e. rw e (ap (λ (z : ℕ). cond (below radices (drawOf (s .c)) v) (plus top (word 1 (lead (s .x) + share k (s .y))) z) top)
+        (share-two low ss h _ _ (v - drawOf (s .c))
+        (record { ra = r .ra; rca = r .rca; rb = omega arith; rcb = omega arith; rd = turn-low s k }) (record { ra = omega arith; rca = omega arith; rb = r .rb; rcb = r .rcb; rd = omega (arith, turn-low s k) }) (omega arith))))
+        (λ e. rw (e, sharing radices .nothing v)
+        (let q : Strip = record { a = p .a; ca = p .ca; b = p .b; cb = p .cb; d = turn s k } in
+        let one : Rest (rulesOf P) ss (q ∷ []) (v - 0) ≡ getD low (cellOf P C R q v) 0 = ap (Rest (rulesOf P) ss (q ∷ [])) (omega arith) ∙ Rest-one (rulesOf P) (laws P rising) ss q v
+        ∙ sym (h q v (record { ra = r .ra; rca = r .rca; rb = r .rb; rcb = r .rcb; rd = turn-low s k }) lv) in
+        rw one (by-test (joinsUp P p s k || joinsDown P p s k) (λ j. rw j) (λ j. rw j (sym (top-plus top _))))))
+
+    -- a level from the one below it
+    pub level-cons : (low high : List ℕ) (s : Point) (ss : List Point) → s .c < C → Level low ss → ((i : ℕ) → i < cells P C R → getD high i 0 ≡ entryOf P C R low s i) → Level high (s ∷ ss)
+    unfolding entryOf
+    level-cons low high s ss c h g p v r lv =
+        g _ (cell-low p v r lv)
+        ∙ ap₂ (λ (q : Strip) (w : ℕ). cond (inside P q s) (least top m (λ k. stepCell P C R low q s k w)) (getD low (cellOf P C R p v) 0)) (strip-cell p v r lv) (share-cell p v lv)
+        ∙ by-test (inside P p s)
+        (λ e. rw e (least-cong top m _ _ (λ k l. step-cell low ss h p s k v r c l lv) ∙ sym (T-in (rulesOf P) (laws P rising) s ss p v e)))
+        (λ e. rw e (h p v r lv ∙ sym (T-out (rulesOf P) (laws P rising) s ss p v e)))
+
+    pub level-nil : Level (replicate (cells P C R) 0) []
+    level-nil p v r lv = zeros (cells P C R) (cellOf P C R p v) ∙ sym (T-nil (rulesOf P) (laws P rising) p v)
+
+    pub level-holds : (ss : List Point) → Coloured C ss → Level (level P C R ss) ss
+    unfolding level Coloured
+    level-holds [] h = level-nil
+    level-holds (s ∷ ss) h = level-cons (level P C R ss) (level P C R (s ∷ ss)) s ss (h .0) (level-holds ss (h .1)) (λ i l. build-at (cells P C R) (entryOf P C R (level P C R ss) s) i l)
+
+    -- ---- the sharing over the open labels
+
+    abbrev pub Holds : List ℕ → (ℕ → ℕ) → Type 0
+    Holds acc f = (v : ℕ) → v < R → getD acc v 0 ≡ f v
+
+    pub join-cells : (low : List ℕ) (ss : List Point) → Level low ss → (acc : List ℕ) (f : ℕ → ℕ) → Holds acc f → (p : Strip) → InRange p
+        → Holds (joinCells P C R low acc p) (conv top (below radices) f (T (rulesOf P) ss p))
+    unfolding joinCells conv
+    join-cells low ss h acc f a p r v l =
+        build-at R _ v l
+        ∙ least-cong top (suc v) _ _ (λ w lw. ap₂ (λ (x y : ℕ). cond (below radices w v) (plus top x y) top) (a w (omega arith)) (h p (v - w) r (omega arith)))
+
+    pub fold-cells : (low : List ℕ) (ss : List Point) → Level low ss → (L M : List ℕ) → ((j : ℕ) → getD L j 0 < C + 1) → ((j : ℕ) → getD M j 0 < kinds) → (r i a ca : ℕ) (acc : List ℕ) (f : ℕ → ℕ)
+        → r + i ≡ m → a ≤ i → ca < C + 1 → Holds acc f
+        → Holds (foldCells P C R low r i a ca L M acc) (fold (conv top (below radices)) (T (rulesOf P) ss) f (stripsFrom P r i a ca L M))
+    unfolding foldCells stripsFrom fold
+    fold-cells low ss h L M c k zero i a ca acc f e ai ac q = join-cells low ss h acc f q _ (record { ra = omega arith; rca = ac; rb = omega arith; rcb = omega arith; rd = k a })
+    fold-cells low ss h L M c k (suc r) i a ca acc f e ai ac q =
+        by-test (eqb (getD L i 0) 0)
+        (λ t. rw t (fold-cells low ss h L M c k r (suc i) a ca acc f (omega arith) (omega arith) ac q))
+        (λ t. rw t (fold-cells low ss h L M c k r (suc i) (suc i) (getD L i 0) _ _ (omega arith) (omega arith) (c i)
+        (join-cells low ss h acc f q _ (record { ra = omega arith; rca = ac; rb = omega arith; rcb = c i; rd = k a }))))
+
+    rest-fold : (ss : List Point) (L : List Strip) → Rest (rulesOf P) ss L ≡ fold (conv top (below radices)) (T (rulesOf P) ss) (just top 0 0) L
+    unfolding Rest T
+    rest-fold ss L =
+        let S = semiring top (below radices) (sharing radices) in
+        sym (fold-prod S (T (rulesOf P) ss) L (just top 0 0) (S .one-one) ∙ one-prod S (T (rulesOf P) ss) L)
+
+    -- THE VALUE of a state is read off any level that holds the table of the sites that are left
+    pub value-level : (low : List ℕ) (ss : List Point) → Level low ss → (x : State P) → ((j : ℕ) → getD (x .0) j 0 < C + 1) → x .1 < R → ((j : ℕ) → getD (x .2) j 0 < kinds)
+        → getD (foldCells P C R low m 0 0 0 (x .0) (x .2) (startCells P C R)) (x .1) 0 ≡ value P x ss
+    unfolding value startCells strips
+    value-level low ss h x c l k =
+        fold-cells low ss h (x .0) (x .2) c k m 0 0 0 _ (just top 0 0) (omega arith) (omega arith) (omega arith) (λ v lv. build-at R (just top 0 0) v lv) (x .1) l
+        ∙ ap (λ (f : ℕ → ℕ). f (x .1)) (sym (rest-fold ss (stripsFrom P m 0 0 0 (x .0) (x .2))))
+
+    pub value-cells : (ss : List Point) → Coloured C ss → (x : State P) → ((j : ℕ) → getD (x .0) j 0 < C + 1) → x .1 < R → ((j : ℕ) → getD (x .2) j 0 < kinds) → valueCells P C R x ss ≡ value P x ss
+    unfolding valueCells
+    value-cells ss h x c l k = value-level (level P C R ss) ss (level-holds ss h) x c l k
+
+    -- ---- the walk by cells
+
+    abbrev pub Kept : State P → Type 0
+    Kept x = ((j : ℕ) → getD (x .0) j 0 < C + 1) × (x .1 < R) × ((j : ℕ) → getD (x .2) j 0 < kinds)
+
+    pub keeps : (x : State P) (s : Point) (k : ℕ) → s .c < C → Kept x → Kept (next P x s k)
+    unfolding next marked
+    keeps x s k c q = (
+      set-under (x .0) k (suc (s .c)) (C + 1) (omega arith) (q .0),
+      omega (arith, q .1),
+      by-test (eqb (getD (x .0) k 0) 0)
+          (λ e. rw e (set-under (set (x .2) (suc k) 0) _ (turn s k) kinds (turn-low s k) (set-under (x .2) (suc k) 0 kinds (omega (arith, turn-low s k)) (q .2))))
+          (λ e. rw e (set-under (x .2) _ (turn s k) kinds (turn-low s k) (q .2))),
+    )
+
+    pub walk-cells : (ss : List Point) → Coloured C ss → (x : State P) → Kept x → walkBy (labels P) (valueCells P C R) x ss ≡ walkBy (labels P) (value P) x ss
+    unfolding walkBy chooseBy Coloured
+    walk-cells [] h x q = refl
+    walk-cells (s ∷ ss) h x q =
+        let e : chooseBy (labels P) (valueCells P C R) x s ss ≡ chooseBy (labels P) (value P) x s ss =
+        first-cong m _ _ (λ k. ap₂ eqb (ap (plus top _) (value-cells ss (h .1) (next P x s k) (keeps x s k (h .0) q .0) (keeps x s k (h .0) q .1) (keeps x s k (h .0) q .2))) (value-cells (s ∷ ss) h x (q .0) (q .1) (q .2))) in
+        ap₂ (λ (a : ℕ) (l : List ℕ). a ∷ l) e (ap (λ (k : ℕ). walkBy (labels P) (valueCells P C R) (next P x s k) ss) e ∙ walk-cells ss (h .1) _ (keeps x s _ (h .0) q))
+
+    pub answer-cells : (ss : List Point) → Coloured C ss → (x : State P) → Kept x → answerBy (labels P) (valueCells P C R) x ss ≡ answerBy (labels P) (value P) x ss
+    unfolding answerBy
+    answer-cells ss h x q = ap₂ (λ (a : ℕ) (l : List ℕ). cond (ltb a top) (some l) none) (value-cells ss h x (q .0) (q .1) (q .2)) (walk-cells ss h x q)

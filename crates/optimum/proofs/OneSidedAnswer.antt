@@ -1,0 +1,192 @@
+-- WHAT THE CODE SHOWS of a one-sided sheet: with the levels filled and the walk walked, the answer, and the call as document 03
+-- has it. Assumes nothing but that the sheet is accepted and one-sided.
+use mathlib.Core.Path.{_≡_, refl, sym, ap, ap₂, _∙_, subst, subst⁻¹}
+use mathlib.Core.Logic.{_⊎_, inl, inr, _↔_}
+use mathlib.Core.Bool.{Bool, true, false, cond, _&&_, _||_, not}
+use mathlib.Core.List.{List, [], _∷_, _++_}
+use Prim.Native.Nat.{ℕ, zero, suc, _+_, _-_, _*_, _/_, _%_, _≤_, _<_, min}
+use native.Mathlib.Omega.{arith}
+use lib.Dec.{eqb, leb, ltb}
+use lib.ListN.{length, getD, set, replicate, length-set, length-replicate}
+use borrow.Author.Tests.{leb-true, leb-false, ltb-true, ltb-false, le-leb, lt-leb, lt-ltb, le-ltb, eqb-true, eqb-false, eq-eqb, ne-eqb}
+use Rattle.lists.proofs.Tests.{by-test, by-order, by-equal, by-either, and-both, and-of, clash, tests}
+use mathlib.Core.Option.{Option, none, some}
+use lib.ListN.{drop}
+use native.Mathlib.Nat.{pow-suc, pow-zero}
+use Prim.Native.Nat.{_^_}
+use Rattle.search.specs.Plan.{T, Rest, Rest-one}
+use Rattle.search.specs.Walk.{answerBy, walkBy}
+use Rattle.sheet.specs.Sheet.{all, Site, Colour, Sheet, sheetIn, sheetFault, productOf, workFor}
+use Rattle.labelling.specs.Layout.{countOf, lengthOf, layoutWords, best, answer, answerBy as wordsBy, answerOf}
+use Rattle.labelling.specs.Promise.{takesSheet}
+use Rattle.lists.proofs.Tests.{is-false}
+use Rattle.labelling.specs.Layout.{isUsed}
+use Rattle.labelling.proofs.Members.{noSite, all-at, used-head, used-tail}
+use Rattle.sheet.proofs.Accepted.{Sound, sound}
+use Rattle.labelling.proofs.More.{colourLow, sites-coloured}
+use Rattle.labelling.proofs.Words.{count-low, length-low}
+use Rattle.labelling.proofs.Maker.{First, best-some-iff, best-none-iff, Result, made, unmade, cleared}
+use Rattle.optimum.specs.Strips.{Point, Strip, Instance, rulesOf, stripsFrom, strips, labels, value, walked}
+use Rattle.optimum.proofs.StripsHeld.{laws, walked-first, walked-none, walked-cost}
+use Rattle.optimum.proofs.Pairs.{zeros}
+use Rattle.optimum.proofs.Budget.{product-pos}
+use Rattle.optimum.specs.OneSided.{turnOf, wordOf, topWord, instanceOf, order, pointAt, pointsAt, tiesOf, oneSided}
+use Rattle.optimum.proofs.Order.{Ordered, ordered}
+use Rattle.optimum.proofs.Instance.{good, positive, product-is}
+use Rattle.optimum.proofs.Join.{fullBudget, putBack, found-long, found-first, found-cost, one-sided-best, costs}
+use Rattle.optimum.specs.Cells.{cells, cellOf, level, valueCells, oneSidedCells}
+use Rattle.optimum.proofs.Levels.{InRange, Level, Coloured, level-holds, value-cells, Kept, walk-cells, answer-cells}
+
+-- count and length of a packed cost
+unfoldable pub countIn : Sheet → ℕ → ℕ
+countIn s w = cond (s .isShortest) (w % 64) (w / 33554432)
+
+unfoldable pub lengthIn : Sheet → ℕ → ℕ
+lengthIn s w = cond (s .isShortest) (w / 64) (w % 33554432)
+
+pub count-word : (s : Sheet) (c l : ℕ) → c < 64 → l < 33554432 → countIn s (wordOf s c l) ≡ c
+unfolding countIn wordOf
+count-word s c l h k = go (s .isShortest)
+  where
+    go : (b : Bool) → cond b (cond b (l * 64 + c) (c * 33554432 + l) % 64) (cond b (l * 64 + c) (c * 33554432 + l) / 33554432) ≡ c
+    go true = omega arith
+    go false = omega arith
+
+pub length-word : (s : Sheet) (c l : ℕ) → c < 64 → l < 33554432 → lengthIn s (wordOf s c l) ≡ l
+unfolding lengthIn wordOf
+length-word s c l h k = go (s .isShortest)
+  where
+    go : (b : Bool) → cond b (cond b (l * 64 + c) (c * 33554432 + l) / 64) (cond b (l * 64 + c) (c * 33554432 + l) % 33554432) ≡ l
+    go true = omega arith
+    go false = omega arith
+
+turn-low : (s : Sheet) (t : Point) (k : ℕ) → turnOf s t k < 1
+unfolding turnOf
+turn-low s t k = omega arith
+
+-- the whole sheet: the strip between the edges
+abbrev pub wholeStrip : Sheet → Strip
+wholeStrip s = record { a = 0; ca = 0; b = suc (length (s .slots)); cb = 0; d = 0 }
+
+-- the cell that has the least cost of the sheet
+unfoldable pub firstCell : Sheet → ℕ
+firstCell s =
+    getD (level (instanceOf s) (length (s .colours)) (productOf (s .colours)) (pointsAt s (order s)))
+    (cellOf (instanceOf s) (length (s .colours)) (productOf (s .colours)) (wholeStrip s) (fullBudget s)) 0
+
+-- the slots by rising x that the walk finds
+unfoldable pub slotsWalked : Sheet → List ℕ
+slotsWalked s =
+    walkBy (labels (instanceOf s)) (valueCells (instanceOf s) (length (s .colours)) (productOf (s .colours))) (replicate (length (s .slots)) 0, fullBudget s, replicate (suc (length (s .slots))) 0) (pointsAt s (order s))
+
+-- the same in sheet order
+abbrev pub tiesWalked : Sheet → List ℕ
+tiesWalked s = putBack s (slotsWalked s)
+
+-- the empty sheet has one strip
+empty-strips : (P : Instance) (L M : List ℕ) → ((j : ℕ) → getD L j 0 ≡ 0) → getD M 0 0 ≡ 0 → (r i : ℕ) → stripsFrom P r i 0 0 L M ≡ record { a = 0; ca = 0; b = suc (r + i); cb = 0; d = 0 } ∷ []
+unfolding stripsFrom
+empty-strips P L M h g zero i = rw g (ap (λ (b : ℕ). record { a = 0; ca = 0; b = suc b; cb = 0; d = 0 } ∷ []) (omega arith))
+empty-strips P L M h g (suc r) i =
+    rw (eq-eqb (getD L i 0) 0 (h i)) (empty-strips P L M h g r (suc i) ∙ ap (λ (b : ℕ). record { a = 0; ca = 0; b = suc b; cb = 0; d = 0 } ∷ []) (omega arith))
+
+coloured-at : (s : Sheet) (c : ℕ) → ((i : ℕ) → i < length (s .sites) → (getD (s .sites) i noSite) .colour < c) → (is : List ℕ) → ((i : ℕ) → isUsed i is ≡ true → i < length (s .sites)) → Coloured c (pointsAt s is)
+unfolding Coloured pointsAt
+coloured-at s c h [] f = tt
+coloured-at s c h (i ∷ is) f = (h i (f i (used-head i is)), coloured-at s c h is (λ j u. f j (used-tail j i is u)))
+
+module _ (s : Sheet) (o : Sound s) (one : s .isTwoSided ≡ false) (low : all (colourLow (length (s .colours))) (s .sites) ≡ true) where
+  coloured : Coloured (length (s .colours)) (pointsAt s (order s))
+  coloured =
+      coloured-at s (length (s .colours)) (λ i h. ltb-true _ _ (all-at (colourLow (length (s .colours))) noSite (s .sites) low i h)) (order s) (λ i u. ordered s o .low i u .0)
+
+  full-low : fullBudget s < productOf (s .colours)
+  full-low = rw (product-is (s .colours)) (omega (arith, product-pos _ (positive (s .colours))))
+
+  start-kept : Kept (instanceOf s) (length (s .colours)) (productOf (s .colours)) (good s o .rising) (turn-low s) (replicate (length (s .slots)) 0, fullBudget s, replicate (suc (length (s .slots))) 0)
+  start-kept = (λ j. omega (arith, zeros (length (s .slots)) j), full-low, λ j. omega (arith, zeros (suc (length (s .slots))) j))
+
+  -- THE BEST, by cells
+  pub one-sided-cells : best s ≡ oneSidedCells s
+  unfolding oneSidedCells
+  one-sided-cells =
+      one-sided-best s o one
+      ∙ (unfold oneSided walked in ap (tiesOf s) (sym (answer-cells (instanceOf s) (length (s .colours)) (productOf (s .colours)) (good s o .rising) (turn-low s) (pointsAt s (order s)) coloured _ start-kept)))
+
+  -- the first cell is the value of the empty sheet
+  cell-value : firstCell s ≡ value (instanceOf s) (replicate (length (s .slots)) 0, fullBudget s, replicate (suc (length (s .slots))) 0) (pointsAt s (order s))
+  unfolding firstCell value strips
+  cell-value =
+      level-holds (instanceOf s) (length (s .colours)) (productOf (s .colours)) (good s o .rising) (turn-low s) (pointsAt s (order s)) coloured (wholeStrip s) (fullBudget s)
+      (record { ra = omega arith; rca = omega arith; rb = omega arith; rcb = omega arith; rd = omega arith }) full-low
+      ∙ sym (Rest-one (rulesOf (instanceOf s)) (laws (instanceOf s) (good s o .rising)) (pointsAt s (order s)) (wholeStrip s) (fullBudget s))
+      ∙ ap (λ (L : List Strip). Rest (rulesOf (instanceOf s)) (pointsAt s (order s)) L (fullBudget s))
+      (sym (empty-strips (instanceOf s) (replicate (length (s .slots)) 0) (replicate (suc (length (s .slots))) 0) (zeros (length (s .slots))) refl (length (s .slots)) 0
+      ∙ ap (λ (b : ℕ). record { a = 0; ca = 0; b = suc b; cb = 0; d = 0 } ∷ []) (omega arith)))
+
+  walked-some : firstCell s < topWord → walked (instanceOf s) (fullBudget s) (pointsAt s (order s)) ≡ some (slotsWalked s)
+  unfolding walked answerBy slotsWalked
+  walked-some h =
+      let v : value (instanceOf s) (replicate (length (s .slots)) 0, fullBudget s, replicate (suc (length (s .slots))) 0) (pointsAt s (order s)) < topWord = omega (arith, cell-value) in
+      rw (lt-ltb _ topWord v)
+      (ap some (sym (walk-cells (instanceOf s) (length (s .colours)) (productOf (s .colours)) (good s o .rising) (turn-low s) (pointsAt s (order s)) coloured _ start-kept)))
+
+  walked-nothing : topWord ≤ firstCell s → walked (instanceOf s) (fullBudget s) (pointsAt s (order s)) ≡ none
+  unfolding walked answerBy
+  walked-nothing h =
+      let v : topWord ≤ value (instanceOf s) (replicate (length (s .slots)) 0, fullBudget s, replicate (suc (length (s .slots))) 0) (pointsAt s (order s)) = omega (arith, cell-value) in
+      rw (le-ltb _ topWord v)
+
+  -- A LAYOUT: where the first cell is below the sentinel, the walk's ties are first, and the cell has their count and length
+  pub walk-first : firstCell s < topWord → First s (tiesWalked s)
+  walk-first h = found-first s o one (slotsWalked s) (walked-first (instanceOf s) (good s o .rising) (fullBudget s) (pointsAt s (order s)) (slotsWalked s) (walked-some h))
+
+  pub walk-long : firstCell s < topWord → length (slotsWalked s) ≡ length (s .sites)
+  walk-long h = found-long s o one (slotsWalked s) (walked-first (instanceOf s) (good s o .rising) (fullBudget s) (pointsAt s (order s)) (slotsWalked s) (walked-some h))
+
+  cell-word : firstCell s < topWord → firstCell s ≡ wordOf s (countOf s (tiesWalked s)) (lengthOf s (tiesWalked s))
+  cell-word h =
+      let w = walked-cost (instanceOf s) (good s o .rising) (fullBudget s) (pointsAt s (order s)) (slotsWalked s) (walked-some h) in
+      cell-value ∙ sym (w .0)
+      ∙ found-cost s o one (slotsWalked s) (walked-first (instanceOf s) (good s o .rising) (fullBudget s) (pointsAt s (order s)) (slotsWalked s) (walked-some h))
+
+  pub walk-count : firstCell s < topWord → countIn s (firstCell s) ≡ countOf s (tiesWalked s)
+  walk-count h = ap (countIn s) (cell-word h) ∙ count-word s _ _ (omega (arith, count-low s o (tiesWalked s))) (omega (arith, length-low s o (tiesWalked s)))
+
+  pub walk-length : firstCell s < topWord → lengthIn s (firstCell s) ≡ lengthOf s (tiesWalked s)
+  walk-length h = ap (lengthIn s) (cell-word h) ∙ length-word s _ _ (omega (arith, count-low s o (tiesWalked s))) (omega (arith, length-low s o (tiesWalked s)))
+
+  pub walk-best : firstCell s < topWord → best s ≡ some (tiesWalked s)
+  walk-best h = best-some-iff s o (tiesWalked s) .1 (walk-first h)
+
+  pub walk-answer : firstCell s < topWord → answer s ≡ layoutWords (countIn s (firstCell s)) (lengthIn s (firstCell s)) (tiesWalked s)
+  walk-answer h = ap (wordsBy s) (walk-best h) ∙ ap₂ (λ (c l : ℕ). layoutWords c l (tiesWalked s)) (sym (walk-count h)) (sym (walk-length h))
+
+  -- NONE: where it is the sentinel, there is none
+  pub walk-none : topWord ≤ firstCell s → best s ≡ none
+  walk-none h = one-sided-best s o one ∙ (unfold oneSided in ap (tiesOf s) (walked-nothing h))
+
+-- the work words needed are the cells of all levels
+pub work-cells : (s : Sheet) → s .isTwoSided ≡ false → workFor s ≡ (length (s .sites) + 1) * cells (instanceOf s) (length (s .colours)) (productOf (s .colours))
+work-cells s one =
+    ap (λ (b : Bool). cond b ((length (s .slots) + 2) * (length (s .colours) + 1) * productOf (s .colours))
+    ((length (s .slots) + 2) ^ 2 * (length (s .colours) + 1) ^ 2 * (length (s .sites) + 1) * productOf (s .colours))) one
+    ∙ squares (length (s .slots) + 2) (length (s .colours) + 1) (length (s .sites) + 1) (productOf (s .colours))
+  where
+    squares : (a b n r : ℕ) → a ^ 2 * b ^ 2 * n * r ≡ n * (a * b * a * b * 1 * r)
+    squares a b n r = rw (pow-suc a 1, pow-suc a 0, pow-zero a, pow-suc b 1, pow-suc b 0, pow-zero b) (omega arith)
+
+-- ---- THE CALL on a one-sided sheet, whatever the areas held
+module _ (ws k out : List ℕ) (t : takesSheet ws k out) (one : sheetIn ws .isTwoSided ≡ false) where
+  pub call-made : firstCell (sheetIn ws) < topWord →
+      Result ws k out 0 (layoutWords (countIn (sheetIn ws) (firstCell (sheetIn ws))) (lengthIn (sheetIn ws) (firstCell (sheetIn ws))) (tiesWalked (sheetIn ws))
+      ++ drop (length (sheetIn ws .sites) + 1) out) (cleared ws k)
+  call-made h =
+      let s = sheetIn ws in
+      let o = sound ws (t .1) in
+      let c = sites-coloured ws (t .1) in
+      subst (λ (a : List ℕ). Result ws k out 0 (a ++ drop (length (s .sites) + 1) out) (cleared ws k))
+      (ap₂ (λ (c l : ℕ). layoutWords c l (tiesWalked s)) (sym (walk-count s o one c h)) (sym (walk-length s o one c h))) (made ws k out _ t (walk-first s o one c h))
+
+  pub call-unmade : topWord ≤ firstCell (sheetIn ws) → Result ws k out 10 out (cleared ws k)
+  call-unmade h = unmade ws k out t (best-none-iff (sheetIn ws) .0 (walk-none (sheetIn ws) (sound ws (t .1)) one (sites-coloured ws (t .1)) h))

@@ -1,0 +1,37 @@
+-- The starred examples of document 01 by the walk: computed. Assumes nothing.
+use mathlib.Core.Path.{_≡_, refl}
+use mathlib.Core.List.{List, [], _∷_}
+use mathlib.Core.Option.{Option, none, some}
+use Prim.Native.Nat.{ℕ}
+use Rattle.search.specs.Cost.{plus, least, first}
+use Rattle.search.specs.Semi.{sum, prod}
+use Rattle.search.specs.Share.{conv, cheaper, never, just}
+use Rattle.search.specs.Strips.{table, rest}
+use Rattle.search.specs.Radix.{below, place}
+use Rattle.search.specs.Plan.{weight, T, Rest}
+use Rattle.search.specs.Walk.{chooseBy, walkBy, answerBy}
+use Rattle.sheet.specs.Sheet.{all, rankOf, sheetIn, slotsIn, coloursIn, sitesRun, sitesIn, productOf}
+use Rattle.labelling.specs.Promise.{sheetA, a, boundZero}
+use Rattle.optimum.specs.Strips.{marked, over, under, inside, farFrom, clearFrom, opens, joinsUp, joinsDown, cost, draw, children, stripsFrom, strips, holdFrom, hold, price, next, value, walked}
+use Rattle.optimum.specs.Cells.{build, cellOf, stripAt, shareAt, shareCells, stepCell, entryOf, level, joinCells, foldCells, startCells, valueCells, oneSidedCells}
+use Rattle.labelling.specs.Layout.{siteShare}
+use Rattle.optimum.specs.OneSided.{farEnough, clearOf, shareOf, leadOf, mayOpen, tipClear, turnOf, heldOf, radicesOf, drawsOf, wordOf, nextRank, siteOf, orderFrom, order, pointsAt, scatter, oneSided}
+
+pub order-a : order (sheetIn a) ≡ 0 ∷ 2 ∷ 1 ∷ []
+unfolding least first slotsIn coloursIn sitesRun sitesIn productOf nextRank rankOf siteOf orderFrom order
+order-a = refl
+
+pub walk-a : oneSided (sheetIn a) ≡ some (0 ∷ 0 ∷ 2 ∷ [])
+unfolding plus least first sum prod conv cheaper never just table rest below place weight T Rest chooseBy walkBy answerBy slotsIn coloursIn sitesRun sitesIn productOf over under inside farFrom clearFrom opens joinsUp joinsDown cost draw children stripsFrom strips holdFrom hold marked price next value walked farEnough clearOf siteShare shareOf leadOf mayOpen tipClear turnOf heldOf all radicesOf drawsOf wordOf nextRank rankOf siteOf orderFrom order pointsAt scatter oneSided
+walk-a = refl
+
+pub walk-more :
+    (oneSided (sheetIn (sheetA 335577096)) ≡ some (0 ∷ 1 ∷ 2 ∷ [])) × (oneSided (sheetIn (sheetA 268484616)) ≡ some (2 ∷ 2 ∷ 0 ∷ [])) ×
+    (oneSided (sheetIn (sheetA 268501000)) ≡ none) × (oneSided (sheetIn boundZero) ≡ none) × (oneSided (sheetIn (268468232 ∷ [])) ≡ some [])
+unfolding plus least first sum prod conv cheaper never just table rest below place weight T Rest chooseBy walkBy answerBy slotsIn coloursIn sitesRun sitesIn productOf over under inside farFrom clearFrom opens joinsUp joinsDown cost draw children stripsFrom strips holdFrom hold marked price next value walked farEnough clearOf siteShare shareOf leadOf mayOpen tipClear turnOf heldOf all radicesOf drawsOf wordOf nextRank rankOf siteOf orderFrom order pointsAt scatter oneSided
+walk-more = (refl, refl, refl, refl, refl)
+
+-- and by cells
+pub cells-a : oneSidedCells (sheetIn a) ≡ some (0 ∷ 0 ∷ 2 ∷ [])
+unfolding plus least first just below place chooseBy walkBy answerBy slotsIn coloursIn sitesRun sitesIn productOf over under inside farFrom clearFrom opens joinsUp joinsDown cost draw holdFrom hold marked price next farEnough clearOf siteShare shareOf leadOf mayOpen tipClear turnOf heldOf all radicesOf drawsOf wordOf nextRank rankOf siteOf orderFrom order pointsAt scatter build cellOf stripAt shareAt shareCells stepCell entryOf level joinCells foldCells startCells valueCells oneSidedCells
+cells-a = refl

@@ -1,0 +1,87 @@
+-- Sums over the slots 0 .. n-1; the sum over the sites that open a label, slot by slot. Assumes nothing.
+use mathlib.Core.Path.{_≡_, refl, sym, ap, ap₂, _∙_, subst, subst⁻¹}
+use mathlib.Core.Logic.{_⊎_, inl, inr, _↔_}
+use mathlib.Core.Bool.{Bool, true, false, cond, _&&_, _||_, not}
+use mathlib.Core.List.{List, [], _∷_, _++_}
+use Prim.Native.Nat.{ℕ, zero, suc, _+_, _-_, _*_, _/_, _%_, _≤_, _<_, min}
+use native.Mathlib.Omega.{arith}
+use lib.Dec.{eqb, leb, ltb}
+use lib.ListN.{length, getD, set, replicate, length-set, length-replicate}
+use borrow.Author.Tests.{leb-true, leb-false, ltb-true, ltb-false, le-leb, lt-leb, lt-ltb, le-ltb, eqb-true, eqb-false, eq-eqb, ne-eqb}
+use Rattle.lists.proofs.Tests.{by-test, by-order, by-equal, by-either, and-both, and-of, clash, tests}
+use Rattle.optimum.specs.Strips.{Point, Instance}
+use Rattle.optimum.proofs.StripsHeld.{set-same, set-other}
+use Rattle.optimum.proofs.Near.{Step}
+use Rattle.optimum.proofs.Steps.{Steps, isFree, opened}
+
+unfoldable pub sum : ℕ → (ℕ → ℕ) → ℕ
+sum zero f = 0
+sum (suc n) f = sum n f + f n
+
+pub sum-cong : (n : ℕ) (f g : ℕ → ℕ) → ((k : ℕ) → k < n → f k ≡ g k) → sum n f ≡ sum n g
+unfolding sum
+sum-cong zero f g h = refl
+sum-cong (suc n) f g h = ap₂ _+_ (sum-cong n f g (λ k l. h k (omega arith))) (h n (omega arith))
+
+pub sum-add : (n : ℕ) (f g : ℕ → ℕ) → sum n (λ k. f k + g k) ≡ sum n f + sum n g
+unfolding sum
+sum-add zero f g = omega arith
+sum-add (suc n) f g = omega (arith, sum-add n f g)
+
+pub sum-zero : (n : ℕ) → sum n (λ k. 0) ≡ 0
+unfolding sum
+sum-zero zero = refl
+sum-zero (suc n) = omega (arith, sum-zero n)
+
+sum-none : (n j a : ℕ) → n ≤ j → sum n (λ k. cond (eqb k j) a 0) ≡ 0
+unfolding sum
+sum-none zero j a h = refl
+sum-none (suc n) j a h = rw (ne-eqb n j (λ (e : n ≡ j). omega arith)) (omega (arith, sum-none n j a (omega arith)))
+
+pub sum-point : (n j a : ℕ) → j < n → sum n (λ k. cond (eqb k j) a 0) ≡ a
+unfolding sum
+sum-point zero j a h = absurd (omega arith)
+sum-point (suc n) j a h =
+    by-equal n j
+    (λ e. rw (eq-eqb n j e) (omega (arith, sum-none n j a (omega arith))))
+    (λ e. rw (ne-eqb n j e) (omega (arith, sum-point n j a (omega arith))))
+
+-- g of the first site at slot k
+unfoldable pub firstOf : (Point → ℕ) → ℕ → List Point → List ℕ → ℕ
+firstOf g k [] ks = 0
+firstOf g k (s ∷ ss) [] = 0
+firstOf g k (s ∷ ss) (j ∷ ks) = cond (eqb j k) (g s) (firstOf g k ss ks)
+
+module _ (P : Instance) where
+  open Instance P using (m)
+
+  pub free-same : (L : List ℕ) (k c : ℕ) → k < length L → isFree P (set L k (suc c)) k ≡ false
+  unfolding isFree
+  free-same L k c h = rw (set-same L k (suc c) h) (ne-eqb (suc c) 0 (λ (e : suc c ≡ 0). omega arith))
+
+  pub free-other : (L : List ℕ) (k c j : ℕ) → (j ≡ k → ⊥) → isFree P (set L k c) j ≡ isFree P L j
+  unfolding isFree
+  free-other L k c j n = rw (set-other L k c j n)
+
+  -- THE SITES THAT OPEN A LABEL, slot by slot: the first at each slot
+  pub opened-sum : (g : Point → ℕ) (ss : List Point) (ks : List ℕ) (L : List ℕ) → length L ≡ m → Steps P L ss ks
+      → opened P g L ss ks ≡ sum m (λ k. cond (isFree P L k) (firstOf g k ss ks) 0)
+  unfolding opened Steps firstOf
+  opened-sum g [] [] L l h = sym (sum-cong m _ (λ k. 0) (λ k _. by-test (isFree P L k) (λ e. rw e) (λ e. rw e)) ∙ sum-zero m)
+  opened-sum g [] (k ∷ ks) L l h = absurd h
+  opened-sum g (s ∷ ss) [] L l h = absurd h
+  opened-sum g (s ∷ ss) (j ∷ ks) L l h =
+      let K = set L j (suc (s .c)) in
+      let u = h .0 .slot in
+      let a = cond (isFree P L j) (g s) 0 in
+      let ih = opened-sum g ss ks K (length-set L j (suc (s .c)) ∙ l) (h .1) in
+      ap₂ _+_ (sym (sum-point m j a u)) ih
+      ∙ sym (sum-add m (λ k. cond (eqb k j) a 0) (λ k. cond (isFree P K k) (firstOf g k ss ks) 0))
+      ∙ sum-cong m _ _ (λ k _. at k)
+    where
+      at : (k : ℕ) → cond (eqb k j) (cond (isFree P L j) (g s) 0) 0 + cond (isFree P (set L j (suc (s .c))) k) (firstOf g k ss ks) 0
+          ≡ cond (isFree P L k) (cond (eqb j k) (g s) (firstOf g k ss ks)) 0
+      at k =
+          by-equal k j
+          (λ e. rw (e, eq-eqb j j refl, free-same L j (s .c) (omega (arith, h .0 .slot))) (omega arith))
+          (λ n. rw (ne-eqb k j n, ne-eqb j k (λ (e : j ≡ k). n (sym e)), free-other L j (suc (s .c)) k n) (omega arith))

@@ -1,0 +1,84 @@
+-- THE TABLE AS WORDS, as code is to fill and read it: one level of cells for each number of sites that are left, a cell for each
+-- strip and share; the sharing over the open labels in a list of R numbers; the walk by these. Assumes nothing: definitions.
+use mathlib.Core.Bool.{Bool, true, false, cond, _&&_, _||_}
+use mathlib.Core.Option.{Option, none, some}
+use mathlib.Core.List.{List, [], _∷_}
+use Prim.Native.Nat.{ℕ, zero, suc, _+_, _-_, _*_, _/_, _%_}
+use lib.Dec.{eqb, leb, ltb}
+use lib.ListN.{length, getD, replicate}
+use Rattle.search.specs.Cost.{plus, least}
+use Rattle.search.specs.Radix.{below}
+use Rattle.search.specs.Share.{just}
+use Rattle.search.specs.Walk.{answerBy}
+use Rattle.sheet.specs.Sheet.{Sheet, productOf}
+use Rattle.optimum.specs.Strips.{Point, Strip, Instance, inside, opens, joinsUp, joinsDown, State, labels}
+use Rattle.optimum.specs.OneSided.{instanceOf, order, pointsAt, tiesOf}
+
+-- f 0, f 1, .. f (n - 1)
+unfoldable pub build : ℕ → (ℕ → ℕ) → List ℕ
+build zero f = []
+build (suc n) f = f 0 ∷ build n (λ k. f (suc k))
+
+-- C colours, and budgets below R
+module _ (P : Instance) (C R : ℕ) where
+  open Instance P using (m, top, kinds, turn, share, lead, drawOf, radices, word)
+
+  -- how many cells a level has; the cell of a strip and a share; the strip and the share of a cell
+  abbrev pub cells : ℕ
+  cells = (m + 2) * (C + 1) * (m + 2) * (C + 1) * kinds * R
+
+  unfoldable pub cellOf : Strip → ℕ → ℕ
+  cellOf p v = ((((p .a * (C + 1) + p .ca) * (m + 2) + p .b) * (C + 1) + p .cb) * kinds + p .d) * R + v
+
+  unfoldable pub stripAt : ℕ → Strip
+  stripAt i = record { a = i / R / kinds / (C + 1) / (m + 2) / (C + 1); ca = i / R / kinds / (C + 1) / (m + 2) % (C + 1); b = i / R / kinds / (C + 1) % (m + 2); cb = i / R / kinds % (C + 1); d = i / R % kinds }
+
+  unfoldable pub shareAt : ℕ → ℕ
+  shareAt i = i % R
+
+  -- what two strips cost that share the budget u, by the level below
+  unfoldable pub shareCells : (low : List ℕ) → Strip → Strip → ℕ → ℕ
+  shareCells low p q u =
+      least top (suc u) (λ w. cond (below radices w u) (plus top (getD low (cellOf p w) 0) (getD low (cellOf q (u - w)) 0)) top)
+
+  -- the cost of tying the site s to slot k in the strip p, and the rest, with the budget v
+  unfoldable pub stepCell : (low : List ℕ) → Strip → Point → ℕ → ℕ → ℕ
+  stepCell low p s k v =
+      cond (opens P p s k)
+      (cond (below radices (drawOf (s .c)) v)
+      (plus top (word 1 (lead (s .x) + share k (s .y)))
+      (shareCells low (record { a = p .a; ca = p .ca; b = suc k; cb = suc (s .c); d = turn s k }) (record { a = suc k; ca = suc (s .c); b = p .b; cb = p .cb; d = 0 }) (v - drawOf (s .c)))) top)
+      (cond (joinsUp P p s k || joinsDown P p s k) (plus top (word 0 (share k (s .y))) (getD low (cellOf (record { a = p .a; ca = p .ca; b = p .b; cb = p .cb; d = turn s k }) v) 0)) top)
+
+  -- cell i of the level that has the site s more than the level low
+  unfoldable pub entryOf : (low : List ℕ) → Point → ℕ → ℕ
+  entryOf low s i = cond (inside P (stripAt i) s) (least top m (λ k. stepCell low (stripAt i) s k (shareAt i))) (getD low i 0)
+
+  -- the levels, the one for no sites first
+  unfoldable pub level : List Point → List ℕ
+  level [] = replicate cells 0
+  level (s ∷ ss) = build cells (entryOf (level ss) s)
+
+  -- one strip more takes its share, at each budget below R
+  unfoldable pub joinCells : (low : List ℕ) → (acc : List ℕ) → Strip → List ℕ
+  joinCells low acc p = build R (λ v. least top (suc v) (λ w. cond (below radices w v) (plus top (getD acc w 0) (getD low (cellOf p (v - w)) 0)) top))
+
+  -- all strips of the open labels L, from slot i on; r slots are left, and a is the last label passed
+  unfoldable pub foldCells : (low : List ℕ) → ℕ → ℕ → ℕ → ℕ → (labels marks acc : List ℕ) → List ℕ
+  foldCells low zero i a ca L M acc = joinCells low acc (record { a = a; ca = ca; b = suc i; cb = 0; d = getD M a 0 })
+  foldCells low (suc r) i a ca L M acc =
+      cond (eqb (getD L i 0) 0) (foldCells low r (suc i) a ca L M acc)
+      (foldCells low r (suc i) (suc i) (getD L i 0) L M (joinCells low acc (record { a = a; ca = ca; b = suc i; cb = getD L i 0; d = getD M a 0 })))
+
+  unfoldable pub startCells : List ℕ
+  startCells = build R (just top 0 0)
+
+  -- the least cost of tying the sites ss from a state, by their level
+  unfoldable pub valueCells : State P → List Point → ℕ
+  valueCells x ss = getD (foldCells (level ss) m 0 0 0 (x .0) (x .2) startCells) (x .1) 0
+
+-- THE ANSWER by cells
+unfoldable pub oneSidedCells : Sheet → Option (List ℕ)
+oneSidedCells s =
+    tiesOf s (answerBy (labels (instanceOf s)) (valueCells (instanceOf s) (length (s .colours)) (productOf (s .colours)))
+    (replicate (length (s .slots)) 0, productOf (s .colours) - 1, replicate (suc (length (s .slots))) 0) (pointsAt s (order s)))

@@ -1,0 +1,6 @@
+pub mod Strips
+pub mod OneSided
+pub mod Cells
+pub mod UsedSlots
+pub mod TwoSided
+pub mod Sums

@@ -1,0 +1,130 @@
+-- THE ONE-SIDED ANSWER, as code is to find it: the sheet as a sheet, the sites by rising x, the walk over the table, and the
+-- slots put back in sheet order. Assumes nothing: these are definitions.
+use mathlib.Core.Bool.{Bool, true, false, cond, not, _&&_, _||_}
+use mathlib.Core.List.{List, [], _∷_}
+use mathlib.Core.Option.{Option, none, some}
+use Prim.Native.Nat.{ℕ, zero, suc, _+_, _-_, _*_, max}
+use lib.Dec.{eqb, leb, ltb}
+use lib.ListN.{length, getD, set, replicate}
+use Rattle.search.specs.Cost.{least, first}
+use Rattle.search.specs.Radix.{place}
+use Rattle.sheet.specs.Sheet.{all, Site, Colour, rankTop, Sheet, productOf}
+use Rattle.labelling.specs.Layout.{apart, heightOf, siteShare}
+use Rattle.labelling.proofs.Members.{noSite}
+use Rattle.labelling.proofs.Earlier.{rankAt}
+use Rattle.optimum.specs.Strips.{Point, Strip, Instance, walked}
+
+-- ---- what document 02 touches, one definition each
+
+-- two labels, by slot and colour + 1, are far enough apart
+unfoldable pub farEnough : Sheet → (j c k d : ℕ) → Bool
+farEnough s j c k d = leb (s .gap) (apart (heightOf s j) (heightOf s k))
+
+-- the label at slot k is clear of a site of height y
+unfoldable pub clearOf : Sheet → (k y : ℕ) → Bool
+clearOf s k y = leb (s .gap) (apart (heightOf s k) y)
+
+-- a site's share of the length, by its slot and height
+unfoldable pub shareOf : Sheet → (k y : ℕ) → ℕ
+shareOf s k y = siteShare s (heightOf s k) y
+
+-- the length of the backbone that a site at x opens
+unfoldable pub leadOf : Sheet → (x : ℕ) → ℕ
+leadOf s x = s .width - x
+
+-- a colour's bound; 255 is none
+abbrev pub boundOf : Sheet → (colour : ℕ) → ℕ
+boundOf s c = (getD (s .colours) c (record { bound = 255; sites = 0 })) .bound
+
+-- a label may be opened at slot k by this site
+unfoldable pub mayOpen : Sheet → Point → (k : ℕ) → Bool
+mayOpen s t k = not (eqb (boundOf s (t .c)) 0)
+
+-- what else is asked of a label that this site opens at slot k; of a step by its strip's mark; the mark that a site leaves
+unfoldable pub tipClear : Sheet → Point → (k : ℕ) → Bool
+tipClear s t k = true
+
+unfoldable pub turnOf : Sheet → Point → (k : ℕ) → ℕ
+turnOf s t k = 0
+
+unfoldable pub heldOf : Sheet → Strip → Point → Bool
+heldOf s p t = false
+
+-- ---- the budget: a digit for each colour, of radix bound + 1, or 1 if it has no bound
+
+unfoldable pub radicesOf : List Colour → List ℕ
+radicesOf [] = []
+radicesOf (k ∷ ks) = cond (eqb (k .bound) 255) 1 (k .bound + 1) ∷ radicesOf ks
+
+-- what a label of the colour draws
+unfoldable pub drawsOf : Sheet → (colour : ℕ) → ℕ
+drawsOf s c = cond (eqb (boundOf s c) 255) 0 (place (radicesOf (s .colours)) c)
+
+-- ---- costs in one word
+
+abbrev pub topWord : ℕ
+topWord = 4294967295
+
+unfoldable pub wordOf : Sheet → (count size : ℕ) → ℕ
+wordOf s c l = cond (s .isShortest) (l * 64 + c) (c * 33554432 + l)
+
+abbrev pub instanceOf : Sheet → Instance
+instanceOf s =
+    record {
+      m = length (s .slots);
+      top = topWord;
+      height = heightOf s;
+      far = farEnough s;
+      clear = clearOf s;
+      share = shareOf s;
+      lead = leadOf s;
+      may = mayOpen s;
+      tip = tipClear s;
+      kinds = 1;
+      turn = turnOf s;
+      held = heldOf s;
+      drawOf = drawsOf s;
+      radices = radicesOf (s .colours);
+      word = wordOf s;
+    }
+
+-- ---- the sites by rising x
+
+abbrev pub xOf : Sheet → ℕ → ℕ
+xOf s i = (getD (s .sites) i noSite) .x
+
+-- the least rank from a on, and the site that has it
+unfoldable pub nextRank : Sheet → (from : ℕ) → ℕ
+nextRank s a = least rankTop (length (s .sites)) (λ i. cond (leb a (rankAt s i)) (rankAt s i) rankTop)
+
+unfoldable pub siteOf : Sheet → (rank : ℕ) → ℕ
+siteOf s x = first (length (s .sites)) (λ i. eqb (rankAt s i) x)
+
+unfoldable pub orderFrom : Sheet → (count from : ℕ) → List ℕ
+orderFrom s zero a = []
+orderFrom s (suc n) a = siteOf s (nextRank s a) ∷ orderFrom s n (suc (nextRank s a))
+
+unfoldable pub order : Sheet → List ℕ
+order s = orderFrom s (length (s .sites)) 0
+
+abbrev pub pointAt : Sheet → ℕ → Point
+pointAt s i = record { x = (getD (s .sites) i noSite) .x; y = (getD (s .sites) i noSite) .y; c = (getD (s .sites) i noSite) .colour }
+
+unfoldable pub pointsAt : Sheet → List ℕ → List Point
+pointsAt s [] = []
+pointsAt s (i ∷ is) = pointAt s i ∷ pointsAt s is
+
+-- ---- back to sheet order: each slot of ks to the place that the order names
+
+unfoldable pub scatter : (out is ks : List ℕ) → List ℕ
+scatter out [] ks = out
+scatter out (i ∷ is) [] = out
+scatter out (i ∷ is) (k ∷ ks) = scatter (set out i k) is ks
+
+abbrev pub tiesOf : Sheet → Option (List ℕ) → Option (List ℕ)
+tiesOf s none = none
+tiesOf s (some ks) = some (scatter (replicate (length (s .sites)) 0) (order s) ks)
+
+-- THE ANSWER
+unfoldable pub oneSided : Sheet → Option (List ℕ)
+oneSided s = tiesOf s (walked (instanceOf s) (productOf (s .colours) - 1) (pointsAt s (order s)))

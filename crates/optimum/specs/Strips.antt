@@ -1,0 +1,155 @@
+-- THE ONE-SIDED WALK, as code is to follow it: the sheet, its open labels, the strips between them, the table's rules,
+-- and the walk. Assumes nothing: these are definitions.
+use mathlib.Core.Path.{_≡_, refl}
+use mathlib.Core.Bool.{Bool, true, false, cond, not, _&&_, _||_}
+use mathlib.Core.Option.{Option, none, some}
+use mathlib.Core.List.{List, [], _∷_}
+use Prim.Native.Nat.{ℕ, zero, suc, _+_, _-_, _*_, _≤_, _<_}
+use lib.Dec.{eqb, leb, ltb}
+use lib.ListN.{length, getD, set, replicate}
+use Rattle.search.specs.Radix.{below}
+use Rattle.search.specs.Plan.{Rules, Rest}
+use Rattle.search.specs.Walk.{Process, answerBy}
+
+-- a site: x, y and its colour
+pub record Point : Type 0 where
+  pub x : ℕ
+  pub y : ℕ
+  pub c : ℕ
+
+-- a strip: the labels above and below it (0: the page's top edge, k + 1: slot k, m + 1: its bottom edge) and their
+-- colours (0: an edge has none, c + 1: colour c); d is 1 if the last site tied in it went down
+pub record Strip : Type 0 where
+  pub a : ℕ
+  pub ca : ℕ
+  pub b : ℕ
+  pub cb : ℕ
+  pub d : ℕ
+
+-- what is asked of a sheet. The changes of document 02 touch `far` (two labels, by slot and colour + 1, are far enough apart),
+-- `clear` (a label is clear of a site's height), `share` (a site's share of the length, by slot and height), `may` (a label may be
+-- opened here by this site), `tip` (a label opened here by this site is clear of the sites left of its tip) `turn` (the mark that a site leaves in its strip, by its slot; below `kinds`), `held` (by its mark the strip lets the site join only the label below) and `lead` (the length of the backbone that a site at x opens)
+pub record Instance : Type 0 where
+  pub m : ℕ
+  pub top : ℕ
+  pub height : ℕ → ℕ
+  pub far : ℕ → ℕ → ℕ → ℕ → Bool
+  pub clear : ℕ → ℕ → Bool
+  pub share : ℕ → ℕ → ℕ
+  pub lead : ℕ → ℕ
+  pub may : Point → ℕ → Bool
+  pub tip : Point → ℕ → Bool
+  pub kinds : ℕ
+  pub turn : Point → ℕ → ℕ
+  pub held : Strip → Point → Bool
+  pub drawOf : ℕ → ℕ
+  pub radices : List ℕ
+  pub word : ℕ → ℕ → ℕ
+
+module _ (P : Instance) where
+  open Instance P using (m, top, height, far, clear, share, lead, may, tip, kinds, turn, held, drawOf, radices, word)
+
+  -- ---- strips and steps
+
+  -- the edge or label a stands above the height y; b stands below it
+  unfoldable pub over : ℕ → ℕ → Bool
+  over zero y = true
+  over (suc k) y = leb (height k) y
+
+  unfoldable pub under : ℕ → ℕ → Bool
+  under zero y = false
+  under (suc k) y = leb m k || ltb y (height k)
+
+  unfoldable pub inside : Strip → Point → Bool
+  inside p s = over (p .a) (s .y) && under (p .b) (s .y)
+
+  -- the edge, or the label of colour e that bounds a strip, lets a label of colour c be at k; is clear of the height y
+  unfoldable pub farFrom : ℕ → ℕ → ℕ → ℕ → Bool
+  farFrom zero e k c = true
+  farFrom (suc j) e k c = leb m j || far j e k c
+
+  unfoldable pub clearFrom : ℕ → ℕ → Bool
+  clearFrom zero y = true
+  clearFrom (suc j) y = leb m j || clear j y
+
+  -- the site s, which lies in the strip p, may open a label at slot k; may join the label above; the label below
+  unfoldable pub opens : Strip → Point → ℕ → Bool
+  opens p s k =
+      ltb (p .a) (suc k) && ltb (suc k) (p .b) && ltb k m && farFrom (p .a) (p .ca) k (suc (s .c)) && farFrom (p .b) (p .cb) k (suc (s .c))
+      && clearFrom (p .a) (s .y) && clearFrom (p .b) (s .y) && may s k && tip s k && not (held p s)
+
+  unfoldable pub joinsUp : Strip → Point → ℕ → Bool
+  joinsUp p s k = eqb (p .a) (suc k) && eqb (p .ca) (suc (s .c)) && clearFrom (p .b) (s .y) && not (held p s)
+
+  unfoldable pub joinsDown : Strip → Point → ℕ → Bool
+  joinsDown p s k = eqb (p .b) (suc k) && ltb k m && eqb (p .cb) (suc (s .c)) && clearFrom (p .a) (s .y)
+
+  unfoldable pub cost : Strip → Point → ℕ → ℕ
+  cost p s k =
+      cond (opens p s k) (word 1 (lead (s .x) + share k (s .y))) (cond (joinsUp p s k || joinsDown p s k) (word 0 (share k (s .y))) top)
+
+  unfoldable pub draw : Strip → Point → ℕ → ℕ
+  draw p s k = cond (opens p s k) (drawOf (s .c)) 0
+
+  unfoldable pub children : Strip → Point → ℕ → List Strip
+  children p s k =
+      cond (opens p s k)
+      (record { a = p .a; ca = p .ca; b = suc k; cb = suc (s .c); d = turn s k } ∷ record { a = suc k; ca = suc (s .c); b = p .b; cb = p .cb; d = 0 } ∷ [])
+      (record { a = p .a; ca = p .ca; b = p .b; cb = p .cb; d = turn s k } ∷ [])
+
+  -- the table and its sharing: `T (rulesOf P)`, `Rest (rulesOf P)`; their equations are in theory's Plan
+  abbrev pub rulesOf : Rules Strip Point
+  rulesOf = record { top = top; m = m; below = below radices; inside = inside; cost = cost; draw = draw; children = children }
+
+  -- ---- open labels: m numbers, 0 or a colour + 1. Marks: m + 1 numbers, that of the strip below the place a at a
+
+  -- the strips by rising slot, read off from slot i on; r slots are left, and a is the last label passed
+  unfoldable pub stripsFrom : ℕ → ℕ → ℕ → ℕ → (labels marks : List ℕ) → List Strip
+  stripsFrom zero i a ca L M = record { a = a; ca = ca; b = suc i; cb = 0; d = getD M a 0 } ∷ []
+  stripsFrom (suc r) i a ca L M =
+      cond (eqb (getD L i 0) 0) (stripsFrom r (suc i) a ca L M)
+      (record { a = a; ca = ca; b = suc i; cb = getD L i 0; d = getD M a 0 } ∷ stripsFrom r (suc i) (suc i) (getD L i 0) L M)
+
+  unfoldable pub strips : (labels marks : List ℕ) → List Strip
+  unfolding stripsFrom
+  strips L M = stripsFrom m 0 0 0 L M
+
+  -- the strip that holds the height y
+  unfoldable pub holdFrom : ℕ → ℕ → ℕ → ℕ → (labels marks : List ℕ) → ℕ → Strip
+  holdFrom zero i a ca L M y = record { a = a; ca = ca; b = suc i; cb = 0; d = getD M a 0 }
+  holdFrom (suc r) i a ca L M y =
+      cond (eqb (getD L i 0) 0) (holdFrom r (suc i) a ca L M y)
+      (cond (ltb y (height i)) (record { a = a; ca = ca; b = suc i; cb = getD L i 0; d = getD M a 0 }) (holdFrom r (suc i) (suc i) (getD L i 0) L M y))
+
+  unfoldable pub hold : (labels marks : List ℕ) → ℕ → Strip
+  unfolding holdFrom
+  hold L M y = holdFrom m 0 0 0 L M y
+
+  -- the marks after a step
+  unfoldable pub marked : (labels marks : List ℕ) → Point → ℕ → List ℕ
+  marked L M s k =
+      cond (eqb (getD L k 0) 0) (set (set M (suc k) 0) (hold L M (s .y) .a) (turn s k)) (set M (hold L M (s .y) .a) (turn s k))
+
+  -- ---- the walk
+
+  -- the state: open labels, the budget left, marks. What a step costs, top if it is not lawful; and what it leads to
+  abbrev pub State : Type 0
+  State = List ℕ × ℕ × List ℕ
+
+  unfoldable pub price : State → Point → ℕ → ℕ
+  price x s k =
+      cond (below radices (draw (hold (x .0) (x .2) (s .y)) s k) (x .1)) (cost (hold (x .0) (x .2) (s .y)) s k) top
+
+  unfoldable pub next : State → Point → ℕ → State
+  next x s k = (set (x .0) k (suc (s .c)), x .1 - draw (hold (x .0) (x .2) (s .y)) s k, marked (x .0) (x .2) s k)
+
+  abbrev pub labels : Process State Point
+  labels = record { top = top; m = m; price = price; next = next; final = λ x. 0 }
+
+  -- the least cost of tying the sites ss, by the table
+  unfoldable pub value : State → List Point → ℕ
+  value x ss = Rest rulesOf ss (strips (x .0) (x .2)) (x .1)
+
+  -- the slots of the sites ss, in their order, from the empty sheet; none where there are none
+  unfoldable pub walked : ℕ → List Point → Option (List ℕ)
+  walked v ss = answerBy labels value (replicate m 0, v, replicate (suc m) 0) ss

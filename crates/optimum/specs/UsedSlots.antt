@@ -1,0 +1,145 @@
+-- The two-sided table and the walk that fixes the sites one by one: what the code follows. These are definitions, for any sheet;
+-- `TwoSided.antt` has the sheet of a sheet. Assumes nothing.
+use mathlib.Core.Path.{_≡_}
+use mathlib.Core.Bool.{Bool, true, false, cond, _&&_, _||_}
+use mathlib.Core.Option.{Option, none, some}
+use mathlib.Core.List.{List, [], _∷_}
+use Prim.Native.Nat.{ℕ, zero, suc, _+_, _*_, _-_, min}
+use lib.Dec.{ltb, leb, eqb}
+use Rattle.search.specs.Cost.{plus, first}
+use Rattle.search.specs.Walk.{Process, best}
+use Rattle.search.specs.Radix.{digitOf, place}
+use Rattle.optimum.specs.Sums.{listing, sumTo}
+
+-- top: "none"; each: what a label costs; unit: what a length of one costs; share: a site's share of the length, by its slot's height and its own; x: the sites' order, as a number; budget: the number whose digits are the bounds
+pub record Instance : Type 0 where
+  pub top : ℕ
+  pub m : ℕ
+  pub n : ℕ
+  pub colours : ℕ
+  pub dist : ℕ
+  pub each : ℕ
+  pub unit : ℕ
+  pub share : ℕ → ℕ → ℕ
+  pub budget : ℕ
+  pub radices : List ℕ
+  pub unbounded : ℕ → Bool
+  pub height : ℕ → ℕ
+  pub x : ℕ → ℕ
+  pub y : ℕ → ℕ
+  pub colour : ℕ → ℕ
+
+-- site i gets the cap p (0: none yet; k + 1: it may go to slots 0 to k)
+unfoldable pub put : (ℕ → ℕ) → ℕ → ℕ → ℕ → ℕ
+put fx i p j = cond (eqb j i) p (fx j)
+
+module _ (G : Instance) where
+  open Instance G using (top, m, n, colours, dist, each, unit, share, budget, radices, unbounded, height, x, y, colour)
+
+  -- places down the sheet: 0 the top edge, k + 1 slot k, m + 1 the bottom edge
+  unfoldable pub at : ℕ → ℕ
+  at zero = 0
+  at (suc k) = height k
+
+  -- the place a stands above the height h or at it; b stands below it
+  unfoldable pub over : ℕ → ℕ → Bool
+  over zero h = true
+  over (suc k) h = leb (height k) h
+
+  unfoldable pub under : ℕ → ℕ → Bool
+  under zero h = false
+  under (suc k) h = leb m k || ltb h (height k)
+
+  -- far enough above, far enough below
+  unfoldable pub clearUp : ℕ → ℕ → Bool
+  clearUp zero h = true
+  clearUp (suc k) h = leb (height k + dist) h
+
+  unfoldable pub clearDown : ℕ → ℕ → Bool
+  clearDown zero h = false
+  clearDown (suc k) h = leb m k || leb (h + dist) (height k)
+
+  -- the place a, a label of code ca, lets a label of code d be at slot k below it
+  unfoldable pub farUp : (a ca k d : ℕ) → Bool
+  farUp zero ca k d = true
+  farUp (suc j) ca k d = leb (height j + dist) (height k)
+
+  -- a label of code d (0: none; c + 1: colour c) may be opened with v left; what it draws
+  unfoldable pub may : ℕ → ℕ → Bool
+  may zero v = true
+  may (suc c) v = unbounded c || ltb 0 (digitOf radices c v)
+
+  unfoldable pub draw : ℕ → ℕ
+  draw zero = 0
+  draw (suc c) = cond (unbounded c) 0 (place radices c)
+
+  module _ (fx : ℕ → ℕ) where
+    -- site i may go to the place p
+    unfoldable pub allows : ℕ → ℕ → Bool
+    allows i p = eqb (fx i) 0 || leb p (fx i)
+
+    -- site i in the strip between a (code ca) and b (code cb): to a, to b, the cheaper
+    unfoldable pub upCost : (a ca b i : ℕ) → ℕ
+    upCost a ca b i = cond (eqb ca (suc (colour i)) && (clearDown b (y i) && allows i a)) (share (at a) (y i) * unit) top
+
+    unfoldable pub downCost : (a b cb i : ℕ) → ℕ
+    downCost a b cb i = cond (eqb cb (suc (colour i)) && (clearUp a (y i) && allows i b)) (share (at b) (y i) * unit) top
+
+    unfoldable pub siteCost : (a ca b cb i : ℕ) → ℕ
+    siteCost a ca b cb i = min (upCost a ca b i) (downCost a b cb i)
+
+    unfoldable pub inside : (a b i : ℕ) → Bool
+    inside a b i = over a (y i) && under b (y i)
+
+    -- S(a, ca, b, cb)
+    unfoldable pub strip : (a ca b cb : ℕ) → ℕ
+    strip a ca b cb = sumTo top (λ i. cond (inside a b i) (siteCost a ca b cb i) 0) n
+
+    -- the labels are chosen slot by slot, downwards: the state is the last label's place and code, and the budget left
+    abbrev pub State : Type 0
+    State = ℕ × ℕ × ℕ
+
+    unfoldable pub price : State → ℕ → ℕ → ℕ
+    price s k zero = 0
+    price s k (suc c) = cond (farUp (s .0) (s .1) k (suc c) && may (suc c) (s .2)) (plus top each (strip (s .0) (s .1) (suc k) (suc c))) top
+
+    unfoldable pub next : State → ℕ → ℕ → State
+    next s k zero = s
+    next s k (suc c) = (suc k, suc c, s .2 - draw (suc c))
+
+    unfoldable pub final : State → ℕ
+    final s = strip (s .0) (s .1) (suc m) 0
+
+    abbrev pub labels : Process State ℕ
+    labels = record { top = top; m = suc colours; price = price; next = next; final = final }
+
+    -- the least cost of the labels at slots k, k + 1, .. below the label a, all ties of sites below a included
+    unfoldable pub below : (k count a ca v : ℕ) → ℕ
+    below k c a ca v = best labels (a, ca, v) (listing (λ j. j) k c)
+
+    -- T(a, ca, v): the slots below a are a, a + 1, .., m - 1
+    unfoldable pub T : (a ca v : ℕ) → ℕ
+    T a ca v = below a (m - a) a ca v
+
+    -- the least cost with the caps of fx
+    unfoldable pub value : ℕ
+    value = T 0 0 budget
+
+  -- THE WALK. The leftmost site without a cap among the first so many, or n
+  unfoldable pub leftmost : (ℕ → ℕ) → ℕ → ℕ
+  leftmost fx zero = n
+  leftmost fx (suc c) = cond (eqb (fx c) 0 && (leb n (leftmost fx c) || ltb (x c) (x (leftmost fx c)))) c (leftmost fx c)
+
+  -- the lowest slot for which the least cost stays w if the site goes no further down
+  unfoldable pub choose : (w : ℕ) → (ℕ → ℕ) → ℕ → ℕ
+  choose w fx i = first m (λ k. eqb (value (put fx i (suc k))) w)
+
+  unfoldable pub capAll : (w : ℕ) → ℕ → (ℕ → ℕ) → ℕ → ℕ
+  capAll w zero fx = fx
+  capAll w (suc f) fx = cond (ltb (leftmost fx n) n) (capAll w f (put fx (leftmost fx n) (suc (choose w fx (leftmost fx n))))) fx
+
+  unfoldable pub ties : (ℕ → ℕ) → List ℕ
+  ties fx = listing (λ i. fx i - 1) 0 n
+
+  unfoldable pub answer : Option (List ℕ)
+  answer = cond (ltb (value (λ i. 0)) top) (some (ties (capAll (value (λ i. 0)) n (λ i. 0)))) none

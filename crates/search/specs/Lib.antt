@@ -1,0 +1,7 @@
+pub mod Semi
+pub mod Strips
+pub mod Cost
+pub mod Walk
+pub mod Share
+pub mod Radix
+pub mod Plan

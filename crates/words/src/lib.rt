@@ -1,0 +1,157 @@
+// Kind and fields of a word, and tests and sums as functions. Each is total: its contract is one equation and asks nothing.
+ghost use mathlib.Core.Path.{_≡_};
+ghost use mathlib.Core.Bool.{cond, _&&_, _||_, not};
+ghost use Prim.Native.Nat.{ℕ, _+_, _-_, min};
+ghost use lib.Dec.{eqb, leb, ltb};
+ghost use lib.ListN.{length, getD};
+ghost use Rattle.sheet.specs.Sheet.{kindOf, bits};
+ghost use Rattle.search.specs.Cost.{plus};
+
+// The cost of "none".
+pub const NONE: u32 = 4294967295;
+
+pub fn kind_of(w: u32) -> u32
+    ensures { λ r. ⌜ r ≡ kindOf w ⌝ }
+{
+    w / 268435456
+}
+
+// Bits 13 to 0: a height, a site's y, the width.
+pub fn low_field(w: u32) -> u32
+    ensures { λ r. ⌜ r ≡ bits w 0 14 ⌝ }
+{
+    w % 16384
+}
+
+// Bits 27 to 14: a site's x.
+pub fn high_field(w: u32) -> u32
+    ensures { λ r. ⌜ r ≡ bits w 14 14 ⌝ }
+{
+    w / 16384 % 16384
+}
+
+// Bits 25 to 14: the gap.
+pub fn gap_field(w: u32) -> u32
+    ensures { λ r. ⌜ r ≡ bits w 14 12 ⌝ }
+{
+    w / 16384 % 4096
+}
+
+// Bits 7 to 0: a colour's bound, a tie's slot.
+pub fn byte_field(w: u32) -> u32
+    ensures { λ r. ⌜ r ≡ bits w 0 8 ⌝ }
+{
+    w % 256
+}
+
+// Bit 27: two-sided.
+pub fn side_bit(w: u32) -> u32
+    ensures { λ r. ⌜ r ≡ bits w 27 1 ⌝ }
+{
+    w / 134217728 % 2
+}
+
+// Bit 26: shortest.
+pub fn aim_bit(w: u32) -> u32
+    ensures { λ r. ⌜ r ≡ bits w 26 1 ⌝ }
+{
+    w / 67108864 % 2
+}
+
+pub fn both(a: bool, b: bool) -> bool
+    ensures { λ r. ⌜ r ≡ a && b ⌝ }
+{
+    if a {
+        return b;
+    }
+    false
+}
+
+pub fn either(a: bool, b: bool) -> bool
+    ensures { λ r. ⌜ r ≡ a || b ⌝ }
+{
+    if a {
+        return true;
+    }
+    b
+}
+
+pub fn is_not(a: bool) -> bool
+    ensures { λ r. ⌜ r ≡ not a ⌝ }
+{
+    !a
+}
+
+pub fn same(a: u32, b: u32) -> bool
+    ensures { λ r. ⌜ r ≡ eqb a b ⌝ }
+{
+    a == b
+}
+
+pub fn at_most(a: u32, b: u32) -> bool
+    ensures { λ r. ⌜ r ≡ leb a b ⌝ }
+{
+    a <= b
+}
+
+pub fn less(a: u32, b: u32) -> bool
+    ensures { λ r. ⌜ r ≡ ltb a b ⌝ }
+{
+    a < b
+}
+
+pub fn few(a: usize, b: usize) -> bool
+    ensures { λ r. ⌜ r ≡ leb a b ⌝ }
+{
+    a <= b
+}
+
+pub fn choose(t: bool, a: u32, b: u32) -> u32
+    ensures { λ r. ⌜ r ≡ cond t a b ⌝ }
+{
+    if t {
+        return a;
+    }
+    b
+}
+
+// The number at a place, 0 outside.
+pub fn get(s: &[u32], i: u32) -> u32
+    ensures { λ r. ⌜ r ≡ getD (now (s .entry)) i 0 ⌝ }
+{
+    let k = i as usize;
+    if k < s.len() {
+        return s[k];
+    }
+    0
+}
+
+// A difference that stops at 0.
+pub fn monus(a: u32, b: u32) -> u32
+    ensures { λ r. ⌜ r ≡ a - b ⌝ }
+{
+    if a < b {
+        return 0;
+    }
+    a - b
+}
+
+pub fn lesser(a: u32, b: u32) -> u32
+    ensures { λ r. ⌜ r ≡ min a b ⌝ }
+{
+    if b < a {
+        return b;
+    }
+    a
+}
+
+// The sum of two costs, capped at NONE.
+pub fn plus_of(a: u32, b: u32) -> u32
+    ensures { λ r. ⌜ r ≡ plus 4294967295 a b ⌝ }
+{
+    let s = (a as u64) + (b as u64);
+    if s < 4294967295 {
+        return s as u32;
+    }
+    NONE
+}
