@@ -1,8 +1,10 @@
+pub mod Answer
 pub mod Best
 pub mod ByRank
 pub mod Counted
 pub mod Earlier
 pub mod Examples
+pub mod Judge
 pub mod Kept
 pub mod Maker
 pub mod Members
@@ -11,4 +13,5 @@ pub mod Order
 pub mod Pairs
 pub mod Paper
 pub mod Rules
+pub mod Verdict
 pub mod Words

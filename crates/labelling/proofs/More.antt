@@ -1,17 +1,15 @@
--- The left end of a used slot; the colours of an accepted sheet's sites; the examples in full.
+-- The left end of a used slot on a one-sided sheet; the colours of an accepted sheet's sites.
 -- Assumes nothing.
 use mathlib.Core.Path.{_≡_, refl, subst, subst⁻¹}
 use mathlib.Core.Bool.{Bool, true, false, cond}
-use mathlib.Core.List.{List, [], _∷_, _++_}
+use mathlib.Core.List.{List, [], _∷_}
 use Prim.Native.Nat.{ℕ, suc, _+_, _-_, _≤_, _<_}
 use native.Mathlib.Omega.{arith}
 use lib.Dec.{ltb}
-use lib.ListN.{length, getD, drop, replicate}
+use lib.ListN.{length, getD, drop}
 use borrow.Author.Tests.{ltb-true, ltb-false, leb-true, lt-ltb, eq-eqb, ne-eqb}
-use Rattle.sheet.specs.Sheet.{all, kindOf, inOrder, Site, Sheet, insideBy, slotsIn, sitesRun, coloursIn, sitesIn, sheetIn, sheetFault, productOf, rising, rankOf, hasRank, ranksDiffer}
-use Rattle.labelling.specs.Layout.{tiedOf, tied, isUsed, usedFrom, leastX, leftEnd, slotsOf, boundsKept, backbones, siteShare, drops, tieWords, tiesIn, nextRank, slotAt, byRank, comesFirst, bestOver, bestFrom, sheetPart, judgeFault, layoutWords}
-use Rattle.labelling.specs.Entry.{makeFault, makeAnswer}
-use Rattle.labelling.specs.Promise.{sheetA, a, boundZero}
+use Rattle.sheet.specs.Sheet.{all, kindOf, inOrder, Site, Sheet, insideBy, coloursIn, sitesIn, sheetIn, sheetFault}
+use Rattle.labelling.specs.Layout.{tied, isUsed, leastX, leftEnd}
 use Rattle.lists.proofs.Tests.{by-test, and-i}
 use Rattle.labelling.proofs.Members.{noSite, all-at, at-used, leastX-le, leastX-is}
 use Rattle.sheet.proofs.Accepted.{Sound, unrefused, Step, step}
@@ -72,18 +70,3 @@ pub sites-coloured : (ws : List ℕ) → sheetFault ws ≡ 0 → all (colourLow 
 sites-coloured ws h =
     subst (λ (n : ℕ). all (colourLow n) (sitesIn 0 (drop 1 ws)) ≡ true) (omega arith)
     (coloured 0 0 (drop 1 ws) (unrefused ws h .order) λ q. absurd (omega arith))
-
--- THE STARRED EXAMPLES, as calls: with 900 work words (or 12) and 4 answer words (or 1)
-abbrev pub MoreExamples : Type 0
-MoreExamples =
-    (makeFault a (replicate 900 7) (replicate 4 9) ≡ 0) × (makeFault a (replicate 899 7) (replicate 4 9) ≡ 8) × (makeFault a (replicate 900 7) (replicate 3 9) ≡ 9) ×
-    (makeAnswer a (replicate 900 7) (replicate 5 9) ≡ layoutWords 2 19 (0 ∷ 0 ∷ 2 ∷ []) ++ (9 ∷ [])) ×
-    (sheetFault (sheetA 335577096) ≡ 0) × (sheetFault (sheetA 402685960) ≡ 0) × (sheetFault (sheetA 268484616) ≡ 0) ×
-    (makeFault (sheetA 268501000) (replicate 900 0) (replicate 4 0) ≡ 10) × (makeFault boundZero (replicate 900 0) (replicate 4 0) ≡ 10) ×
-    (sheetFault (268468232 ∷ []) ≡ 0) ×
-    (judgeFault (a ++ layoutWords 2 19 (0 ∷ 0 ∷ 1 ∷ [])) ≡ 0) × (judgeFault (a ++ layoutWords 2 19 (0 ∷ 0 ∷ 0 ∷ [])) ≡ 0) ×
-    (judgeFault (a ++ layoutWords 2 19 (2 ∷ 2 ∷ 0 ∷ [])) ≡ 0) × (judgeFault (a ++ layoutWords 2 18 (2 ∷ 2 ∷ 0 ∷ [])) ≡ 0)
-
-pub more-examples : MoreExamples
-unfolding all inOrder slotsIn sitesRun coloursIn sitesIn productOf rising rankOf hasRank ranksDiffer tiedOf isUsed usedFrom leastX slotsOf boundsKept backbones siteShare drops tieWords tiesIn nextRank slotAt byRank comesFirst bestOver bestFrom sheetPart
-more-examples = (refl, refl, refl, refl, refl, refl, refl, refl, refl, refl, refl, refl, refl, refl)

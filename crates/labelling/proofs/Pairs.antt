@@ -9,12 +9,13 @@ use lib.Dec.{eqb, leb}
 use lib.ListN.{length, getD}
 use borrow.Author.Tests.{leb-true, le-leb}
 use Rattle.sheet.specs.Sheet.{all, Site, Sheet, insideBy}
-use Rattle.labelling.specs.Layout.{noSite, siteAt, Tied, tied, heightOf, isUsed, usedOf, leastX, leftEnd, noColour, isFar, verticalHas, missesFrom, misses, missesAll, counts, isClear, clearsFrom, clearsAll}
+use Rattle.labelling.specs.Layout.{noSite, siteAt, Tied, tied, heightOf, isUsed, usedOf, leastX, leftEnd, isFar, verticalHas, missesFrom, misses, missesAll, counts, isClear, clearsFrom, clearsAll}
 use Rattle.labelling.specs.Pairs.{startOf, missesPairs, clearsPairs}
 use Rattle.lists.proofs.Tests.{by-test, by-order, same-test}
 use Rattle.labelling.proofs.Members.{each, every, all-at, all-used, used-all, used-at, at-used, leastX-width, leastX-le, leastX-is}
 use Rattle.labelling.proofs.Best.{below}
-use Rattle.labelling.proofs.Rules.{Miss, Counted, counts-e, counts-i, counted-left, Rules, Bounded, used-of, of-used}
+use Rattle.labelling.specs.Lawful.{Rules, RuleTwo, Miss, Counted}
+use Rattle.labelling.proofs.Rules.{counts-e, counts-i, counted-left, used-of, of-used}
 
 -- a test of a label by its slot and left end that a label further right passes too
 abbrev pub Falls : ((slot left : ℕ) → Bool) → Type 0
@@ -125,10 +126,6 @@ AllInOrder s js = (i j : ℕ) → i < length (s .sites) → j < length (s .sites
 -- what the rules ask of the layout that is about no pair: nothing
 pub record Others (s : Sheet) (js : List ℕ) : Type 0 where
 
--- rule 2, colour by colour
-abbrev pub AllBounded : Sheet → (ties : List ℕ) → Type 0
-AllBounded s js = (c : ℕ) → c < length (s .colours) → Bounded s js c (getD (s .colours) c noColour)
-
 module _ (s : Sheet) (inside : all (insideBy (s .width)) (s .sites) ≡ true) (js : List ℕ) (long : length js ≡ length (s .sites)) where
   -- THEOREM 0, to pairs
   pub rules-pairs : Rules s js → AllInOrder s js
@@ -146,7 +143,7 @@ module _ (s : Sheet) (inside : all (insideBy (s .width)) (s .sites) ≡ true) (j
   rules-others r = record {}
 
   -- THEOREM 0, from pairs: with rule 2 they are the rules
-  pub pairs-rules : AllInOrder s js → Others s js → AllBounded s js → Rules s js
+  pub pairs-rules : AllInOrder s js → Others s js → RuleTwo s js → Rules s js
   pairs-rules p o b = record {
     one = λ i j hi hj. p i j hi hj .colour;
     two = b;

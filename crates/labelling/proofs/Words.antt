@@ -172,6 +172,14 @@ formed s b h =
 pub form : (s : Sheet) (b : List ℕ) → Formed s b → isLayout s b ≡ true
 form s b f = and-i (and-i (eq-eqb (length b) (length (s .sites) + 1) (f .long)) (eq-eqb (kindOf (getD b 0 0)) 8 (f .kind))) (f .ties)
 
+-- its ties are one a site
+pub formed-long : (s : Sheet) (b : List ℕ) → Formed s b → length (tiesIn (drop 1 b)) ≡ length (s .sites)
+formed-long s [] f = absurd (omega (arith, f .long))
+formed-long s (w ∷ ws) f = length-tiesIn ws ∙ less (length ws) (length (s .sites)) (f .long)
+  where
+    less : (a b : ℕ) → suc a ≡ b + 1 → a ≡ b
+    less a b e = omega arith
+
 -- LAWFUL WORDS and ties that obey
 pub record Written (s : Sheet) (b : List ℕ) : Type 0 where
   pub obeys : Obeys s (tiesIn (drop 1 b))
@@ -183,13 +191,10 @@ pub written : (s : Sheet) (b : List ℕ) → Formed s b → brokenIn s (tiesIn (
 written s [] f z c l = absurd (omega (arith, f .long))
 written s (w ∷ ws) f z c l =
     record {
-      obeys = record { long = length-tiesIn ws ∙ less (length ws) (length (s .sites)) (f .long); low = ties-low s ws (f .ties); kept = z };
+      obeys = record { long = formed-long s (w ∷ ws) f; low = ties-low s ws (f .ties); kept = z };
       written = ap₂ (λ (a : ℕ) (b : List ℕ). a ∷ b) (back w (countOf s (tiesIn ws)) (lengthOf s (tiesIn ws)) (f .kind) c l) (words-of-ties s ws (f .ties));
     }
   where
-    less : (a b : ℕ) → suc a ≡ b + 1 → a ≡ b
-    less a b e = omega arith
-
     back : (w c l : ℕ) → kindOf w ≡ 8 → bits w 21 7 ≡ c → bits w 0 21 ≡ l → w ≡ 8 * 268435456 + c * 2097152 + l
     back w c l k p q = omega arith
 
