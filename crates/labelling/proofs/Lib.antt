@@ -2,6 +2,7 @@ pub mod Answer
 pub mod Best
 pub mod ByRank
 pub mod Counted
+pub mod Document03
 pub mod Earlier
 pub mod Examples
 pub mod Judge
@@ -11,7 +12,6 @@ pub mod Members
 pub mod More
 pub mod Order
 pub mod Pairs
-pub mod Paper
 pub mod Rules
 pub mod Verdict
 pub mod Words
