@@ -49,6 +49,23 @@ unrefused ws h =
     (ltb 64 (productOf (coloursIn (bodyOf ws)))) h in
     record { head = t .0; order = t .1; counts = t .2; rise = t .3; inside = t .4; differ = t .5; product = t .6 }
 
+-- a refusal's number is below 8
+small : (a b c d e f g : Bool) → cond (not a) 1 (cond (not b) 2 (cond (not c) 3 (cond (not d) 4 (cond (not e) 5 (cond (not f) 6 (cond g 7 0)))))) < 8
+small false b c d e f g = omega arith
+small true false c d e f g = omega arith
+small true true false d e f g = omega arith
+small true true true false e f g = omega arith
+small true true true true false f g = omega arith
+small true true true true true false g = omega arith
+small true true true true true true true = omega arith
+small true true true true true true false = omega arith
+
+pub fault-small : (ws : List ℕ) → sheetFault ws < 8
+fault-small ws =
+    small (isHead ws) (inOrder 0 (bodyOf ws)) (countsFit (sheetIn ws)) (rising (slotsIn (bodyOf ws)))
+    (all (insideBy (bits (headIn ws) 0 14)) (sitesIn 0 (bodyOf ws))) (ranksDiffer (sitesIn 0 (bodyOf ws)))
+    (ltb 64 (productOf (coloursIn (bodyOf ws))))
+
 -- bits are low
 pub low14 : (w : ℕ) (i : ℕ) → bits w i 14 < 16384
 low14 w i = omega arith
