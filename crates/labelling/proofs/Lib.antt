@@ -7,9 +7,9 @@ pub mod Earlier
 pub mod Examples
 pub mod Judge
 pub mod Kept
+pub mod LeftEnd
 pub mod Maker
 pub mod Members
-pub mod More
 pub mod Order
 pub mod Pairs
 pub mod Rules

@@ -1,6 +1,7 @@
 pub mod Strips
 pub mod OneSided
 pub mod Cells
+pub mod Reached
 pub mod UsedSlots
 pub mod TwoSided
 pub mod Sums
