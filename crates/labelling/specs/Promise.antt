@@ -171,7 +171,7 @@ laidOut ws b =
 abbrev pub turnedDown : (sheet : List ℕ) → Type 0
 turnedDown ws = (k o : List ℕ) → workFor (sheetIn ws) ≤ length k → length (sheetIn ws .sites) + 1 ≤ length o → makeFault ws k o ≡ 10
 
--- of the definitions: document 03's table
+-- the table of the definitions, as document 03 has it
 abbrev pub ExamplesDefined : Type 0
 ExamplesDefined =
     (sheetFault a ≡ 0) × (answerTo a ≡ layoutWords 2 19 (0 ∷ 0 ∷ 2 ∷ [])) × (getD (answerTo a) 0 0 ≡ 2151677971) ×
@@ -182,7 +182,7 @@ ExamplesDefined =
     (judged (a ++ layoutWords 2 19 (0 ∷ 0 ∷ 0 ∷ [])) ≡ 1) × (judged (a ++ layoutWords 2 19 (2 ∷ 2 ∷ 0 ∷ [])) ≡ 0) ×
     (judged (a ++ layoutWords 2 18 (2 ∷ 2 ∷ 0 ∷ [])) ≡ 6)
 
--- of the calls
+-- of the calls; slots 2, 2, 0 come later for A, which needs 900 work words and 4 answer words
 abbrev pub ExamplesCalled : Type 0
 ExamplesCalled =
     laidOut a (layoutWords 2 19 (0 ∷ 0 ∷ 2 ∷ [])) × laidOut shortest (layoutWords 3 18 (0 ∷ 1 ∷ 2 ∷ [])) ×
@@ -190,7 +190,8 @@ ExamplesCalled =
     turnedDown gapFour × turnedDown boundZero × laidOut headAlone (layoutWords 0 0 []) ×
     judgedAs (a ++ layoutWords 2 19 (0 ∷ 0 ∷ 1 ∷ [])) 4 × judgedAs (a ++ layoutWords 2 19 (0 ∷ 0 ∷ 0 ∷ [])) 1 ×
     judgedAs (a ++ layoutWords 2 19 (2 ∷ 2 ∷ 0 ∷ [])) 0 × judgedAs (a ++ layoutWords 2 18 (2 ∷ 2 ∷ 0 ∷ [])) 6 ×
-    (isBeaten (sheetIn a) (answerTo a) (layoutWords 2 19 (2 ∷ 2 ∷ 0 ∷ [])) ≡ true) × (workFor (sheetIn a) ≡ 900)
+    (isBeaten (sheetIn a) (answerTo a) (layoutWords 2 19 (2 ∷ 2 ∷ 0 ∷ [])) ≡ true) × (workFor (sheetIn a) ≡ 900) ×
+    ((k o : List ℕ) → length k ≡ 899 → makeFault a k o ≡ 8) × ((k o : List ℕ) → 900 ≤ length k → length o ≡ 3 → makeFault a k o ≡ 9)
 
 abbrev pub Examples : Type 0
 Examples = ExamplesDefined × ExamplesCalled
