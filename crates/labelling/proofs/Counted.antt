@@ -8,10 +8,10 @@ use Prim.Native.Nat.{ℕ, zero, suc, _+_, _-_, _≤_, _<_}
 use native.Mathlib.Nat.{le-antisymm}
 use native.Mathlib.Omega.{arith}
 use lib.Dec.{ltb, leb, eqb}
-use lib.ListN.{length, getD, drop}
+use lib.ListN.{length, getD}
 use borrow.Author.Tests.{ltb-true, leb-true, eqb-true, le-leb, eq-eqb, ne-eqb}
 use Rattle.sheet.specs.Sheet.{all, insideBy, Site, Sheet}
-use Rattle.labelling.specs.Layout.{noSite, siteAt, Tied, tieAt, tiedOf, tied, heightOf, isUsed, usedFrom, usedOf, least, leastX, leftEnd, slotsOf, countOf, backbones, siteShare, drops, colourKept, boundsKept, noColour, gapKept, brokenIn, lengthOf, statedCount, statedLength, tiesIn, isLayout, brokenBy}
+use Rattle.labelling.specs.Layout.{noSite, siteAt, Tied, tieAt, tiedOf, tied, heightOf, isUsed, usedFrom, usedOf, least, leastX, leftEnd, slotsOf, countOf, backbones, siteShare, drops, colourKept, boundsKept, noColour, gapKept, brokenIn, lengthOf, statedCount, statedLength, isLayout, brokenBy, layoutBody, layoutTies}
 use Rattle.labelling.specs.Lawful.{Bounded}
 use Rattle.labelling.specs.Pairs.{missesPair, clearsPair}
 use Rattle.labelling.specs.Counted.{allBefore, sumBefore, isTaken, isFirst, sumFirsts, leastBefore, anySite, ofColour, labelsCounted, coloursCounted, backbonesCounted, sharesCounted, lengthCounted, allPairs, boundCounted, brokenCounted, verdictCounted}
@@ -328,7 +328,7 @@ verdict-counted s inside b h =
     (cond (eqb (statedCount b) (count-counted s js long low i) && eqb (statedLength b) (length-counted s inside js long low i)) 0 6)
   where
     js : List ℕ
-    js = tiesIn (drop 1 b)
+    js = layoutTies b
 
     f : Formed s b
     f = formed s b h
@@ -337,4 +337,4 @@ verdict-counted s inside b h =
     long = formed-long s b f
 
     low : below (length (s .slots)) js ≡ true
-    low = ties-low s (drop 1 b) (f .ties)
+    low = ties-low s (layoutBody b) (f .ties)

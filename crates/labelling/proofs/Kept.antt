@@ -13,7 +13,7 @@ use lib.ListN.{length, take, drop, replicate, length-replicate}
 use lib.Seq.{length-front, length-take-le, take-at, drop-at}
 use borrow.Author.Tests.{eq-eqb}
 use Rattle.sheet.specs.Sheet.{Sheet, sheetIn, workFor}
-use Rattle.labelling.specs.Layout.{tiesIn, slotsByRank, isBetter, best, answer, answerOf, isLawful}
+use Rattle.labelling.specs.Layout.{slotsByRank, isBetter, best, answer, answerOf, isLawful, layoutTies}
 use Rattle.labelling.specs.Entry.{makeFault, makeAnswer, makeWork}
 use Rattle.labelling.specs.Promise.{areWords, same, isBeaten, begun, BestOfAll, AreasKept, ContentsUnread, RefusedUnchanged}
 use Rattle.lists.proofs.Tests.{clash, is-false, is-true}
@@ -104,7 +104,7 @@ pub beats : (s : Sheet) → Sound s → (js : List ℕ) → IsBest s (Obeys s) (
     same b (answerOf s js) ≡ false → isBeaten s (answerOf s js) b ≡ true
 beats s o js h b l d =
     let w : Written s b = lawful-obeys s b l in
-    let ks : List ℕ = tiesIn (drop 1 b) in
+    let ks : List ℕ = layoutTies b in
     subst⁻¹ (λ (v : List ℕ). isBeaten s (answerOf s js) v ≡ true) (w .written)
     (beaten-is s o js ks (h .0) (w .obeys) ∙
     is-true (isBetter s js ks) λ e.
@@ -128,7 +128,7 @@ best-of-all ws k o t = go (best (sheetIn ws)) (best-is (sheetIn ws)) (called ws 
         ((b : List ℕ) → areWords b ≡ true → isLawful (sheetIn ws) b ≡ true → same b (begun ws k o) ≡ false →
         isBeaten (sheetIn ws) (begun ws k o) b ≡ true))
     go none h c = (
-      (λ e b a. is-false (isLawful (sheetIn ws) b) λ f. h (tiesIn (drop 1 b)) (lawful-obeys (sheetIn ws) b f .obeys)),
+      (λ e b a. is-false (isLawful (sheetIn ws) b) λ f. h (layoutTies b) (lawful-obeys (sheetIn ws) b f .obeys)),
       (λ f. c .fault),
       (λ e. clash (eq-eqb (makeFault ws k o) 10 (c .fault)) e),
     )

@@ -5,9 +5,9 @@ use mathlib.Core.Bool.{Bool, true, false, _&&_, _||_, not, cond}
 use mathlib.Core.List.{List}
 use Prim.Native.Nat.{ℕ, zero, suc, _+_, _-_}
 use lib.Dec.{eqb, leb}
-use lib.ListN.{length, getD, drop}
+use lib.ListN.{length, getD}
 use Rattle.sheet.specs.Sheet.{Site, Sheet}
-use Rattle.labelling.specs.Layout.{noSite, siteAt, Tied, tieAt, least, heightOf, leftEnd, colourKept, noColour, gapKept, siteShare, tiesIn, statedCount, statedLength}
+use Rattle.labelling.specs.Layout.{noSite, siteAt, Tied, tieAt, least, heightOf, leftEnd, colourKept, noColour, gapKept, siteShare, statedCount, statedLength, layoutTies}
 use Rattle.labelling.specs.Pairs.{missesPair, clearsPair}
 
 -- all numbers before one pass
@@ -83,5 +83,5 @@ brokenCounted s js =
 -- the least broken rule of a layout in words, or 0
 abbrev pub verdictCounted : Sheet → (words : List ℕ) → ℕ
 verdictCounted s ws =
-    cond (not (eqb (brokenCounted s (tiesIn (drop 1 ws))) 0)) (brokenCounted s (tiesIn (drop 1 ws)))
-    (cond (eqb (statedCount ws) (labelsCounted s (tiesIn (drop 1 ws))) && eqb (statedLength ws) (lengthCounted s (tiesIn (drop 1 ws)))) 0 6)
+    cond (not (eqb (brokenCounted s (layoutTies ws)) 0)) (brokenCounted s (layoutTies ws))
+    (cond (eqb (statedCount ws) (labelsCounted s (layoutTies ws)) && eqb (statedLength ws) (lengthCounted s (layoutTies ws))) 0 6)

@@ -209,6 +209,13 @@ unfoldable pub tiesIn : (words : List ℕ) → List ℕ
 tiesIn [] = []
 tiesIn (w ∷ ws) = bits w 0 8 ∷ tiesIn ws
 
+-- a layout's words after its first, and the ties in them
+abbrev pub layoutBody : (words : List ℕ) → List ℕ
+layoutBody ws = drop 1 ws
+
+abbrev pub layoutTies : (words : List ℕ) → List ℕ
+layoutTies ws = tiesIn (layoutBody ws)
+
 -- a word of kind 9 without a spare bit, its slot below m
 abbrev pub isTie : Sheet → (word : ℕ) → Bool
 isTie s w = eqb (kindOf w) 9 && eqb (bits w 8 20) 0 && ltb (bits w 0 8) (length (s .slots))
@@ -216,13 +223,13 @@ isTie s w = eqb (kindOf w) 9 && eqb (bits w 8 20) 0 && ltb (bits w 0 8) (length 
 -- a layout of a sheet, whoever wrote it: one word of kind 8, then one of kind 9 for each site
 abbrev pub isLayout : Sheet → (words : List ℕ) → Bool
 isLayout s ws =
-    eqb (length ws) (length (s .sites) + 1) && eqb (kindOf (getD ws 0 0)) 8 && all (isTie s) (drop 1 ws)
+    eqb (length ws) (length (s .sites) + 1) && eqb (kindOf (getD ws 0 0)) 8 && all (isTie s) (layoutBody ws)
 
 -- the least broken rule of a layout, or 0
 abbrev pub brokenBy : Sheet → (words : List ℕ) → ℕ
 brokenBy s ws =
-    cond (not (eqb (brokenIn s (tiesIn (drop 1 ws))) 0)) (brokenIn s (tiesIn (drop 1 ws)))
-    (cond (eqb (statedCount ws) (countOf s (tiesIn (drop 1 ws))) && eqb (statedLength ws) (lengthOf s (tiesIn (drop 1 ws)))) 0 6)
+    cond (not (eqb (brokenIn s (layoutTies ws)) 0)) (brokenIn s (layoutTies ws))
+    (cond (eqb (statedCount ws) (countOf s (layoutTies ws)) && eqb (statedLength ws) (lengthOf s (layoutTies ws))) 0 6)
 
 -- a lawful layout: it obeys rules 1 to 6
 abbrev pub isLawful : Sheet → (words : List ℕ) → Bool

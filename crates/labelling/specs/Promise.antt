@@ -9,7 +9,7 @@ use Prim.Native.Nat.{ℕ, _+_, _≤_, _<_}
 use lib.Dec.{ltb, eqb}
 use lib.ListN.{length, getD, take, drop, replicate}
 use Rattle.sheet.specs.Sheet.{all, kindOf, Sheet, sheetIn, sheetFault, workFor}
-use Rattle.labelling.specs.Layout.{isLayout, isLawful, brokenBy, tiesIn, statedCount, statedLength, slotsByRank, comesFirst, best, answer, sheetPart, layoutPart, judgeFault, judged, layoutWords}
+use Rattle.labelling.specs.Layout.{isLayout, isLawful, brokenBy, statedCount, statedLength, slotsByRank, comesFirst, best, answer, sheetPart, layoutPart, judgeFault, judged, layoutWords, layoutTies}
 use Rattle.labelling.specs.Lawful.{Ties, Rules, Lawful, LeastBroken, IsAnswer}
 use Rattle.labelling.specs.Entry.{isNone, makeFault, makeAnswer, makeWork}
 
@@ -40,7 +40,7 @@ isBeaten s a b =
     ltb (statedFirst s a) (statedFirst s b) ||
     (eqb (statedFirst s a) (statedFirst s b) &&
     (ltb (statedSecond s a) (statedSecond s b) ||
-    (eqb (statedSecond s a) (statedSecond s b) && comesFirst (slotsByRank s (tiesIn (drop 1 a))) (slotsByRank s (tiesIn (drop 1 b))))))
+    (eqb (statedSecond s a) (statedSecond s b) && comesFirst (slotsByRank s (layoutTies a)) (slotsByRank s (layoutTies b)))))
 
 -- an accepted sheet, with areas long enough
 abbrev pub takesSheet : (sheet work out : List ℕ) → Type 0
