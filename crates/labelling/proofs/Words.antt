@@ -9,7 +9,7 @@ use lib.Dec.{ltb, eqb}
 use lib.ListN.{length, getD}
 use borrow.Author.Tests.{ltb-true, eqb-true, eqb-false, lt-ltb, eq-eqb}
 use Rattle.sheet.specs.Sheet.{all, kindOf, bits, Site, Sheet}
-use Rattle.labelling.specs.Layout.{tiedOf, tied, heightOf, siteShare, isUsed, usedFrom, usedOf, leftEnd, countOf, backbones, drops, lengthOf, brokenIn, tieWords, layoutWords, statedCount, statedLength, tiesIn, isTie, isLayout, brokenBy, isLawful, answerOf, layoutBody, layoutTies}
+use Rattle.labelling.specs.Layout.{tiedOf, tied, heightOf, siteShare, isUsed, usedFrom, usedOf, leftEnd, countOf, backbones, drops, lengthOf, brokenIn, tieWords, layoutWords, statedCount, statedLength, tiesIn, isTie, isLayout, brokenBy, isLawful, answerOf, layoutBody, layoutTies, wordsFor}
 use Rattle.labelling.specs.Promise.{areWords, same}
 use Rattle.lists.proofs.Tests.{by-test, and-l, and-r, and-i, eqb-self}
 use Rattle.sheet.proofs.Accepted.{Sound, lowY, lowN}
@@ -154,23 +154,23 @@ zero-broken b c l x y h p q = rw (eq-eqb b 0 h, eq-eqb x c p, eq-eqb y l q)
 
 -- A LAYOUT IN FORM, by its parts
 pub record Formed (s : Sheet) (b : List ℕ) : Type 0 where
-  pub long : length b ≡ length (s .sites) + 1
+  pub long : length b ≡ wordsFor s
   pub kind : kindOf (getD b 0 0) ≡ 8
   pub ties : all (isTie s) (layoutBody b) ≡ true
 
 pub formed : (s : Sheet) (b : List ℕ) → isLayout s b ≡ true → Formed s b
 formed s b h =
-    let p : Bool = eqb (length b) (length (s .sites) + 1) in
+    let p : Bool = eqb (length b) (wordsFor s) in
     let q : Bool = eqb (kindOf (getD b 0 0)) 8 in
     let r : Bool = all (isTie s) (layoutBody b) in
     record {
-      long = eqb-true (length b) (length (s .sites) + 1) (and-l p q (and-l (p && q) r h));
+      long = eqb-true (length b) (wordsFor s) (and-l p q (and-l (p && q) r h));
       kind = eqb-true (kindOf (getD b 0 0)) 8 (and-r p q (and-l (p && q) r h));
       ties = and-r (p && q) r h;
     }
 
 pub form : (s : Sheet) (b : List ℕ) → Formed s b → isLayout s b ≡ true
-form s b f = and-i (and-i (eq-eqb (length b) (length (s .sites) + 1) (f .long)) (eq-eqb (kindOf (getD b 0 0)) 8 (f .kind))) (f .ties)
+form s b f = and-i (and-i (eq-eqb (length b) (wordsFor s) (f .long)) (eq-eqb (kindOf (getD b 0 0)) 8 (f .kind))) (f .ties)
 
 -- its ties are one a site
 pub formed-long : (s : Sheet) (b : List ℕ) → Formed s b → length (layoutTies b) ≡ length (s .sites)

@@ -3,11 +3,11 @@
 use mathlib.Core.Bool.{Bool, true, false, _||_, not, cond}
 use mathlib.Core.List.{List, _++_}
 use mathlib.Core.Option.{Option, none, some}
-use Prim.Native.Nat.{ℕ, _+_}
+use Prim.Native.Nat.{ℕ}
 use lib.Dec.{ltb, eqb}
 use lib.ListN.{length, drop, replicate}
 use Rattle.sheet.specs.Sheet.{sheetIn, sheetFault, workFor}
-use Rattle.labelling.specs.Layout.{best, answer}
+use Rattle.labelling.specs.Layout.{best, answer, wordsFor}
 
 -- there is none
 abbrev pub isNone : Option (List ℕ) → Bool
@@ -20,12 +20,12 @@ abbrev pub makeFault : (sheet work out : List ℕ) → ℕ
 makeFault ws k o =
     cond (not (eqb (sheetFault ws) 0)) (sheetFault ws)
     (cond (ltb (length k) (workFor (sheetIn ws))) 8
-    (cond (ltb (length o) (length (sheetIn ws .sites) + 1)) 9 (cond (isNone (best (sheetIn ws))) 10 0)))
+    (cond (ltb (length o) (wordsFor (sheetIn ws))) 9 (cond (isNone (best (sheetIn ws))) 10 0)))
 
 -- the answer area afterwards: success puts the layout in its first n + 1 words
 abbrev pub makeAnswer : (sheet work out : List ℕ) → List ℕ
 makeAnswer ws k o =
-    cond (eqb (makeFault ws k o) 0) (answer (sheetIn ws) ++ drop (length (sheetIn ws .sites) + 1) o) o
+    cond (eqb (makeFault ws k o) 0) (answer (sheetIn ws) ++ drop (wordsFor (sheetIn ws)) o) o
 
 -- the work area afterwards: on success and on 10 the needed words are all zero and the rest is as before
 abbrev pub makeWork : (sheet work out : List ℕ) → List ℕ

@@ -220,10 +220,14 @@ layoutTies ws = tiesIn (layoutBody ws)
 abbrev pub isTie : Sheet → (word : ℕ) → Bool
 isTie s w = eqb (kindOf w) 9 && eqb (bits w 8 20) 0 && ltb (bits w 0 8) (length (s .slots))
 
+-- the number of a layout's words: n + 1
+abbrev pub wordsFor : Sheet → ℕ
+wordsFor s = length (s .sites) + 1
+
 -- a layout of a sheet, whoever wrote it: one word of kind 8, then one of kind 9 for each site
 abbrev pub isLayout : Sheet → (words : List ℕ) → Bool
 isLayout s ws =
-    eqb (length ws) (length (s .sites) + 1) && eqb (kindOf (getD ws 0 0)) 8 && all (isTie s) (layoutBody ws)
+    eqb (length ws) (wordsFor s) && eqb (kindOf (getD ws 0 0)) 8 && all (isTie s) (layoutBody ws)
 
 -- the least broken rule of a layout, or 0
 abbrev pub brokenBy : Sheet → (words : List ℕ) → ℕ
