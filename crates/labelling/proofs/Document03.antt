@@ -12,7 +12,7 @@ use lib.Dec.{ltb, leb, eqb}
 use lib.ListN.{length, getD, drop, replicate, length-append}
 use borrow.Author.Tests.{ltb-true, ltb-false, leb-true, eqb-true, eqb-false, lt-ltb, le-leb, eq-eqb, ne-eqb}
 use Rattle.sheet.specs.Sheet.{all, Sheet, rising, rankOf, sheetIn, sheetFault, workFor}
-use Rattle.labelling.specs.Layout.{Tied, tieAt, tied, apart, heightOf, isUsed, usedOf, leftEnd, colourKept, coloursOf, coloursKept, boundsKept, gapKept, gapsOf, gapsKept, verticalHas, missesAll, clearsAll, countOf, backbones, siteShare, drops, lengthOf, brokenIn, layoutWords, statedCount, statedLength, tiesIn, isLayout, brokenBy, nextRank, slotAt, byRank, comesFirst, isBetter, betterOf, bestOver, bestFrom, best, answer, answerBy, sheetPart, layoutPart, judgeFault, judged}
+use Rattle.labelling.specs.Layout.{tiesIn, Tied, tieAt, tied, apart, heightOf, isUsed, usedOf, leftEnd, colourKept, coloursOf, coloursKept, boundsKept, gapKept, gapsOf, gapsKept, verticalHas, missesAll, clearsAll, countOf, backbones, siteShare, drops, lengthOf, brokenIn, layoutWords, statedCount, statedLength, isLayout, brokenBy, nextRank, slotAt, byRank, comesFirst, isBetter, betterOf, bestOver, bestFrom, best, answer, answerBy, sheetPart, layoutPart, judgeFault, judged, layoutBody, layoutTies}
 use Rattle.labelling.specs.Entry.{isNone, makeFault, makeAnswer, makeWork}
 use Rattle.lists.proofs.Tests.{eqb-self, same-test, by-test, by-equal, and-l, and-r, and-i, or-e, tests}
 use Rattle.labelling.proofs.Members.{each, every, rise-at, all-used, used-head, used-tail, used-from, from-used, used-at, at-used, head-rise, tail-rise, used-rise}
@@ -349,9 +349,9 @@ answer-agrees s o = answer-by s (best s) ∙ ap (answerBy03 s) (best-agrees s o)
 pub verdict-agrees : (s : Sheet) → Sound s → (b : List ℕ) → isLayout s b ≡ true → brokenBy s b ≡ brokenBy03 s b
 verdict-agrees s o b h =
     let f : Formed s b = formed s b h in
-    let js : List ℕ = tiesIn (drop 1 b) in
+    let js : List ℕ = layoutTies b in
     ap₂ (λ (v l : ℕ). cond (not (eqb v 0)) v (cond (eqb (statedCount b) (countOf s js) && eqb (statedLength b) l) 0 6))
-    (broken-agrees s o js (formed-long s b f) (ties-low s (drop 1 b) (f .ties))) (length-agrees s js)
+    (broken-agrees s o js (formed-long s b f) (ties-low s (layoutBody b) (f .ties))) (length-agrees s js)
 
 pub fault-agrees : (ws k o : List ℕ) → makeFault ws k o ≡ makeFault03 ws k o
 fault-agrees ws k o =
