@@ -1,17 +1,17 @@
 -- Which of two comes first, without lists: at the leftmost site where they differ, the lower slot.
 -- Assumes nothing.
-use mathlib.Core.Path.{_≡_, refl, sym, _∙_, ap, ap₂, subst, subst⁻¹}
+use mathlib.Core.Path.{_≡_, refl, sym, _∙_, ap₂, subst, subst⁻¹}
 use mathlib.Core.Logic.{_⊎_, inl, inr}
-use mathlib.Core.Bool.{Bool, true, false, _&&_, _||_, not, true≢false, false≢true}
-use mathlib.Core.List.{List, [], _∷_, _++_}
-use Prim.Native.Nat.{ℕ, zero, suc, _+_, _*_, _-_, _≤_, _<_}
+use mathlib.Core.Bool.{Bool, true, false, not, false≢true}
+use mathlib.Core.List.{List, [], _∷_}
+use Prim.Native.Nat.{ℕ, zero, suc, _+_, _≤_, _<_}
 use native.Mathlib.Omega.{arith}
-use lib.Dec.{ltb, leb, eqb}
+use lib.Dec.{ltb, eqb}
 use lib.ListN.{length, getD, replicate}
-use borrow.Author.Tests.{ltb-true, ltb-false, leb-true, leb-false, eqb-true, eqb-false, lt-ltb, le-ltb, le-leb, lt-leb, eq-eqb, ne-eqb}
-use Rattle.sheet.specs.Sheet.{all, Site, Sheet, rankOf, rankTop, hasRank, ranksDiffer}
-use Rattle.labelling.specs.Layout.{Tied, tiedOf, tied, nextRank, slotAt, byRank, slotsByRank, comesFirst, firstNumber, secondNumber, isBetter}
-use Rattle.lists.proofs.Tests.{clash, by-test, and-l, and-r, and-i, or-e, or-l, or-r, is-false, is-true, not-f, tests, eqb-self}
+use borrow.Author.Tests.{ltb-true, ltb-false, eqb-true}
+use Rattle.sheet.specs.Sheet.{Site, Sheet, rankOf, rankTop, hasRank, ranksDiffer}
+use Rattle.labelling.specs.Layout.{tiedOf, tied, nextRank, slotAt, byRank, slotsByRank, comesFirst, firstNumber, secondNumber, isBetter}
+use Rattle.lists.proofs.Tests.{clash, by-test, and-l, and-r, or-e, or-l, or-r, is-false, not-f, tests, eqb-self}
 use Rattle.labelling.proofs.Order.{lexb, lex-true, lex-lt, lex-eq, first-asym}
 use Rattle.labelling.proofs.ByRank.{from, from-all, from-less, nextOf, next-sites, next-le, next-least, next-found}
 use Rattle.labelling.proofs.Members.{noSite}

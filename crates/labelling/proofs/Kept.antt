@@ -1,23 +1,22 @@
 -- The promises kept: BestOfAll, AreasKept, JudgedSo.
 -- Assumes nothing.
-use mathlib.Core.Path.{_≡_, refl, sym, _∙_, ap, ap₂, subst, subst⁻¹}
-use mathlib.Core.Logic.{_⊎_, inl, inr}
-use mathlib.Core.Bool.{Bool, true, false, _&&_, _||_, not, true≢false, false≢true, cond}
+use mathlib.Core.Path.{_≡_, refl, sym, _∙_, ap, ap₂, subst⁻¹}
+use mathlib.Core.Bool.{Bool, true, false, _||_, not, cond}
 use mathlib.Core.List.{List, [], _∷_, _++_}
 use mathlib.Core.Option.{Option, none, some}
-use Prim.Native.Nat.{ℕ, zero, suc, _+_, _*_, _-_, _/_, _%_, _^_, _≤_, _<_}
+use Prim.Native.Nat.{ℕ, suc, _+_, _≤_, _<_}
 use native.Mathlib.Omega.{arith}
-use lib.Dec.{ltb, leb, eqb}
+use lib.Dec.{ltb, eqb}
 use lib.ListN.{length, getD, take, drop, replicate, length-replicate}
 use lib.Seq.{take-at, drop-at, drop-append-seam}
-use borrow.Author.Tests.{ltb-true, ltb-false, leb-true, leb-false, eqb-true, eqb-false, lt-ltb, le-ltb, le-leb, lt-leb, eq-eqb, ne-eqb}
-use Rattle.sheet.specs.Sheet.{all, kindOf, hasSpare, inOrder, headIn, isHead, Site, Sheet, sheetIn, sheetFault, workFor}
-use Rattle.labelling.specs.Layout.{tiesIn, tieWords, slotsByRank, comesFirst, firstNumber, secondNumber, isBetter, best, answer, answerOf, answerBy, countOf, lengthOf, statedCount, statedLength, isLayout, isLawful, brokenBy, sheetPart, layoutPart, judgeFault, judged}
+use borrow.Author.Tests.{eqb-true, le-ltb, eq-eqb, ne-eqb}
+use Rattle.sheet.specs.Sheet.{kindOf, inOrder, Sheet, sheetIn, sheetFault, workFor}
+use Rattle.labelling.specs.Layout.{tiesIn, tieWords, slotsByRank, isBetter, best, answer, answerOf, answerBy, isLayout, isLawful, brokenBy, sheetPart, layoutPart}
 use Rattle.labelling.specs.Entry.{makeFault, makeAnswer, makeWork, isNone}
-use Rattle.labelling.specs.Promise.{areWords, same, statedFirst, statedSecond, isBeaten, takesSheet, begun, BestOfAll, AreasKept, JudgedSo}
-use Rattle.lists.proofs.Tests.{clash, by-test, and-l, and-r, and-i, or-e, or-l, or-r, is-false, is-true, not-f, not-e, tests, cond-t, cond-f, eqb-self}
+use Rattle.labelling.specs.Promise.{areWords, same, isBeaten, takesSheet, begun, BestOfAll, AreasKept, JudgedSo}
+use Rattle.lists.proofs.Tests.{clash, and-l, and-r, is-false, is-true}
 use Rattle.labelling.proofs.Order.{before}
-use Rattle.labelling.proofs.Best.{Obeys, IsBest, best-is, best-some, best-none, better-total}
+use Rattle.labelling.proofs.Best.{Obeys, IsBest, best-is, better-total}
 use Rattle.labelling.proofs.ByRank.{byRank-same}
 use Rattle.sheet.proofs.Accepted.{Sound, sound, low-x, Unrefused, unrefused, Step, step}
 use Rattle.labelling.proofs.Words.{Written, lawful-obeys, obeys-lawful, answer-words, answer-ties, answer-count, answer-length, same-self, Formed, formed, length-tieWords}

@@ -1,5 +1,6 @@
 pub mod Best
 pub mod ByRank
+pub mod Counted
 pub mod Earlier
 pub mod Examples
 pub mod Kept
@@ -7,6 +8,7 @@ pub mod Maker
 pub mod Members
 pub mod More
 pub mod Order
+pub mod Pairs
 pub mod Paper
 pub mod Rules
 pub mod Words

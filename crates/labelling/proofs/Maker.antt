@@ -1,20 +1,19 @@
 -- What a maker has to show, case by case, to meet makeFault, makeAnswer and makeWork.
 -- Assumes nothing.
-use mathlib.Core.Path.{_≡_, refl, sym, _∙_, ap, ap₂, subst, subst⁻¹}
+use mathlib.Core.Path.{_≡_, _∙_, ap, subst}
 use mathlib.Core.Logic.{_↔_}
-use mathlib.Core.Bool.{Bool, true, false, _&&_, _||_, not, true≢false, false≢true, cond}
-use mathlib.Core.List.{List, [], _∷_, _++_}
-use mathlib.Core.Option.{Option, none, some}
-use Prim.Native.Nat.{ℕ, zero, suc, _+_, _*_, _-_, _≤_, _<_}
+use mathlib.Core.Bool.{Bool, true, false, _||_, not, cond}
+use mathlib.Core.List.{List, [], _++_}
+use mathlib.Core.Option.{none, some}
+use Prim.Native.Nat.{ℕ, _+_, _≤_, _<_}
 use native.Mathlib.Omega.{arith}
-use lib.Dec.{ltb, leb, eqb}
-use lib.ListN.{length, getD, take, drop, replicate}
-use borrow.Author.Tests.{ltb-true, ltb-false, leb-true, leb-false, eqb-true, eqb-false, lt-ltb, le-ltb, le-leb, lt-leb, eq-eqb, ne-eqb}
+use lib.Dec.{ltb, eqb}
+use lib.ListN.{length, drop, replicate}
+use borrow.Author.Tests.{lt-ltb, le-ltb, eq-eqb, ne-eqb}
 use Rattle.sheet.specs.Sheet.{all, Sheet, sheetIn, isHead, inOrder, countsFit, rising, insideBy, ranksDiffer, productOf, sheetFault, workFor}
-use Rattle.labelling.specs.Layout.{isBetter, best, answer, answerOf, answerBy}
-use Rattle.labelling.specs.Entry.{makeFault, makeAnswer, makeWork, isNone}
+use Rattle.labelling.specs.Layout.{isBetter, best, answer, answerOf}
+use Rattle.labelling.specs.Entry.{makeFault, makeAnswer, makeWork}
 use Rattle.labelling.specs.Promise.{takesSheet}
-use Rattle.lists.proofs.Tests.{tests}
 use Rattle.labelling.proofs.Best.{Obeys, best-some, best-none}
 use Rattle.sheet.proofs.Accepted.{Sound, sound}
 use Rattle.labelling.proofs.Kept.{Called, called, best-unique, best-empty}

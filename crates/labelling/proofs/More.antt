@@ -1,21 +1,20 @@
 -- The left end of a used slot; the colours of an accepted sheet's sites; the examples in full.
 -- Assumes nothing.
-use mathlib.Core.Path.{_≡_, refl, sym, _∙_, ap, ap₂, subst, subst⁻¹}
-use mathlib.Core.Logic.{_⊎_, inl, inr}
-use mathlib.Core.Bool.{Bool, true, false, _&&_, _||_, not, true≢false, false≢true, cond}
+use mathlib.Core.Path.{_≡_, refl, subst, subst⁻¹}
+use mathlib.Core.Bool.{Bool, true, false, cond}
 use mathlib.Core.List.{List, [], _∷_, _++_}
-use Prim.Native.Nat.{ℕ, zero, suc, _+_, _*_, _-_, _≤_, _<_}
+use Prim.Native.Nat.{ℕ, suc, _+_, _-_, _≤_, _<_}
 use native.Mathlib.Omega.{arith}
-use lib.Dec.{ltb, leb, eqb}
+use lib.Dec.{ltb}
 use lib.ListN.{length, getD, drop, replicate}
-use borrow.Author.Tests.{ltb-true, ltb-false, leb-true, leb-false, eqb-true, eqb-false, lt-ltb, le-ltb, le-leb, lt-leb, eq-eqb, ne-eqb}
-use Rattle.sheet.specs.Sheet.{all, kindOf, hasSpare, inOrder, Site, Sheet, insideBy, slotsIn, sitesRun, coloursIn, sitesIn, siteIn, sheetIn, sheetFault, productOf, rising, rankOf, hasRank, ranksDiffer}
-use Rattle.labelling.specs.Layout.{Tied, tiedOf, tied, isUsed, usedFrom, leastX, leftEnd, slotsOf, boundsKept, backbones, siteShare, drops, tieWords, tiesIn, nextRank, slotAt, byRank, comesFirst, bestOver, bestFrom, sheetPart, judgeFault, layoutWords}
-use Rattle.labelling.specs.Entry.{makeFault, makeAnswer, makeWork}
+use borrow.Author.Tests.{ltb-true, ltb-false, leb-true, lt-ltb, eq-eqb, ne-eqb}
+use Rattle.sheet.specs.Sheet.{all, kindOf, inOrder, Site, Sheet, insideBy, slotsIn, sitesRun, coloursIn, sitesIn, sheetIn, sheetFault, productOf, rising, rankOf, hasRank, ranksDiffer}
+use Rattle.labelling.specs.Layout.{tiedOf, tied, isUsed, usedFrom, leastX, leftEnd, slotsOf, boundsKept, backbones, siteShare, drops, tieWords, tiesIn, nextRank, slotAt, byRank, comesFirst, bestOver, bestFrom, sheetPart, judgeFault, layoutWords}
+use Rattle.labelling.specs.Entry.{makeFault, makeAnswer}
 use Rattle.labelling.specs.Promise.{sheetA, a, boundZero}
-use Rattle.lists.proofs.Tests.{clash, by-test, and-l, and-r, and-i, or-e, or-l, or-r, is-false, is-true, not-f, tests, eqb-self}
-use Rattle.labelling.proofs.Members.{noSite, all-at, at-used, leastX-width, leastX-le, leastX-is}
-use Rattle.sheet.proofs.Accepted.{Sound, Unrefused, unrefused, Step, step}
+use Rattle.lists.proofs.Tests.{by-test, and-i}
+use Rattle.labelling.proofs.Members.{noSite, all-at, at-used, leastX-le, leastX-is}
+use Rattle.sheet.proofs.Accepted.{Sound, unrefused, Step, step}
 use Rattle.labelling.proofs.Earlier.{xAt}
 
 -- THE LEFT END of a used slot, one-sided: its leftmost site's x

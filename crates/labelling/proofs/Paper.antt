@@ -1,18 +1,18 @@
 -- Rule 3 as document 03 has it, by neighbours among the used slots, is rule 3 by pairs of tied sites. Assumes nothing but that the sheet is accepted.
-use mathlib.Core.Path.{_≡_, refl, sym, _∙_, ap, ap₂, subst, subst⁻¹}
+use mathlib.Core.Path.{_≡_, refl, subst}
 use mathlib.Core.Logic.{_⊎_, inl, inr}
-use mathlib.Core.Bool.{Bool, true, false, _&&_, _||_, not, true≢false, false≢true}
-use mathlib.Core.List.{List, [], _∷_, _++_}
-use Prim.Native.Nat.{ℕ, zero, suc, _+_, _*_, _-_, _≤_, _<_, min, max}
+use mathlib.Core.Bool.{Bool, true, _&&_, _||_, false≢true}
+use mathlib.Core.List.{List, [], _∷_}
+use Prim.Native.Nat.{ℕ, _+_, _-_, _≤_, _<_}
 use native.Mathlib.Omega.{arith}
 use lib.Dec.{ltb, leb, eqb}
 use lib.ListN.{length, getD}
-use borrow.Author.Tests.{ltb-true, ltb-false, leb-true, leb-false, eqb-true, eqb-false, lt-ltb, le-ltb, le-leb, lt-leb, eq-eqb, ne-eqb}
-use Rattle.sheet.specs.Sheet.{all, Site, Colour, Sheet, rising}
-use Rattle.labelling.specs.Layout.{Tied, tiedOf, tied, apart, heightOf, isUsed, usedFrom, usedOf, least, leastX, leftEnd, slotsOf, boundsKept, noColour, isFar, gapKept, gapsOf, gapsKept, isOver, verticalHas, misses, missesAll, clears, clearsAll, brokenIn}
-use Rattle.lists.proofs.Tests.{clash, by-test, and-l, and-r, and-i, or-e, or-l, or-r, is-false, is-true, not-f, not-e, tests, eqb-self}
-use Rattle.labelling.proofs.Members.{rise-at, all-at, at-all, all-used, used-all, used-head, used-tail, used-from, from-used, used-at, at-used, head-rise, tail-rise, used-rise, length-tied, tied-at, noSite, noTied}
-use Rattle.labelling.proofs.Best.{below, Obeys}
+use borrow.Author.Tests.{ltb-true, ltb-false, leb-true, eqb-true, eqb-false, le-leb, ne-eqb}
+use Rattle.sheet.specs.Sheet.{Sheet, rising}
+use Rattle.labelling.specs.Layout.{tieAt, tied, apart, heightOf, isUsed, usedOf, gapKept, gapsOf, gapsKept}
+use Rattle.lists.proofs.Tests.{by-test, and-l, and-r, and-i, or-e, tests}
+use Rattle.labelling.proofs.Members.{each, every, rise-at, all-used, used-head, used-tail, used-from, from-used, used-at, at-used, head-rise, tail-rise, used-rise}
+use Rattle.labelling.proofs.Best.{below}
 use Rattle.sheet.proofs.Accepted.{Sound}
 
 -- document 03's words
@@ -63,19 +63,6 @@ all-far s (j ∷ k ∷ ks) r f =
     (all-far s (k ∷ ks) (tail-rise j (k ∷ ks) r) λ a b u v. f a b (used-tail a j (k ∷ ks) u) (used-tail b j (k ∷ ks) v))
 
 module _ (s : Sheet) (o : Sound s) (js : List ℕ) (long : length js ≡ length (s .sites)) (low : below (length (s .slots)) js ≡ true) where
-  tie : ℕ → Tied
-  tie i = record { site = getD (s .sites) i noSite; slot = getD js i 0 }
-
-  each : (f : Tied → Bool) → all f (tied s js) ≡ true → (i : ℕ) → i < length js → f (tie i) ≡ true
-  unfolding tie
-  each f h i l =
-      subst (λ (t : Tied). f t ≡ true) (tied-at (s .sites) js i long) (all-at f noTied (tied s js) h i (omega (arith, length-tied (s .sites) js long)))
-
-  every : (f : Tied → Bool) → ((i : ℕ) → i < length js → f (tie i) ≡ true) → all f (tied s js) ≡ true
-  unfolding tie
-  every f h =
-      at-all f noTied (tied s js) λ i l. subst⁻¹ (λ (t : Tied). f t ≡ true) (tied-at (s .sites) js i long) (h i (omega (arith, length-tied (s .sites) js long)))
-
   up : (j k : ℕ) → j < k → isUsed k js ≡ true → heightOf s j < heightOf s k
   up j k h u = rise-at (s .slots) (o .rise) j k h (ltb-true k (length (s .slots)) (all-used (λ j. ltb j (length (s .slots))) js low k u))
 
@@ -83,21 +70,19 @@ module _ (s : Sheet) (o : Sound s) (js : List ℕ) (long : length js ≡ length 
   used-in k u = from-used k 0 (length (s .slots)) js (omega arith) (omega (arith, ltb-true k (length (s .slots)) (all-used (λ j. ltb j (length (s .slots))) js low k u))) u
 
   pub gaps-paper : gapsKept s (tied s js) ≡ true → gapsPaper s (usedOf s js) ≡ true
-  unfolding tie
   gaps-paper h = all-far s (usedOf s js) (used-rise 0 (length (s .slots)) js) λ j k u v l.
       pair j k l (used-from k 0 (length (s .slots)) js v .2) (at-used j js (used-from j 0 (length (s .slots)) js u .2)) (at-used k js (used-from k 0 (length (s .slots)) js v .2))
     where
       pair : (j k : ℕ) → j < k → isUsed k js ≡ true → (i : ℕ) × (i < length js) × (getD js i 0 ≡ j) → (i : ℕ) × (i < length js) × (getD js i 0 ≡ k) → heightOf s j + s .gap ≤ heightOf s k
       pair j k l u (a, ha, ea) (b, hb, eb) =
           let f : (eqb (getD js a 0) (getD js b 0) || leb (s .gap) (apart (heightOf s (getD js a 0)) (heightOf s (getD js b 0)))) ≡ true
-          = each (gapKept s (tie a)) (each (gapsOf s (tied s js)) h a ha) b hb in
+          = each s js long (gapKept s (tieAt s js a)) (each s js long (gapsOf s (tied s js)) h a (omega arith)) b (omega arith) in
           let g : leb (s .gap) (apart (heightOf s (getD js a 0)) (heightOf s (getD js b 0))) ≡ true = rw (ne-eqb (getD js a 0) (getD js b 0) (λ (e : getD js a 0 ≡ getD js b 0). omega arith)) at f in
           let q : leb (s .gap) (apart (heightOf s j) (heightOf s k)) ≡ true = rw (ea, eb) at g in
           omega (arith, leb-true (s .gap) (apart (heightOf s j) (heightOf s k)) q, up j k l u)
 
   pub paper-gaps : gapsPaper s (usedOf s js) ≡ true → gapsKept s (tied s js) ≡ true
-  unfolding tie
-  paper-gaps h = every (gapsOf s (tied s js)) λ a ha. every (gapKept s (tie a)) λ b hb. at a b ha hb
+  paper-gaps h = every s js long (gapsOf s (tied s js)) λ a ha. every s js long (gapKept s (tieAt s js a)) λ b hb. at a b (omega arith) (omega arith)
     where
       far : (a b : ℕ) → a < length js → b < length js → getD js a 0 < getD js b 0 → heightOf s (getD js a 0) + s .gap ≤ heightOf s (getD js b 0)
       far a b ha hb l = far-all s (usedOf s js) (o .gapped) (used-rise 0 (length (s .slots)) js) h (getD js a 0) (getD js b 0) (used-in (getD js a 0) (used-at js a ha)) (used-in (getD js b 0) (used-at js b hb)) l

@@ -1,18 +1,19 @@
 -- Rules 1 to 5 as statements about every site and every used slot, and `brokenIn s js ≡ 0` as all of them.
 -- Assumes nothing.
-use mathlib.Core.Path.{_≡_, refl, sym, _∙_, ap, ap₂, subst, subst⁻¹}
+use mathlib.Core.Path.{_≡_, refl, subst}
 use mathlib.Core.Logic.{_⊎_, inl, inr}
 use mathlib.Core.Bool.{Bool, true, false, _&&_, _||_, not, true≢false, false≢true, cond}
-use mathlib.Core.List.{List, [], _∷_, _++_}
-use Prim.Native.Nat.{ℕ, zero, suc, _+_, _*_, _-_, _≤_, _<_, min, max}
+use mathlib.Core.List.{List, [], _∷_}
+use Prim.Native.Nat.{ℕ, zero, suc, _+_, _≤_, _<_, min, max}
 use native.Mathlib.Omega.{arith}
 use lib.Dec.{ltb, leb, eqb}
 use lib.ListN.{length, getD}
-use borrow.Author.Tests.{ltb-true, ltb-false, leb-true, leb-false, eqb-true, eqb-false, lt-ltb, le-ltb, le-leb, lt-leb, eq-eqb, ne-eqb}
-use Rattle.sheet.specs.Sheet.{all, Site, Colour, Sheet, rising}
-use Rattle.labelling.specs.Layout.{Tied, tiedOf, tied, apart, heightOf, isUsed, usedFrom, usedOf, least, leastX, leftEnd, colourKept, coloursOf, coloursKept, slotsOf, boundsKept, noColour, isFar, gapKept, gapsOf, gapsKept, isOver, verticalHas, misses, missesAll, clears, clearsAll, brokenIn}
-use Rattle.lists.proofs.Tests.{clash, by-test, and-l, and-r, and-i, or-e, or-l, or-r, is-false, is-true, not-f, not-e, tests, eqb-self}
-use Rattle.labelling.proofs.Members.{all-at, at-all, all-used, used-all, used-head, used-tail, used-from, from-used, used-at, at-used, head-rise, tail-rise, used-rise, length-tied, tied-at, noSite, noTied}
+use borrow.Author.Tests.{ltb-true, leb-true, leb-false, eqb-true, eqb-false, le-leb, lt-leb, eq-eqb, ne-eqb}
+use Rattle.sheet.specs.Sheet.{all, Colour, Sheet}
+pub use Rattle.labelling.specs.Layout.{siteAt}
+use Rattle.labelling.specs.Layout.{tieAt, tied, apart, heightOf, isUsed, usedOf, least, leftEnd, colourKept, coloursOf, coloursKept, slotsOf, boundsKept, noColour, isFar, gapKept, gapsOf, gapsKept, verticalHas, misses, missesAll, counts, clears, clearsAll, brokenIn}
+use Rattle.lists.proofs.Tests.{by-test, and-l, and-r, and-i, or-e, is-false, not-f, not-e, tests}
+use Rattle.labelling.proofs.Members.{each, every, all-used, used-all, used-from, from-used}
 use Rattle.labelling.proofs.Best.{below, Obeys}
 
 -- THE CHAIN
@@ -47,10 +48,6 @@ pub unbroken : (s : Sheet) (js : List ℕ) → Kept s js → brokenIn s js ≡ 0
 unbroken s js k =
     unchain (coloursKept (tied s js)) (boundsKept s js 0 (s .colours)) (gapsKept s (tied s js)) (all (missesAll s js) (tied s js))
     (all (clearsAll s js) (tied s js)) (k .agree) (k .bounds) (k .gaps) (k .miss) (k .clear)
-
--- 1
-abbrev pub siteAt : Sheet → ℕ → Site
-siteAt s i = getD (s .sites) i noSite
 
 -- 2
 abbrev pub Bounded : Sheet → List ℕ → (colour : ℕ) → Colour → Type 0
@@ -88,14 +85,32 @@ each-bounds s js c (k ∷ ks) f =
 
 -- 4 and 5
 
+-- a vertical from y to a backbone at e misses the height h
+abbrev pub Miss : (h y e : ℕ) → Type 0
+Miss h y e = ((h < y) × (h < e)) ⊎ ((y < h) × (e < h))
+
+-- a site at x counts against a label with this left end: what the test `counts` says, and that it counts against one further left
+abbrev pub Counted : Sheet → (left x : ℕ) → Type 0
+Counted s e x = e ≤ x
+
+pub counts-e : (s : Sheet) (e x : ℕ) → counts s e x ≡ true → Counted s e x
+counts-e s e x h = leb-true e x h
+
+pub counts-i : (s : Sheet) (e x : ℕ) → Counted s e x → counts s e x ≡ true
+counts-i s e x h = le-leb e x h
+
+pub counted-left : (s : Sheet) (d e x : ℕ) → d ≤ e → Counted s e x → Counted s d x
+counted-left s d e x l h = omega arith
+
+-- RULES 1 to 5, for every site and every pair of sites, and for every site and every used slot
 pub record Rules (s : Sheet) (js : List ℕ) : Type 0 where
   pub one : (i j : ℕ) → i < length (s .sites) → j < length (s .sites) → getD js i 0 ≡ getD js j 0 → (siteAt s i) .colour ≡ (siteAt s j) .colour
   pub two : (c : ℕ) → c < length (s .colours) → Bounded s js c (getD (s .colours) c noColour)
   pub three : (i j : ℕ) → i < length (s .sites) → j < length (s .sites) → (getD js i 0 ≡ getD js j 0 → ⊥) →
       isFar s (getD js i 0) ((siteAt s i) .colour) (getD js j 0) ((siteAt s j) .colour) ≡ true
   pub four : (i k : ℕ) → i < length (s .sites) → isUsed k js ≡ true → (getD js i 0 ≡ k → ⊥) → leftEnd s js k ≤ (siteAt s i) .x →
-      (heightOf s k < (siteAt s i) .y × heightOf s k < heightOf s (getD js i 0)) ⊎ ((siteAt s i) .y < heightOf s k × heightOf s (getD js i 0) < heightOf s k)
-  pub five : (i k : ℕ) → i < length (s .sites) → isUsed k js ≡ true → (getD js i 0 ≡ k → ⊥) → leftEnd s js k ≤ (siteAt s i) .x →
+      Miss (heightOf s k) ((siteAt s i) .y) (heightOf s (getD js i 0))
+  pub five : (i k : ℕ) → i < length (s .sites) → isUsed k js ≡ true → (getD js i 0 ≡ k → ⊥) → Counted s (leftEnd s js k) ((siteAt s i) .x) →
       s .gap ≤ apart (heightOf s k) ((siteAt s i) .y)
 
 -- `least` is min
@@ -156,62 +171,41 @@ clear-i false true g f = f refl refl
 clear-i false false g f = refl
 
 module _ (s : Sheet) (js : List ℕ) (long : length js ≡ length (s .sites)) (low : below (length (s .slots)) js ≡ true) where
-  tie : ℕ → Tied
-  tie i = record { site = siteAt s i; slot = getD js i 0 }
-
-  each : (f : Tied → Bool) → all f (tied s js) ≡ true → (i : ℕ) → i < length (s .sites) → f (tie i) ≡ true
-  unfolding tie
-  each f h i l =
-      subst (λ (t : Tied). f t ≡ true) (tied-at (s .sites) js i long)
-      (all-at f noTied (tied s js) h i (omega (arith, length-tied (s .sites) js long)))
-
-  every : (f : Tied → Bool) → ((i : ℕ) → i < length (s .sites) → f (tie i) ≡ true) → all f (tied s js) ≡ true
-  unfolding tie
-  every f h =
-      at-all f noTied (tied s js) λ i l.
-      subst⁻¹ (λ (t : Tied). f t ≡ true) (tied-at (s .sites) js i long) (h i (omega (arith, length-tied (s .sites) js long)))
-
-  at : (i : ℕ) → getD (tied s js) i noTied ≡ tie i
-  unfolding tie
-  at i = tied-at (s .sites) js i long
-
   pub rules : 0 < s .gap → Kept s js → Rules s js
-  unfolding tie
   rules g k =
       record {
         one = λ i j l u e. eqb-true _ _
             (gap-e (not (eqb (getD js i 0) (getD js j 0))) (eqb ((siteAt s i) .colour) ((siteAt s j) .colour))
-            (each (colourKept (tie i)) (each (coloursOf (tied s js)) (k .agree) i l) j u) (rw (eq-eqb _ _ e)));
+            (each s js long (colourKept (tieAt s js i)) (each s js long (coloursOf (tied s js)) (k .agree) i l) j u) (rw (eq-eqb _ _ e)));
         two = λ c l. subst (λ (n : ℕ). Bounded s js n (getD (s .colours) c noColour)) (omega arith) (bounds-each s js 0 (s .colours) (k .bounds) c l);
         three = λ i j l u n. gap-e (eqb (getD js i 0) (getD js j 0)) (isFar s (getD js i 0) ((siteAt s i) .colour) (getD js j 0) ((siteAt s j) .colour))
-            (each (gapKept s (tie i)) (each (gapsOf s (tied s js)) (k .gaps) i l) j u) (ne-eqb _ _ n);
+            (each s js long (gapKept s (tieAt s js i)) (each s js long (gapsOf s (tied s js)) (k .gaps) i l) j u) (ne-eqb _ _ n);
         four = λ i j l u n e. over-false ((siteAt s i) .y) (heightOf s (getD js i 0)) (heightOf s j)
             (miss-e (eqb (getD js i 0) j) (leb (leftEnd s js j) ((siteAt s i) .x)) (verticalHas ((siteAt s i) .y) (heightOf s (getD js i 0)) (heightOf s j))
-            (all-used (misses s js (tie i)) (usedOf s js) (each (missesAll s js) (k .miss) i l) j (used-of s js j low u))
+            (all-used (misses s js (tieAt s js i)) (usedOf s js) (each s js long (missesAll s js) (k .miss) i l) j (used-of s js j low u))
             (ne-eqb (getD js i 0) j n) (le-leb (leftEnd s js j) ((siteAt s i) .x) e));
         five = λ i j l u n e. leb-true (s .gap) (apart (heightOf s j) ((siteAt s i) .y))
-            (clear-e (eqb (getD js i 0) j) (leb (leftEnd s js j) ((siteAt s i) .x)) (leb (s .gap) (apart (heightOf s j) ((siteAt s i) .y)))
-            (all-used (clears s js (tie i)) (usedOf s js) (each (clearsAll s js) (k .clear) i l) j (used-of s js j low u))
-            (ne-eqb (getD js i 0) j n) (le-leb (leftEnd s js j) ((siteAt s i) .x) e));
+            (clear-e (eqb (getD js i 0) j) (counts s (leftEnd s js j) ((siteAt s i) .x)) (leb (s .gap) (apart (heightOf s j) ((siteAt s i) .y)))
+            (all-used (clears s js (tieAt s js i)) (usedOf s js) (each s js long (clearsAll s js) (k .clear) i l) j (used-of s js j low u))
+            (ne-eqb (getD js i 0) j n) (counts-i s (leftEnd s js j) ((siteAt s i) .x) e));
       }
 
   pub rules-kept : Rules s js → Kept s js
-  unfolding tie
   rules-kept r =
       record {
-        agree = every (coloursOf (tied s js)) λ i l. every (colourKept (tie i)) λ j u.
+        agree = every s js long (coloursOf (tied s js)) λ i l. every s js long (colourKept (tieAt s js i)) λ j u.
             gap-i (not (eqb (getD js i 0) (getD js j 0))) (eqb ((siteAt s i) .colour) ((siteAt s j) .colour)) λ n. eq-eqb _ _ (r .one i j l u (eqb-true _ _ (not-e _ n)));
         bounds = each-bounds s js 0 (s .colours) λ i l. subst (λ (n : ℕ). Bounded s js n (getD (s .colours) i noColour)) (omega arith) (r .two i l);
-        gaps = every (gapsOf s (tied s js)) λ i l. every (gapKept s (tie i)) λ j u.
+        gaps = every s js long (gapsOf s (tied s js)) λ i l. every s js long (gapKept s (tieAt s js i)) λ j u.
             gap-i (eqb (getD js i 0) (getD js j 0)) (isFar s (getD js i 0) ((siteAt s i) .colour) (getD js j 0) ((siteAt s j) .colour)) λ n. r .three i j l u (eqb-false _ _ n);
-        miss = every (missesAll s js) λ i l. used-all (misses s js (tie i)) (usedOf s js) λ j u.
+        miss = every s js long (missesAll s js) λ i l. used-all (misses s js (tieAt s js i)) (usedOf s js) λ j u.
             miss-i (eqb (getD js i 0) j) (leb (leftEnd s js j) ((siteAt s i) .x)) (verticalHas ((siteAt s i) .y) (heightOf s (getD js i 0)) (heightOf s j))
             λ n e. over-none ((siteAt s i) .y) (heightOf s (getD js i 0)) (heightOf s j)
             (r .four i j l (of-used s js j u) (eqb-false (getD js i 0) j n) (leb-true (leftEnd s js j) ((siteAt s i) .x) e));
-        clear = every (clearsAll s js) λ i l. used-all (clears s js (tie i)) (usedOf s js) λ j u.
-            clear-i (eqb (getD js i 0) j) (leb (leftEnd s js j) ((siteAt s i) .x)) (leb (s .gap) (apart (heightOf s j) ((siteAt s i) .y)))
+        clear = every s js long (clearsAll s js) λ i l. used-all (clears s js (tieAt s js i)) (usedOf s js) λ j u.
+            clear-i (eqb (getD js i 0) j) (counts s (leftEnd s js j) ((siteAt s i) .x)) (leb (s .gap) (apart (heightOf s j) ((siteAt s i) .y)))
             λ n e. le-leb (s .gap) (apart (heightOf s j) ((siteAt s i) .y))
-            (r .five i j l (of-used s js j u) (eqb-false (getD js i 0) j n) (leb-true (leftEnd s js j) ((siteAt s i) .x) e));
+            (r .five i j l (of-used s js j u) (eqb-false (getD js i 0) j n) (counts-e s (leftEnd s js j) ((siteAt s i) .x) e));
       }
 
 -- `Obeys` and `Rules`

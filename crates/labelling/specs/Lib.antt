@@ -1,3 +1,5 @@
 pub mod Layout
+pub mod Pairs
+pub mod Counted
 pub mod Promise
 pub mod Entry

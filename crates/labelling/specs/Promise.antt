@@ -1,10 +1,10 @@
 -- What is promised of every sheet. Each promise is a type; a proof of the type is the theorem. Assumes nothing.
 use mathlib.Core.Path.{_≡_}
-use mathlib.Core.Bool.{Bool, true, false, _&&_, _||_, not, cond}
+use mathlib.Core.Bool.{Bool, true, false, _&&_, _||_, cond}
 use mathlib.Core.List.{List, [], _∷_, _++_}
 use mathlib.Core.Option.{Option, none, some}
-use Prim.Native.Nat.{ℕ, zero, suc, _+_, _*_, _-_, _/_, _%_, _≤_, _<_}
-use lib.Dec.{ltb, leb, eqb}
+use Prim.Native.Nat.{ℕ, _+_, _≤_}
+use lib.Dec.{ltb, eqb}
 use lib.ListN.{length, getD, take, drop, replicate}
 use Rattle.sheet.specs.Sheet.{Sheet, sheetIn, sheetFault, workFor}
 use Rattle.labelling.specs.Layout.{isLayout, isLawful, brokenBy, tiesIn, statedCount, statedLength, slotsByRank, comesFirst, best, answer, judgeFault, judged, layoutWords}
