@@ -22,8 +22,7 @@ use Rattle.labelling.specs.Promise.{takesSheet}
 use Rattle.lists.proofs.Tests.{is-false}
 use Rattle.labelling.specs.Layout.{isUsed}
 use Rattle.labelling.proofs.Members.{noSite, all-at, used-head, used-tail}
-use Rattle.sheet.proofs.Accepted.{Sound, sound}
-use Rattle.labelling.proofs.More.{colourLow, sites-coloured}
+use Rattle.sheet.proofs.Accepted.{Sound, sound, colourLow, sites-coloured}
 use Rattle.labelling.proofs.Words.{count-low, length-low}
 use Rattle.labelling.proofs.Maker.{First, best-some-iff, best-none-iff, Result, made, unmade, cleared}
 use Rattle.optimum.specs.Strips.{Point, Strip, Instance, rulesOf, stripsFrom, strips, labels, value, walked}
