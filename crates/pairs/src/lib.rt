@@ -1,13 +1,17 @@
-// Tests of a tied site beside another: what rules 1, 3, 4 and 5 ask of two sites, and whether a site leads its label.
+// Tests of a tied site beside another: what rules 1, 3, 4 and 5 ask of two sites, and which site is the first of its label.
 ghost use mathlib.Core.Path.{_≡_};
 ghost use Rattle.labelling.specs.Layout.{isOver, verticalHas};
-ghost use Rattle.pairs.specs.Pairs.{coloursPass, gapsPass, reaches, missesPass, clearsPass, leadsPass, leadsInPass, passes};
+ghost use Rattle.pairs.specs.Pairs.{coloursPass, gapsPass, startOf, missesPass, clearsPass, firstPass, firstInPass, passes};
+use drops::apart_of;
+use words::both;
+use words::choose;
+use words::either;
+use words::is_not;
+use words::same;
 
-use drops::{apart_of};
-use words::{both, choose, either, is_not, same};
-
-// A site with its colour, its slot and the slot's height.
+// A site with its number (from 1, the place of its tie in the layout), its colour, its slot and the slot's height.
 pub struct TiedSite {
+    pub number: usize,
     pub x: u32,
     pub y: u32,
     pub colour: usize,
@@ -29,8 +33,8 @@ pub enum Test {
     Gaps,
     Misses,
     Clears,
-    Leads,
-    LeadsIn(usize),
+    First,
+    FirstIn(usize),
 }
 
 // Rule 1.
@@ -49,12 +53,11 @@ fn gaps_pass(h: Head, t: TiedSite, u: TiedSite) -> bool
     either(same(t.slot, u.slot), far)
 }
 
-// Whether u shows that its label reaches t.
-fn reach(h: Head, t: TiedSite, u: TiedSite) -> bool
-    ensures { λ r. ⌜ r ≡ reaches h t u ⌝ }
+// The left end of u's label if u alone is on it.
+fn start_of(h: Head, u: TiedSite) -> u32
+    ensures { λ r. ⌜ r ≡ startOf h u ⌝ }
 {
-    let left = u.x <= t.x;
-    either(h.twosided, left)
+    choose(h.twosided, 0, u.x)
 }
 
 // Whether a height lies between two others, both included.
@@ -78,7 +81,8 @@ fn vertical_has(y: u32, end: u32, h: u32) -> bool
 fn misses_pass(h: Head, t: TiedSite, u: TiedSite) -> bool
     ensures { λ r. ⌜ r ≡ missesPass h t u ⌝ }
 {
-    let meets = both(reach(h, t, u), vertical_has(t.y, t.height, u.height));
+    let reached = start_of(h, u) <= t.x;
+    let meets = both(reached, vertical_has(t.y, t.height, u.height));
     either(same(t.slot, u.slot), is_not(meets))
 }
 
@@ -86,25 +90,26 @@ fn misses_pass(h: Head, t: TiedSite, u: TiedSite) -> bool
 fn clears_pass(h: Head, t: TiedSite, u: TiedSite) -> bool
     ensures { λ r. ⌜ r ≡ clearsPass h t u ⌝ }
 {
-    let far = h.gap <= apart_of(u.height, t.y);
-    either(either(same(t.slot, u.slot), is_not(reach(h, t, u))), far)
+    let counted = start_of(h, u) <= t.x;
+    let clear = h.gap <= apart_of(u.height, t.y);
+    either(either(same(t.slot, u.slot), is_not(counted)), clear)
 }
 
-// Whether u is not left of t on the same label.
-fn leads_pass(t: TiedSite, u: TiedSite) -> bool
-    ensures { λ r. ⌜ r ≡ leadsPass t u ⌝ }
+// Whether u does not come before t on the same slot.
+fn first_pass(t: TiedSite, u: TiedSite) -> bool
+    ensures { λ r. ⌜ r ≡ firstPass t u ⌝ }
 {
-    let left = u.x < t.x;
-    is_not(both(same(t.slot, u.slot), left))
+    let earlier = u.number < t.number;
+    is_not(both(earlier, same(t.slot, u.slot)))
 }
 
-// Whether t is of colour c, and u not one of that colour's sites left of t on the same slot.
-fn leads_in_pass(c: usize, t: TiedSite, u: TiedSite) -> bool
-    ensures { λ r. ⌜ r ≡ leadsInPass c t u ⌝ }
+// Whether t is of colour c, and u not one of that colour that comes before t on the same slot.
+fn first_in_pass(c: usize, t: TiedSite, u: TiedSite) -> bool
+    ensures { λ r. ⌜ r ≡ firstInPass c t u ⌝ }
 {
     let of = t.colour == c;
     let other = u.colour != c;
-    both(of, either(other, leads_pass(t, u)))
+    both(of, either(other, first_pass(t, u)))
 }
 
 pub fn pass(test: Test, h: Head, t: TiedSite, u: TiedSite) -> bool
@@ -115,7 +120,7 @@ pub fn pass(test: Test, h: Head, t: TiedSite, u: TiedSite) -> bool
         Test::Gaps => gaps_pass(h, t, u),
         Test::Misses => misses_pass(h, t, u),
         Test::Clears => clears_pass(h, t, u),
-        Test::Leads => leads_pass(t, u),
-        Test::LeadsIn(c) => leads_in_pass(c, t, u),
+        Test::First => first_pass(t, u),
+        Test::FirstIn(c) => first_in_pass(c, t, u),
     }
 }

@@ -12,36 +12,36 @@ use Rattle.pairs.proofs.clears_pass.Tie as tie
 use Rattle.pairs.proofs.clears_pass.Reads as reads
 use Rattle.pairs.proofs.clears_pass.Lts as lts
 use Rattle.drops.proofs.apart_of.Reads as apart-of-reads
-use Rattle.pairs.proofs.reach.Reads as reach-reads
+use Rattle.pairs.proofs.start_of.Reads as start-of-reads
 use Rattle.words.proofs.either.Reads as either-reads
 use Rattle.words.proofs.is_not.Reads as is-not-reads
 use Rattle.words.proofs.same.Reads as same-reads
 
--- src/lib.rt:100:24
+-- src/lib.rt:90:19
+start-of-requires : tie.Need-start-of-requires
+start-of-requires c κs = search needs
+
+-- src/lib.rt:91:26
 apart-of-requires : tie.Need-apart-of-requires
 apart-of-requires c κs = search needs
 
--- src/lib.rt:101:19
+-- src/lib.rt:92:19
 same-requires : tie.Need-same-requires
 same-requires c κs = search needs
 
--- src/lib.rt:101:48
-reach-requires : tie.Need-reach-requires
-reach-requires c κs = search needs
-
--- src/lib.rt:101:41
+-- src/lib.rt:92:41
 is-not-requires : tie.Need-is-not-requires
 is-not-requires c κs = search needs
 
--- src/lib.rt:101:12
+-- src/lib.rt:92:12
 either-requires : tie.Need-either-requires
 either-requires c κs = search needs
 
--- src/lib.rt:101:5
+-- src/lib.rt:92:5
 either-requires-2 : tie.Need-either-requires-2
 either-requires-2 c κs = search needs
 
--- src/lib.rt:97:1
+-- src/lib.rt:87:1
 returns : tie.Need-returns
 returns c = cc
 
@@ -49,9 +49,9 @@ pub clears-pass-spec : {M : Type 1} → statement M
 clears-pass-spec =
     tie.close
     (tie.spec
+    start-of-requires
     apart-of-requires
     same-requires
-    reach-requires
     is-not-requires
     either-requires
     either-requires-2

@@ -11,38 +11,38 @@ use Rattle.pairs.proofs.misses_pass.Statement.{statement}
 use Rattle.pairs.proofs.misses_pass.Tie as tie
 use Rattle.pairs.proofs.misses_pass.Reads as reads
 use Rattle.pairs.proofs.misses_pass.Lts as lts
-use Rattle.pairs.proofs.reach.Reads as reach-reads
+use Rattle.pairs.proofs.start_of.Reads as start-of-reads
 use Rattle.pairs.proofs.vertical_has.Reads as vertical-has-reads
 use Rattle.words.proofs.both.Reads as both-reads
 use Rattle.words.proofs.either.Reads as either-reads
 use Rattle.words.proofs.is_not.Reads as is-not-reads
 use Rattle.words.proofs.same.Reads as same-reads
 
--- src/lib.rt:92:22
-reach-requires : tie.Need-reach-requires
-reach-requires c κs = search needs
+-- src/lib.rt:81:19
+start-of-requires : tie.Need-start-of-requires
+start-of-requires c κs = search needs
 
--- src/lib.rt:92:38
+-- src/lib.rt:82:31
 vertical-has-requires : tie.Need-vertical-has-requires
 vertical-has-requires c κs = search needs
 
--- src/lib.rt:92:9
+-- src/lib.rt:82:9
 both-requires : tie.Need-both-requires
 both-requires c κs = search needs
 
--- src/lib.rt:93:12
+-- src/lib.rt:83:12
 same-requires : tie.Need-same-requires
 same-requires c κs = search needs
 
--- src/lib.rt:93:34
+-- src/lib.rt:83:34
 is-not-requires : tie.Need-is-not-requires
 is-not-requires c κs = search needs
 
--- src/lib.rt:93:5
+-- src/lib.rt:83:5
 either-requires : tie.Need-either-requires
 either-requires c κs = search needs
 
--- src/lib.rt:89:1
+-- src/lib.rt:78:1
 returns : tie.Need-returns
 returns c = cc
 
@@ -50,7 +50,7 @@ pub misses-pass-spec : {M : Type 1} → statement M
 misses-pass-spec =
     tie.close
     (tie.spec
-    reach-requires
+    start-of-requires
     vertical-has-requires
     both-requires
     same-requires

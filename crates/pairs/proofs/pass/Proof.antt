@@ -14,8 +14,8 @@ use Rattle.pairs.proofs.pass.Lts as lts
 use Rattle.pairs.proofs.clears_pass.Reads as clears-pass-reads
 use Rattle.pairs.proofs.colours_pass.Reads as colours-pass-reads
 use Rattle.pairs.proofs.gaps_pass.Reads as gaps-pass-reads
-use Rattle.pairs.proofs.leads_in_pass.Reads as leads-in-pass-reads
-use Rattle.pairs.proofs.leads_pass.Reads as leads-pass-reads
+use Rattle.pairs.proofs.first_in_pass.Reads as first-in-pass-reads
+use Rattle.pairs.proofs.first_pass.Reads as first-pass-reads
 use Rattle.pairs.proofs.misses_pass.Reads as misses-pass-reads
 
 -- src/lib.rt:125:26
@@ -55,16 +55,16 @@ enum-told-5 : tie.Need-enum-told-5
 enum-told-5 c = search needs
 
 -- src/lib.rt:129:24
-leads-pass-requires : tie.Need-leads-pass-requires
-leads-pass-requires c κs = search needs
+first-pass-requires : tie.Need-first-pass-requires
+first-pass-requires c κs = search needs
 
 -- src/lib.rt:130:23
 enum-known-test : tie.Need-enum-known-test
 enum-known-test c = search needs
 
 -- src/lib.rt:130:29
-leads-in-pass-requires : tie.Need-leads-in-pass-requires
-leads-in-pass-requires c κs = search needs
+first-in-pass-requires : tie.Need-first-in-pass-requires
+first-in-pass-requires c κs = search needs
 
 -- src/lib.rt:121:1
 returns : tie.Need-returns
@@ -89,12 +89,12 @@ returns-4 c =
 -- src/lib.rt:121:1
 returns-5 : tie.Need-returns-5
 returns-5 c =
-    rw (c .before .enum-told5 .given .1) (c .leads-pass .ensures)
+    rw (c .before .enum-told5 .given .1) (c .first-pass .ensures)
 
 -- src/lib.rt:121:1
 returns-6 : tie.Need-returns-6
 returns-6 c =
-    rw (c .before .before .test .given .1) (c .leads-in-pass .ensures)
+    rw (c .before .before .test .given .1) (c .first-in-pass .ensures)
 
 pub pass-spec : {M : Type 1} → statement M
 pass-spec =
@@ -109,9 +109,9 @@ pass-spec =
     enum-told-4
     clears-pass-requires
     enum-told-5
-    leads-pass-requires
+    first-pass-requires
     enum-known-test
-    leads-in-pass-requires
+    first-in-pass-requires
     returns
     returns-2
     returns-3
