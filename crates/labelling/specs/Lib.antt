@@ -1,4 +1,5 @@
 pub mod Layout
+pub mod Lawful
 pub mod Pairs
 pub mod Counted
 pub mod Promise

@@ -110,7 +110,7 @@ module _ (s : Sheet) (o : Sound s) (one : s .isTwoSided ≡ false) where
     obeys-steps b = (steps, pays-i (instanceOf s) (digitIn s) (isUnbounded s) (budgeted s) (pointsAt s (order s)) (gather js (order s)) _ (fullBudget s) (λ c u. enough c u), tips, turns)
       where
         r : Rules s js
-        r = obeys-rules s js (o .gapped) b
+        r = obeys-rules s js b
 
         p : AllInOrder s js
         p = rules-pairs s (o .inside) js long r

@@ -17,7 +17,8 @@ use Rattle.lists.proofs.Tests.{or-e}
 use Rattle.labelling.proofs.Members.{noSite, used-head, used-tail}
 use Rattle.sheet.proofs.Accepted.{Sound}
 use Rattle.labelling.proofs.Earlier.{rankAt}
-use Rattle.labelling.proofs.Pairs.{AllInOrder, start-one}
+use Rattle.labelling.proofs.LeftEnd.{start-one}
+use Rattle.labelling.proofs.Pairs.{AllInOrder}
 use Rattle.optimum.proofs.Pairs.{Pair, PairAll, Pairs}
 use Rattle.optimum.specs.OneSided.{farEnough, clearOf, xOf, pointAt, pointsAt, instanceOf}
 use Rattle.optimum.proofs.Order.{rank-x, x-rank, Rise, gather, same-site}
