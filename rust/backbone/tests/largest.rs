@@ -5,26 +5,9 @@ mod common;
 use backbone::{judge, make, read};
 use common::make_in_dirt;
 use model::maker;
-use model::random::Random;
+use model::random::{banded_sheet, Random};
 use model::rules;
-use model::sheet::{Sheet, Site};
-
-/// Colours lie in bands, so that there is a layout. Slots are 10 apart from 5 on, the gap is 3.
-fn banded_sheet(two_sided: bool, slots: u32, sites: u32, bounds: &[u32], seed: u64) -> Sheet {
-    let mut random = Random::new(seed);
-    let colours = bounds.len() as u32;
-    let columns = random.rising(sites as usize, 16383);
-    let height = 10 * slots;
-    let site = |(index, x): (usize, &u32)| {
-        let colour = index as u32 % colours;
-        let y = (colour * height + random.below(height)) / colours;
-        Site { x: *x, y, colour: colour as usize }
-    };
-    let mut sites: Vec<Site> = columns.iter().enumerate().map(site).collect();
-    sites.sort_by_key(|site| site.colour);
-    let slots = (0..slots).map(|slot| 10 * slot + 5).collect();
-    Sheet { two_sided, shortest: true, gap: 3, width: 16383, slots, bounds: bounds.to_vec(), sites }
-}
+use model::sheet::Sheet;
 
 /// Compares the library with the plain table, in dirty areas.
 fn compare(sheet: &Sheet, work_words: usize) {

@@ -142,6 +142,24 @@ pub fn medium_sheet(random: &mut Random) -> Sheet {
     sheet_of(shape, random)
 }
 
+/// A shortest sheet of any size that has a layout: each colour lies in a band of heights, and slots are 10 apart.
+pub fn banded_sheet(two_sided: bool, slots: u32, sites: u32, bounds: &[u32], seed: u64) -> Sheet {
+    const WIDTH: u32 = 600;
+    let mut random = Random::new(seed);
+    let colours = bounds.len() as u32;
+    let columns = random.rising(sites as usize, WIDTH);
+    let height = 10 * slots;
+    let site = |(index, x): (usize, &u32)| {
+        let colour = index as u32 % colours;
+        let y = (colour * height + random.below(height)) / colours;
+        Site { x: *x, y, colour: colour as usize }
+    };
+    let mut sites: Vec<Site> = columns.iter().enumerate().map(site).collect();
+    sites.sort_by_key(|site| site.colour);
+    let slots = (0..slots).map(|slot| 10 * slot + 5).collect();
+    Sheet { two_sided, shortest: true, gap: 3, width: WIDTH, slots, bounds: bounds.to_vec(), sites }
+}
+
 /// A word of one of the kinds, mostly of the right form and mostly with edges of the ranges.
 pub fn any_word(random: &mut Random) -> u32 {
     let number = |random: &mut Random| {
