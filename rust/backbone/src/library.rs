@@ -131,14 +131,7 @@ pub fn judge(stored: &[u32]) -> Result<Option<Rule>, Refusal> {
 pub fn make(sheet: &[u32], work: &mut [u32], answer: &mut [u32]) -> Result<(), Refusal> {
     // SAFETY: pointers and lengths are those of three slices that Rust keeps apart.
     let number = unsafe {
-        backbone_make(
-            sheet.as_ptr(),
-            sheet.len(),
-            work.as_mut_ptr(),
-            work.len(),
-            answer.as_mut_ptr(),
-            answer.len(),
-        )
+        backbone_make(sheet.as_ptr(), sheet.len(), work.as_mut_ptr(), work.len(), answer.as_mut_ptr(), answer.len())
     };
     refusal(number)
 }

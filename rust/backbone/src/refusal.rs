@@ -60,9 +60,7 @@ impl fmt::Display for Refusal {
             Refusal::SlotsNotRising => "slot heights are not strictly rising",
             Refusal::SiteBeyondWidth => "a site's x is above the width",
             Refusal::EqualX => "two sites have equal x",
-            Refusal::TooManyBudgets => {
-                "the product of bound plus one over the bounded colours is above 64"
-            }
+            Refusal::TooManyBudgets => "the product of bound plus one over the bounded colours is above 64",
             Refusal::WorkTooShort => "the work area is shorter than needed",
             Refusal::AnswerTooShort => "the answer area has fewer words than the sites and one",
             Refusal::NoLayout => "no layout obeys rules 1 to 5",

@@ -110,9 +110,7 @@ impl Word {
             Word::Slot { height } => 2 << 28 | height & 0x3FFF,
             Word::Colour { bound } => 3 << 28 | u32::from(bound),
             Word::Site { x, y } => 4 << 28 | (x & 0x3FFF) << COORDINATE_BITS | y & 0x3FFF,
-            Word::Layout { labels, length } => {
-                8 << 28 | (labels & 0x7F) << LENGTH_BITS | length & 0x1F_FFFF
-            }
+            Word::Layout { labels, length } => 8 << 28 | (labels & 0x7F) << LENGTH_BITS | length & 0x1F_FFFF,
             Word::Tie { slot } => 9 << 28 | u32::from(slot),
         }
     }

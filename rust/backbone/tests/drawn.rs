@@ -2,7 +2,7 @@
 
 mod common;
 
-use backbone::{judge, Rule, Layout, Refusal};
+use backbone::{judge, Layout, Refusal, Rule};
 use common::{make_in_dirt, make_in_enough, SHEET_A};
 use model::random::Random;
 

@@ -52,5 +52,4 @@ fn stored_sheets_are_judged_alike() {
     for refusal in [1, 2, 4, 5, 6, 7, 11] {
         assert!(refusals_met[refusal] > STORED_SHEETS / 2000, "{refusals_met:?}");
     }
-
 }

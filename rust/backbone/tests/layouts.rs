@@ -51,9 +51,7 @@ impl Met {
         let y = |i: usize| sheet.sites[i].y;
         let level = |i: usize| (0..i).any(|j| y(i) == y(j));
         let own = |colour: usize| sheet.sites.iter().filter(|site| site.colour == colour).count();
-        let binds = |(colour, bound): (usize, &u32)| {
-            *bound != UNBOUNDED && *bound > 1 && own(colour) > *bound as usize
-        };
+        let binds = |(colour, bound): (usize, &u32)| *bound != UNBOUNDED && *bound > 1 && own(colour) > *bound as usize;
         self.equal_y += usize::from((0..sheet.sites.len()).any(level));
         self.bound_shared += usize::from(sheet.bounds.iter().enumerate().any(binds));
         self.site_on_slot += usize::from(sheet.sites.iter().any(|site| sheet.slots.contains(&site.y)));

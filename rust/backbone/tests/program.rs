@@ -19,10 +19,8 @@ const INPUTS: usize = 200_000;
 const PATIENCE: Duration = Duration::from_secs(20);
 
 fn path() -> PathBuf {
-    let path = std::env::var_os("BACKBONE_PROGRAM").map_or_else(
-        || PathBuf::from(env!("CARGO_MANIFEST_DIR")).join("../../target/bin/backbones"),
-        PathBuf::from,
-    );
+    let path = std::env::var_os("BACKBONE_PROGRAM")
+        .map_or_else(|| PathBuf::from(env!("CARGO_MANIFEST_DIR")).join("../../target/bin/backbones"), PathBuf::from);
     assert!(path.exists(), "{} is missing: run `rt check backbones`", path.display());
     path
 }
@@ -76,12 +74,8 @@ impl Runner {
 }
 
 fn with_runner(act: impl FnOnce(&Runner)) {
-    let runner = Runner {
-        path: path(),
-        running: Mutex::new(None),
-        runs: AtomicUsize::new(0),
-        done: AtomicBool::new(false),
-    };
+    let runner =
+        Runner { path: path(), running: Mutex::new(None), runs: AtomicUsize::new(0), done: AtomicBool::new(false) };
     std::thread::scope(|scope| {
         scope.spawn(|| runner.end_runs_that_hang());
         // Ends the second thread even if an assertion fails.
@@ -132,9 +126,9 @@ fn random_bytes() {
             let input = any_input(&mut random);
             let expected = prints(&input);
             assert_eq!(runner.run(&input).as_deref(), Ok(&expected[..]), "{input:x?}");
-            let refusal = expected.strip_prefix("refused ").map_or(0, |number| {
-                number.trim_end().parse::<usize>().expect("a refusal has a number")
-            });
+            let refusal = expected
+                .strip_prefix("refused ")
+                .map_or(0, |number| number.trim_end().parse::<usize>().expect("a refusal has a number"));
             met[refusal] += 1;
         }
         // All answers but 9, which 33 answer words shut out, and 11, which is the judge's.
@@ -168,7 +162,7 @@ fn inputs_that_are_no_list_of_words() {
 #[test]
 fn sheets_on_both_sides_of_the_work_area() {
     with_runner(|runner| {
-        let slots: Vec<u32> = (0..6).map(|slot| 2 << 28 | 10 * slot).collect();
+        let slots: Vec<u32> = (0..6).map(|slot| (2 << 28) | (10 * slot)).collect();
         let sheet = |colours: &[u32], sites: u32| {
             let sites: Vec<u32> = (0..sites).map(|x| 4 << 28 | x << 14 | 5).collect();
             [&[0x10004030], &slots[..], colours, &sites].concat()

@@ -113,19 +113,31 @@ impl<'a> Program<'a> {
     fn weight(&self) -> u32 {
         let deepest = self.sheet.slots.iter().chain(self.sheet.sites.iter().map(|site| &site.y)).max();
         let longest = (self.sheet.width + deepest.unwrap_or(&0)) * self.sheet.sites.len() as u32;
-        if self.sheet.shortest { self.sheet.sites.len() as u32 + 1 } else { longest + 1 }
+        if self.sheet.shortest {
+            self.sheet.sites.len() as u32 + 1
+        } else {
+            longest + 1
+        }
     }
 
     /// The count and the length in an objective.
     fn numbers(&self, objective: f64) -> (u32, u32) {
         let whole = objective.round() as u32;
         let (first, second) = (whole / self.weight(), whole % self.weight());
-        if self.sheet.shortest { (second, first) } else { (first, second) }
+        if self.sheet.shortest {
+            (second, first)
+        } else {
+            (first, second)
+        }
     }
 
     /// What a label and what a length weigh.
     fn weights(&self) -> (u32, u32) {
-        if self.sheet.shortest { (1, self.weight()) } else { (self.weight(), 1) }
+        if self.sheet.shortest {
+            (1, self.weight())
+        } else {
+            (self.weight(), 1)
+        }
     }
 
     /// The variable that says that a label is open at a slot; two-sided backbones are open from the start.
@@ -222,10 +234,8 @@ impl<'a> Program<'a> {
                     *slot != other && (y.min(end)..=y.max(end)).contains(height)
                 };
                 // At most one of these ties, so one row serves for all of them.
-                let ties: String = (0..self.sheet.slots.len())
-                    .filter(beyond)
-                    .map(|slot| format!(" + tie_{site}_{slot}"))
-                    .collect();
+                let ties: String =
+                    (0..self.sheet.slots.len()).filter(beyond).map(|slot| format!(" + tie_{site}_{slot}")).collect();
                 if !ties.is_empty() {
                     let _ = writeln!(self.text, " {open}{ties} <= 1");
                 }

@@ -18,7 +18,7 @@ use timing::{race, show, timed};
 /// A search over more layouts is not begun.
 const MOST_LAYOUTS: f64 = 2e7;
 
-/// The areas that both makers are given.
+/// The areas that both makers are given. They are written to, so that no rival pays for fresh memory.
 struct Areas {
     work: Vec<u32>,
     answer: Vec<u32>,
@@ -26,7 +26,7 @@ struct Areas {
 
 impl Areas {
     fn of(sheet: &Sheet) -> Areas {
-        Areas { work: vec![0; sheet.work_words() as usize], answer: vec![0; sheet.sites.len() + 1] }
+        Areas { work: vec![1; sheet.work_words() as usize], answer: vec![1; sheet.sites.len() + 1] }
     }
 }
 
@@ -129,7 +129,9 @@ fn print_judges(named: &[Named]) {
 
 fn main() {
     println!("{}\n", machine::heading());
-    println!("Each time is the least of several runs, library and Rust by turns; runs of a second or more are made once.");
+    println!(
+        "Each time is the least of several runs, library and Rust by turns; runs of a second or more are made once."
+    );
     println!("The integer programs give the cost alone, not the first of the equals; their times have the solver's start in them.\n");
     let solvers = Solver::installed();
     let named = sheets::dozen();

@@ -2,9 +2,12 @@
 
 use std::time::{Duration, Instant};
 
-const ROUNDS: usize = 7;
-/// Calls of one round take about this long together.
-const ROUND: Duration = Duration::from_millis(30);
+const MOST_ROUNDS: usize = 60;
+const FEWEST_ROUNDS: usize = 3;
+/// Calls of one round take about this long together: short, so that some rounds are not interrupted.
+const ROUND: Duration = Duration::from_millis(2);
+/// After this long no further round is begun.
+const ENOUGH: Duration = Duration::from_secs(2);
 /// A call that takes this long is not repeated.
 const LONG: Duration = Duration::from_secs(1);
 
@@ -21,7 +24,11 @@ pub fn race(mut first: impl FnMut(), mut second: impl FnMut()) -> (Duration, Dur
         return (once, other);
     }
     let mut least = (Duration::MAX, Duration::MAX);
-    for _ in 0..ROUNDS {
+    let start = Instant::now();
+    for round in 0..MOST_ROUNDS {
+        if round >= FEWEST_ROUNDS && start.elapsed() > ENOUGH {
+            break;
+        }
         least.0 = least.0.min(one_of_many(&mut first, once));
         least.1 = least.1.min(one_of_many(&mut second, other));
     }

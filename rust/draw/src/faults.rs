@@ -40,9 +40,8 @@ fn mixed_sites(sheet: &Sheet, labels: &[Label]) -> Vec<Fault> {
 
 fn labels_above_bound(sheet: &Sheet, labels: &[Label]) -> Vec<Fault> {
     let count = |colour: usize| labels.iter().filter(|label| label.colour == colour).count();
-    let above = |label: &&Label| {
-        sheet.bounds()[label.colour].is_some_and(|bound| count(label.colour) > usize::from(bound))
-    };
+    let above =
+        |label: &&Label| sheet.bounds()[label.colour].is_some_and(|bound| count(label.colour) > usize::from(bound));
     labels.iter().filter(above).map(|label| Fault::Label { slot: label.slot }).collect()
 }
 
@@ -76,9 +75,7 @@ fn crossings(sheet: &Sheet, layout: &Layout, labels: &[Label]) -> Vec<Fault> {
 }
 
 fn near_sites(sheet: &Sheet, layout: &Layout, labels: &[Label]) -> Vec<Fault> {
-    let near = |(site, label): &(usize, &Label)| {
-        sheet.sites()[*site].y.abs_diff(label.height) < sheet.gap()
-    };
+    let near = |(site, label): &(usize, &Label)| sheet.sites()[*site].y.abs_diff(label.height) < sheet.gap();
     let mark = |(site, label): (usize, &Label)| Fault::Near { site, height: label.height };
     foreign(sheet, layout, labels).filter(near).map(mark).collect()
 }

@@ -49,9 +49,6 @@ pub fn rounded_picture(words: &[u32]) -> Result<String, Refusal> {
         points(rounded.length)
     );
     let second = Plan::of_layout(best.sheet.clone(), rounded);
-    let panels = [
-        Panel { plan: &best, title: Some(best_title) },
-        Panel { plan: &second, title: Some(rounded_title) },
-    ];
+    let panels = [Panel { plan: &best, title: Some(best_title) }, Panel { plan: &second, title: Some(rounded_title) }];
     Ok(document(&panels, None))
 }

@@ -16,9 +16,8 @@ fn main() -> ExitCode {
     let drawn = match arguments[..] {
         ["--all", folder] => all(folder).map(|()| String::new()),
         ["--rounded", file] => words(file).and_then(|words| named(file, draw::rounded_picture(&words))),
-        ["--background", behind, file] => text(behind).and_then(|behind| {
-            words(file).and_then(|words| named(file, draw::picture(&words, Some(&behind))))
-        }),
+        ["--background", behind, file] => text(behind)
+            .and_then(|behind| words(file).and_then(|words| named(file, draw::picture(&words, Some(&behind))))),
         [file] if !file.starts_with('-') => words(file).and_then(|words| named(file, draw::picture(&words, None))),
         _ => {
             eprintln!("{USAGE}");

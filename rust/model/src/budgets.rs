@@ -34,7 +34,7 @@ impl Budgets {
         let mut place = 1;
         for (colour, bound) in sheet.bounds.iter().enumerate() {
             let radix = if *bound == UNBOUNDED { 1 } else { *bound as usize + 1 };
-            let allows = |budget: usize| *bound == UNBOUNDED || budget / place % radix > 0;
+            let allows = |budget: usize| *bound == UNBOUNDED || !(budget / place).is_multiple_of(radix);
             let mask = (0..count).filter(|budget| allows(*budget)).map(|budget| 1 << budget);
             budgets.allowing[colour] = mask.sum();
             budgets.draw[colour] = if *bound == UNBOUNDED { 0 } else { place };

@@ -13,6 +13,7 @@ mod budgets;
 mod costs;
 pub mod maker;
 mod one_sided;
+mod places;
 pub mod program;
 pub mod random;
 pub mod rules;

@@ -1,18 +1,13 @@
 //! One-sided sheets: sites are tied by rising x; open labels part the page into strips, and the table has the
 //! least cost of the rest of each strip within each budget.
-//!
-//! Places number the slots from 1; place 0 is the top edge and the place after the last slot the bottom edge.
-//! Tints number the colours from 1; tint 0 is an edge's.
 
 use crate::budgets::{Budgets, Row, MOST};
 use crate::costs::{Aim, NONE};
-use crate::sheet::{Sheet, Site, MOST_SITES, MOST_SLOTS};
+use crate::places::{heights, PLACES};
+use crate::sheet::{Sheet, Site, MOST_SITES};
 
-/// Further than any height and gap reach.
-const FAR: i32 = 1 << 20;
 /// In the first word of a strip: the root reaches it.
 const MARK: u32 = 1;
-const PLACES: usize = MOST_SLOTS + 2;
 
 /// Two neighbouring open labels, or edges.
 #[derive(Clone, Copy)]
@@ -59,11 +54,7 @@ impl<'a> Maker<'a> {
     fn new(sheet: &'a Sheet, order: &[usize]) -> Maker<'a> {
         let budgets = Budgets::with_shares(sheet);
         let (bottom, tints) = (sheet.slots.len() + 1, sheet.bounds.len() + 1);
-        let mut heights = [FAR; PLACES];
-        heights[0] = -FAR;
-        for (slot, height) in sheet.slots.iter().enumerate() {
-            heights[slot + 1] = *height as i32;
-        }
+        let heights = heights(sheet);
         let gap = sheet.gap as i32;
         let mut after = [bottom; PLACES];
         let mut before = [1; PLACES];
@@ -130,10 +121,7 @@ impl<'a> Maker<'a> {
     }
 
     fn parts(strip: Strip, place: usize, tint: usize) -> (Strip, Strip) {
-        (
-            Strip { below: place, below_tint: tint, ..strip },
-            Strip { above: place, above_tint: tint, ..strip },
-        )
+        (Strip { below: place, below_tint: tint, ..strip }, Strip { above: place, above_tint: tint, ..strip })
     }
 
     /// Every strip, one after the other.
@@ -232,14 +220,7 @@ impl<'a> Maker<'a> {
     }
 
     /// The entries of a strip that holds the site.
-    fn fill_row(
-        &self,
-        site: &Site,
-        strip: Strip,
-        open_costs: &[u32; PLACES],
-        next: &[u32],
-        row: &mut [u32],
-    ) {
+    fn fill_row(&self, site: &Site, strip: Strip, open_costs: &[u32; PLACES], next: &[u32], row: &mut [u32]) {
         let count = self.budgets.count;
         let steps = self.steps(site, strip);
         let joined = &next[self.entries(strip)..][..count];
@@ -295,14 +276,7 @@ impl<'a> Maker<'a> {
     }
 
     /// The lowest place whose step keeps the least cost, and the cost of that step.
-    fn first_step(
-        &self,
-        site: &Site,
-        open: &[usize; PLACES],
-        budget: usize,
-        left: u32,
-        next: &[u32],
-    ) -> (usize, u32) {
+    fn first_step(&self, site: &Site, open: &[usize; PLACES], budget: usize, left: u32, next: &[u32]) -> (usize, u32) {
         let (strip, others) = self.part_page(site, open, next);
         let steps = self.steps(site, strip);
         let tint = site.colour + 1;
@@ -334,17 +308,17 @@ impl<'a> Maker<'a> {
         let mut strip = self.root();
         let mut holder = strip;
         let mut others = [0; MOST];
-        for place in 1..=self.bottom {
-            if place < self.bottom && open[place] == 0 {
+        for (place, tint) in open.iter().enumerate().take(self.bottom + 1).skip(1) {
+            if place < self.bottom && *tint == 0 {
                 continue;
             }
-            strip = Strip { below: place, below_tint: open[place], ..strip };
+            strip = Strip { below: place, below_tint: *tint, ..strip };
             if strip.above <= split && split < strip.below {
                 holder = strip;
             } else {
                 others = self.together(&others, &self.row(strip, next));
             }
-            strip = Strip { above: place, above_tint: open[place], ..strip };
+            strip = Strip { above: place, above_tint: *tint, ..strip };
         }
         (holder, others)
     }

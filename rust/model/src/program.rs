@@ -9,7 +9,7 @@ pub const WORK_WORDS: usize = 16384;
 pub const ANSWER_WORDS: usize = 33;
 
 pub fn prints(bytes: &[u8]) -> String {
-    if bytes.len() > MOST_BYTES || bytes.len() % 4 != 0 {
+    if bytes.len() > MOST_BYTES || !bytes.len().is_multiple_of(4) {
         return "refused 12\n".to_string();
     }
     let word = |four: &[u8]| u32::from_le_bytes([four[0], four[1], four[2], four[3]]);

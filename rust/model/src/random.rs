@@ -114,8 +114,26 @@ fn bounds(colours: usize, random: &mut Random) -> Vec<u32> {
 /// A sheet small enough for a search over all layouts (at most 1,296 of them).
 pub fn small_sheet(random: &mut Random) -> Sheet {
     let (slots, sites) = random.pick(&[
-        (0, 0), (0, 2), (1, 3), (2, 4), (2, 6), (2, 8), (3, 2), (3, 4), (3, 5), (3, 6), (4, 3), (4, 4), (4, 5),
-        (5, 3), (5, 4), (6, 3), (6, 4), (8, 2), (8, 3), (5, 0),
+        (0, 0),
+        (0, 2),
+        (1, 3),
+        (2, 4),
+        (2, 6),
+        (2, 8),
+        (3, 2),
+        (3, 4),
+        (3, 5),
+        (3, 6),
+        (4, 3),
+        (4, 4),
+        (4, 5),
+        (5, 3),
+        (5, 4),
+        (6, 3),
+        (6, 4),
+        (8, 2),
+        (8, 3),
+        (5, 0),
     ]);
     let scale = random.pick(&[1, 1, 1, 1, 7, 800]);
     let shape = Shape {
@@ -162,15 +180,13 @@ pub fn banded_sheet(two_sided: bool, slots: u32, sites: u32, bounds: &[u32], see
 
 /// A word of one of the kinds, mostly of the right form and mostly with edges of the ranges.
 pub fn any_word(random: &mut Random) -> u32 {
-    let number = |random: &mut Random| {
-        random.pick(&[0, 1, 2, 3, 7, 8, 63, 64, 254, 255, 4095, 16382, 16383])
-    };
+    let number = |random: &mut Random| random.pick(&[0, 1, 2, 3, 7, 8, 63, 64, 254, 255, 4095, 16382, 16383]);
     match random.below(8) {
         0 => random.word(),
         1 => random.below(16) << 28 | random.below(64),
-        2 => 1 << 28 | random.below(4) << 26 | number(random) % 4096 << 14 | number(random),
+        2 => 1 << 28 | random.below(4) << 26 | (number(random) % 4096) << 14 | number(random),
         3 => 2 << 28 | number(random),
-        4 => 3 << 28 | number(random) % 256,
+        4 => (3 << 28) | (number(random) % 256),
         5 => 4 << 28 | number(random) << 14 | number(random),
         6 => 8 << 28 | random.below(5) << 21 | random.below(64),
         _ => 9 << 28 | random.below(6),

@@ -27,11 +27,8 @@ impl<'a> Ties<'a> {
     /// Sites that share a slot share a colour.
     fn obeys_1(&self) -> bool {
         let sites = &self.sheet.sites;
-        (0..sites.len()).all(|i| {
-            (0..i).all(|j| {
-                self.slot_of[i] != self.slot_of[j] || sites[i].colour == sites[j].colour
-            })
-        })
+        (0..sites.len())
+            .all(|i| (0..i).all(|j| self.slot_of[i] != self.slot_of[j] || sites[i].colour == sites[j].colour))
     }
 
     /// No colour uses more slots than its bound.
@@ -48,9 +45,7 @@ impl<'a> Ties<'a> {
     /// Any two used slots are at least the gap apart.
     fn obeys_3(&self) -> bool {
         let height = |slot: usize| self.sheet.slots[slot];
-        self.used().all(|(a, _)| {
-            self.used().all(|(b, _)| a == b || height(a).abs_diff(height(b)) >= self.sheet.gap)
-        })
+        self.used().all(|(a, _)| self.used().all(|(b, _)| a == b || height(a).abs_diff(height(b)) >= self.sheet.gap))
     }
 
     /// No vertical shares a point with the backbone of another label.

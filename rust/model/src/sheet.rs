@@ -112,11 +112,9 @@ fn parse_rest(words: &[u32], sheet: &mut Sheet) -> Result<(), u8> {
         match word >> 28 {
             2 if sheet.bounds.is_empty() && low < 1 << 14 => sheet.slots.push(low),
             3 if low < 1 << 8 => sheet.bounds.push(low),
-            4 if !sheet.bounds.is_empty() => sheet.sites.push(Site {
-                x: low >> 14,
-                y: low & 0x3FFF,
-                colour: sheet.bounds.len() - 1,
-            }),
+            4 if !sheet.bounds.is_empty() => {
+                sheet.sites.push(Site { x: low >> 14, y: low & 0x3FFF, colour: sheet.bounds.len() - 1 })
+            }
             _ => return Err(2),
         }
     }
@@ -125,10 +123,7 @@ fn parse_rest(words: &[u32], sheet: &mut Sheet) -> Result<(), u8> {
 
 /// Refusals 3 to 7, in their order.
 fn refuse_numbers(sheet: &Sheet) -> Result<(), u8> {
-    if sheet.slots.len() > MOST_SLOTS
-        || sheet.bounds.len() > MOST_COLOURS
-        || sheet.sites.len() > MOST_SITES
-    {
+    if sheet.slots.len() > MOST_SLOTS || sheet.bounds.len() > MOST_COLOURS || sheet.sites.len() > MOST_SITES {
         return Err(3);
     }
     if sheet.slots.windows(2).any(|pair| pair[0] >= pair[1]) {

@@ -1,16 +1,12 @@
 //! Two-sided sheets: every backbone runs from edge to edge, so a layout is a chain of labels read downwards, and
 //! each site goes to the label next above or next below it.
-//!
-//! Places and tints are numbered as on one-sided sheets.
 
 use crate::budgets::Budgets;
 use crate::costs::{Aim, NONE};
-use crate::sheet::{Sheet, MOST_SITES, MOST_SLOTS};
+use crate::places::{heights, FAR, PLACES};
+use crate::sheet::{Sheet, MOST_SITES};
 
-const FAR: i32 = 1 << 20;
-const PLACES: usize = MOST_SLOTS + 2;
-
-/// A site with the lowest and the highest place that it may be tied to.
+/// A site with the last place that it may be tied to.
 #[derive(Clone, Copy, Default)]
 struct Capped {
     y: i32,
@@ -52,11 +48,7 @@ pub fn best(sheet: &Sheet, order: &[usize], work: &mut [u32]) -> Option<(u32, [u
 impl<'a> Maker<'a> {
     fn new(sheet: &'a Sheet, by_y: &[usize]) -> Maker<'a> {
         let bottom = sheet.slots.len() + 1;
-        let mut heights = [FAR; PLACES];
-        heights[0] = -FAR;
-        for (slot, height) in sheet.slots.iter().enumerate() {
-            heights[slot + 1] = *height as i32;
-        }
+        let heights = heights(sheet);
         let mut sites = [Capped::default(); MOST_SITES];
         for (site, number) in sites.iter_mut().zip(by_y) {
             let own = sheet.sites[*number];

@@ -58,7 +58,7 @@ fn encode(input: &[u8], as_numbers: bool) -> Result<Vec<u8>, String> {
 fn show(input: &[u8], as_numbers: bool) -> Result<Vec<u8>, String> {
     let words = if as_numbers {
         words_of_text(input)?
-    } else if input.len() % 4 == 0 {
+    } else if input.len().is_multiple_of(4) {
         input.chunks_exact(4).map(|four| u32::from_le_bytes([four[0], four[1], four[2], four[3]])).collect()
     } else {
         return Err(format!("{} bytes are not whole words", input.len()));

@@ -45,9 +45,7 @@ layout labels 2 length 19
 tie 47
 0x50000001
 ";
-    let words = [
-        0x1FFFFFFF, 0x20000000, 0x30000002, 0x40018004, 0x300000FF, 0x80400013, 0x9000002F, 0x50000001,
-    ];
+    let words = [0x1FFFFFFF, 0x20000000, 0x30000002, 0x40018004, 0x300000FF, 0x80400013, 0x9000002F, 0x50000001];
     assert_eq!(encode(text).as_deref(), Ok(&words[..]));
     assert_eq!(show(&words), text);
 }
@@ -88,9 +86,6 @@ fn errors_say_where_they_are() {
 fn errors_say_what_is_wrong() {
     let message = |text: &str| encode(text).unwrap_err().to_string();
     assert_eq!(message("slot 20000"), "line 1, column 6: height must be from 0 to 16383, not '20000'");
-    assert_eq!(
-        message("head both fewest"),
-        "line 1, column 6: one-sided or two-sided should stand here, not 'both'"
-    );
+    assert_eq!(message("head both fewest"), "line 1, column 6: one-sided or two-sided should stand here, not 'both'");
     assert_eq!(message("site 4"), "line 1, column 7: y is missing");
 }

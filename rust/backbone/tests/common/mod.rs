@@ -5,9 +5,8 @@ use backbone::{make, read, Refusal};
 use model::random::Random;
 
 /// Sheet A of the format's drawn examples.
-pub const SHEET_A: [u32; 9] = [
-    0x10008008, 0x20000002, 0x20000005, 0x20000008, 0x300000FF, 0x40008004, 0x40018006, 0x300000FF, 0x40010005,
-];
+pub const SHEET_A: [u32; 9] =
+    [0x10008008, 0x20000002, 0x20000005, 0x20000008, 0x300000FF, 0x40008004, 0x40018006, 0x300000FF, 0x40010005];
 
 /// Words that an area may have been left with; costs, marks and "none" among them.
 pub fn dirt(words: usize, random: &mut Random) -> Vec<u32> {
