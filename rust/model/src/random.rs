@@ -237,7 +237,8 @@ fn crowded_list(random: &mut Random) -> Vec<u32> {
     };
     let mut sheet = sheet_of(shape, random);
     if random.one_in(2) {
-        let sorts: [&[u32]; 5] = [&[1], &[1, 2, 3], &[254], &[1, 0, 255], &[7, 8, 0, 255, 255, 255]];
+        // 16 to the 8 is 0 in 32 bits.
+        let sorts: [&[u32]; 6] = [&[1], &[1, 2, 3], &[254], &[15], &[1, 0, 255], &[7, 8, 0, 255, 255, 255]];
         let sort = random.pick(&sorts);
         sheet.bounds.iter_mut().for_each(|bound| *bound = random.pick(sort));
     }
