@@ -2,8 +2,8 @@
 
 use crate::faults::Fault;
 use crate::parts;
-use crate::plan::Plan;
-use backbone::{Aim, Side};
+use crate::plan::{true_numbers, Plan};
+use backbone::{Aim, Layout, Side};
 use std::fmt::Write;
 
 const DRAWING_WIDTH: f64 = 600.0;
@@ -106,16 +106,21 @@ fn edge(scale: &Scale, background: Option<&str>) -> String {
     svg
 }
 
+fn stated(layout: &Layout) -> String {
+    format!("labels {}, length {}", layout.labels, layout.length)
+}
+
 fn heading(panel: &Panel) -> String {
     let sheet = &panel.plan.sheet;
     let side = if sheet.side == Side::Two { "two-sided" } else { "one-sided" };
     let aim = if sheet.aim == Aim::Shortest { "shortest" } else { "fewest" };
     let (first, fill) = match &panel.plan.layout {
         None => ("no layout obeys rules 1 to 5".to_string(), RED),
-        Some(layout) => {
-            let wrong = panel.plan.faults.contains(&Fault::Numbers);
-            (format!("labels {}, length {}", layout.labels, layout.length), if wrong { RED } else { "#222222" })
+        Some(layout) if panel.plan.faults.contains(&Fault::Numbers) => {
+            let (labels, length) = true_numbers(sheet, &panel.plan.labels);
+            (format!("{}; in truth {labels} and {length}", stated(layout)), RED)
         }
+        Some(layout) => (stated(layout), "#222222"),
     };
     let first = panel.title.clone().unwrap_or(first);
     let rest = format!("{side}, {aim}, gap {}, width {}", sheet.gap(), sheet.width());

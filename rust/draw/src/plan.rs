@@ -52,7 +52,17 @@ impl Plan {
     }
 }
 
-fn labels(sheet: &Sheet, layout: &Layout) -> Vec<Label> {
+/// The count and the length that rule 6 asks for.
+pub fn true_numbers(sheet: &Sheet, labels: &[Label]) -> (u32, u32) {
+    let length = |label: &Label| {
+        let drops = label.sites.iter().map(|site| sheet.sites()[*site].y.abs_diff(label.height));
+        sheet.width() - label.left_end + drops.sum::<u32>()
+    };
+    (labels.len() as u32, labels.iter().map(length).sum())
+}
+
+/// The used slots, from the top downwards.
+pub fn labels(sheet: &Sheet, layout: &Layout) -> Vec<Label> {
     let mut labels = Vec::new();
     for (slot, height) in sheet.slots().iter().enumerate() {
         let tied = |site: &usize| usize::from(layout.slots[*site]) == slot;

@@ -1,6 +1,7 @@
 //! What goes wrong when lengths are rounded at each cut: a layout maker for one-sided, unbounded sheets that keeps
 //! them in tenths of a point. It is here to be drawn beside the exact one, and for nothing else.
 
+use crate::plan::{labels, true_numbers};
 use backbone::{Aim, Layout, Sheet, Side, Site};
 use std::collections::HashMap;
 
@@ -35,29 +36,18 @@ struct Maker<'a> {
 /// The layout that is best by the rounded lengths. It states its true count and length.
 pub fn lay_out(sheet: &Sheet) -> Option<Layout> {
     let rest = Maker::new(sheet, None)?.rest(0, (None, None))?;
-    let mut slots = vec![0; sheet.sites().len()];
+    let mut layout = Layout { labels: 0, length: 0, slots: vec![0; sheet.sites().len()] };
     for (site, slot) in &rest.ties {
-        slots[*site] = *slot as u8;
+        layout.slots[*site] = *slot as u8;
     }
-    let length = true_length(sheet, &slots);
-    Some(Layout { labels: rest.count, length, slots })
+    (layout.labels, layout.length) = true_numbers(sheet, &labels(sheet, &layout));
+    Some(layout)
 }
 
 /// The points that a layout has by the rounded lengths.
 pub fn points_of(sheet: &Sheet, layout: &Layout) -> f64 {
     let rest = Maker::new(sheet, Some(&layout.slots)).and_then(|mut maker| maker.rest(0, (None, None)));
     f64::from(rest.map_or(0, |rest| rest.length)) / f64::from(8 * EIGHTH)
-}
-
-fn true_length(sheet: &Sheet, slots: &[u8]) -> u32 {
-    let mut left_ends: HashMap<u8, u32> = HashMap::new();
-    let mut drops = 0;
-    for (site, slot) in sheet.sites().iter().zip(slots) {
-        let end = left_ends.entry(*slot).or_insert(site.x);
-        *end = site.x.min(*end);
-        drops += site.y.abs_diff(sheet.slots()[usize::from(*slot)]);
-    }
-    drops + left_ends.values().map(|end| sheet.width() - end).sum::<u32>()
 }
 
 impl<'a> Maker<'a> {
