@@ -30,6 +30,7 @@
 
 mod layout;
 mod library;
+mod numbered;
 mod refusal;
 mod rule;
 mod sheet;

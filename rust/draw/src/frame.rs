@@ -18,11 +18,11 @@ const BOTTOM: f64 = 40.0;
 const PANEL_WIDTH: f64 = LEFT + DRAWING_WIDTH + LABEL_COLUMN;
 
 /// The colours of sites and labels. Red is kept for broken rules.
-const TINTS: [&str; 8] = ["#1f5fa8", "#e08a00", "#1b8a5a", "#8250b4", "#1899b0", "#8c5a2b", "#d2619c", "#5b6770"];
+const PAINTS: [&str; 8] = ["#1f5fa8", "#e08a00", "#1b8a5a", "#8250b4", "#1899b0", "#8c5a2b", "#d2619c", "#5b6770"];
 pub const RED: &str = "#d4001a";
 
-pub fn tint(colour: usize) -> &'static str {
-    TINTS[colour % TINTS.len()]
+pub fn paint(colour: usize) -> &'static str {
+    PAINTS[colour % PAINTS.len()]
 }
 
 /// One layout on the page, with a title in place of its numbers.
@@ -144,7 +144,7 @@ fn legend(plan: &Plan, scale: &Scale) -> String {
         };
         let (x, y) = (LEFT + 145.0 * (colour % 5) as f64, top + 18.0 * (colour / 5) as f64);
         let _ =
-            writeln!(svg, "<circle cx=\"{:.1}\" cy=\"{:.1}\" r=\"5\" fill=\"{}\"/>", x + 5.0, y - 4.0, tint(colour));
+            writeln!(svg, "<circle cx=\"{:.1}\" cy=\"{:.1}\" r=\"5\" fill=\"{}\"/>", x + 5.0, y - 4.0, paint(colour));
         svg.push_str(&text(x + 15.0, y, &name, "#444444", ""));
     }
     svg

@@ -1,7 +1,7 @@
 //! The parts of a layout: slots, backbones and drops, labels, sites, and the marks of a broken rule.
 
 use crate::faults::Fault;
-use crate::frame::{text, tint, Scale, LABEL_COLUMN, RED};
+use crate::frame::{paint, text, Scale, LABEL_COLUMN, RED};
 use crate::plan::{Label, Plan};
 use std::fmt::Write;
 
@@ -39,11 +39,11 @@ pub fn slots(plan: &Plan, scale: &Scale) -> String {
 pub fn lines(plan: &Plan, scale: &Scale) -> String {
     let mut svg = String::new();
     for label in &plan.labels {
-        let (y, stroke) = (scale.y(label.height), tint(label.colour));
+        let (y, stroke) = (scale.y(label.height), paint(label.colour));
         svg.push_str(&line((scale.x(label.left_end), y), (scale.right, y), stroke, 2.6));
         for site in &label.sites {
             let site = plan.sheet.sites()[*site];
-            let (x, stroke) = (scale.x(site.x), tint(site.colour));
+            let (x, stroke) = (scale.x(site.x), paint(site.colour));
             svg.push_str(&line((x, scale.y(site.y)), (x, y), stroke, 1.6));
             let _ = writeln!(svg, "<circle cx=\"{x:.1}\" cy=\"{y:.1}\" r=\"2.6\" fill=\"{stroke}\"/>");
         }
@@ -57,7 +57,7 @@ pub fn labels(plan: &Plan, scale: &Scale) -> String {
     let left = scale.right + LABEL_OFFSET;
     for (label, middle) in plan.labels.iter().zip(box_places(&plan.labels, scale)) {
         let y = scale.y(label.height);
-        let stroke = tint(label.colour);
+        let stroke = paint(label.colour);
         let _ = writeln!(
             svg,
             "<polyline points=\"{:.1},{y:.1} {:.1},{y:.1} {:.1},{middle:.1} {left:.1},{middle:.1}\" fill=\"none\" \
@@ -97,7 +97,7 @@ fn label_box(label: &Label, left: f64, middle: f64) -> String {
     format!(
         "<rect x=\"{left:.1}\" y=\"{:.1}\" width=\"{BOX_WIDTH:.1}\" height=\"{LABEL_HEIGHT}\" rx=\"4\" fill=\"{}\"/>\n",
         middle - LABEL_HEIGHT / 2.0,
-        tint(label.colour)
+        paint(label.colour)
     ) + &text(left + BOX_WIDTH / 2.0, middle + 4.0, &words, "#ffffff", &style)
 }
 
@@ -120,7 +120,7 @@ pub fn sites(plan: &Plan, scale: &Scale) -> String {
         let _ = writeln!(
             svg,
             "<circle cx=\"{x:.1}\" cy=\"{y:.1}\" r=\"7.5\" fill=\"{}\" stroke=\"#ffffff\" stroke-width=\"0.8\"/>",
-            tint(site.colour)
+            paint(site.colour)
         );
         let style = "font-size=\"9\" font-weight=\"bold\" text-anchor=\"middle\"";
         svg.push_str(&text(x, y + 3.2, &number.to_string(), "#ffffff", style));

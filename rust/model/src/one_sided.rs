@@ -9,13 +9,13 @@ use crate::sheet::{Sheet, Site, MOST_SITES};
 /// In the first word of a strip: the root reaches it.
 const MARK: u32 = 1;
 
-/// Two neighbouring open labels, or edges.
+/// Two neighbouring open labels, or edges. Colours count from 1 here; 0 is an edge's.
 #[derive(Clone, Copy)]
 struct Strip {
     above: usize,
-    above_tint: usize,
+    above_colour: usize,
     below: usize,
-    below_tint: usize,
+    below_colour: usize,
 }
 
 /// What the next site may do in a strip that holds it.
@@ -37,7 +37,7 @@ struct Maker<'a> {
     after: [usize; PLACES],
     before: [usize; PLACES],
     bottom: usize,
-    tints: usize,
+    colours: usize,
     /// Words in a level.
     level: usize,
 }
@@ -53,7 +53,7 @@ pub fn best(sheet: &Sheet, order: &[usize], work: &mut [u32]) -> Option<(u32, [u
 impl<'a> Maker<'a> {
     fn new(sheet: &'a Sheet, order: &[usize]) -> Maker<'a> {
         let budgets = Budgets::with_shares(sheet);
-        let (bottom, tints) = (sheet.slots.len() + 1, sheet.bounds.len() + 1);
+        let (bottom, colours) = (sheet.slots.len() + 1, sheet.bounds.len() + 1);
         let heights = heights(sheet);
         let gap = sheet.gap as i32;
         let mut after = [bottom; PLACES];
@@ -71,22 +71,22 @@ impl<'a> Maker<'a> {
             after,
             before,
             bottom,
-            tints,
-            level: (bottom + 1) * (bottom + 1) * tints * tints * budgets.count,
+            colours,
+            level: (bottom + 1) * (bottom + 1) * colours * colours * budgets.count,
             budgets,
         }
     }
 
     fn root(&self) -> Strip {
-        Strip { above: 0, above_tint: 0, below: self.bottom, below_tint: 0 }
+        Strip { above: 0, above_colour: 0, below: self.bottom, below_colour: 0 }
     }
 
     /// Where the entries of a strip begin in a level.
     #[inline]
     fn entries(&self, strip: Strip) -> usize {
-        let upper = strip.above * self.tints + strip.above_tint;
-        let lower = strip.below * self.tints + strip.below_tint;
-        (upper * (self.bottom + 1) * self.tints + lower) * self.budgets.count
+        let upper = strip.above * self.colours + strip.above_colour;
+        let lower = strip.below * self.colours + strip.below_colour;
+        (upper * (self.bottom + 1) * self.colours + lower) * self.budgets.count
     }
 
     /// The last place whose height is at or above the site.
@@ -103,14 +103,14 @@ impl<'a> Maker<'a> {
     }
 
     fn steps(&self, site: &Site, strip: Strip) -> Steps {
-        let (y, gap, tint) = (site.y as i32, self.sheet.gap as i32, site.colour + 1);
+        let (y, gap, colour) = (site.y as i32, self.sheet.gap as i32, site.colour + 1);
         let clear_above = y - self.heights[strip.above] >= gap;
         let clear_below = self.heights[strip.below] - y >= gap;
         let mut join = NONE;
-        if strip.above_tint == tint && clear_below {
+        if strip.above_colour == colour && clear_below {
             join = self.drop_cost(site, strip.above);
         }
-        if strip.below_tint == tint && clear_above {
+        if strip.below_colour == colour && clear_above {
             join = join.min(self.drop_cost(site, strip.below));
         }
         let mut open = (self.after[strip.above], self.before[strip.below]);
@@ -120,20 +120,20 @@ impl<'a> Maker<'a> {
         Steps { join, open }
     }
 
-    fn parts(strip: Strip, place: usize, tint: usize) -> (Strip, Strip) {
-        (Strip { below: place, below_tint: tint, ..strip }, Strip { above: place, above_tint: tint, ..strip })
+    fn parts(strip: Strip, place: usize, colour: usize) -> (Strip, Strip) {
+        (Strip { below: place, below_colour: colour, ..strip }, Strip { above: place, above_colour: colour, ..strip })
     }
 
     /// Every strip, one after the other.
     #[inline]
     fn for_each_strip(&self, mut act: impl FnMut(Strip)) {
         for above in 0..self.bottom {
-            let above_tints = if above == 0 { 0..1 } else { 1..self.tints };
-            for above_tint in above_tints {
+            let above_colours = if above == 0 { 0..1 } else { 1..self.colours };
+            for above_colour in above_colours {
                 for below in above + 1..=self.bottom {
-                    let below_tints = if below == self.bottom { 0..1 } else { 1..self.tints };
-                    for below_tint in below_tints {
-                        act(Strip { above, above_tint, below, below_tint });
+                    let below_colours = if below == self.bottom { 0..1 } else { 1..self.colours };
+                    for below_colour in below_colours {
+                        act(Strip { above, above_colour, below, below_colour });
                     }
                 }
             }
@@ -279,7 +279,7 @@ impl<'a> Maker<'a> {
     fn first_step(&self, site: &Site, open: &[usize; PLACES], budget: usize, left: u32, next: &[u32]) -> (usize, u32) {
         let (strip, others) = self.part_page(site, open, next);
         let steps = self.steps(site, strip);
-        let tint = site.colour + 1;
+        let colour = site.colour + 1;
         let whole = self.row(strip, next);
         let keeps = |cost: u32, rest: &Row, budget: usize| {
             let rest = self.budgets.least_share(budget, &others, rest);
@@ -288,13 +288,13 @@ impl<'a> Maker<'a> {
         let gap = self.sheet.gap as i32;
         let clear_below = self.heights[strip.below] - site.y as i32 >= gap;
         let up = self.drop_cost(site, strip.above);
-        if strip.above_tint == tint && clear_below && keeps(up, &whole, budget) {
+        if strip.above_colour == colour && clear_below && keeps(up, &whole, budget) {
             return (strip.above, up);
         }
         for place in steps.open.0..steps.open.1 {
             let cost = self.open_cost(site, place);
             if self.budgets.allowing[site.colour] >> budget & 1 == 1
-                && keeps(cost, &self.opened(strip, place, tint, next), budget - self.budgets.draw[site.colour])
+                && keeps(cost, &self.opened(strip, place, colour, next), budget - self.budgets.draw[site.colour])
             {
                 return (place, cost);
             }
@@ -308,17 +308,17 @@ impl<'a> Maker<'a> {
         let mut strip = self.root();
         let mut holder = strip;
         let mut others = [0; MOST];
-        for (place, tint) in open.iter().enumerate().take(self.bottom + 1).skip(1) {
-            if place < self.bottom && *tint == 0 {
+        for (place, colour) in open.iter().enumerate().take(self.bottom + 1).skip(1) {
+            if place < self.bottom && *colour == 0 {
                 continue;
             }
-            strip = Strip { below: place, below_tint: *tint, ..strip };
+            strip = Strip { below: place, below_colour: *colour, ..strip };
             if strip.above <= split && split < strip.below {
                 holder = strip;
             } else {
                 others = self.together(&others, &self.row(strip, next));
             }
-            strip = Strip { above: place, above_tint: *tint, ..strip };
+            strip = Strip { above: place, above_colour: *colour, ..strip };
         }
         (holder, others)
     }
@@ -329,8 +329,8 @@ impl<'a> Maker<'a> {
         row
     }
 
-    fn opened(&self, strip: Strip, place: usize, tint: usize, next: &[u32]) -> Row {
-        let (upper, lower) = Self::parts(strip, place, tint);
+    fn opened(&self, strip: Strip, place: usize, colour: usize, next: &[u32]) -> Row {
+        let (upper, lower) = Self::parts(strip, place, colour);
         self.together(&self.row(upper, next), &self.row(lower, next))
     }
 

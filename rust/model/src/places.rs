@@ -1,5 +1,5 @@
 //! Slots as places: they are numbered from 1; place 0 is the top edge, and the place after the last slot the bottom
-//! edge. Colours are numbered from 1 too, as tints; tint 0 is an edge's.
+//! edge. The colours of labels are numbered from 1 beside them; 0 is an edge's.
 
 use crate::sheet::{Sheet, MOST_SLOTS};
 

@@ -6,11 +6,11 @@ use crate::costs::{Aim, NONE};
 use crate::places::{heights, FAR, PLACES};
 use crate::sheet::{Sheet, MOST_SITES};
 
-/// A site with the last place that it may be tied to.
+/// A site with the last place that it may be tied to. Colours count from 1 here; 0 is an edge's.
 #[derive(Clone, Copy, Default)]
 struct Capped {
     y: i32,
-    tint: usize,
+    colour: usize,
     cap: usize,
 }
 
@@ -20,7 +20,7 @@ struct Maker<'a> {
     budgets: Budgets,
     heights: [i32; PLACES],
     bottom: usize,
-    tints: usize,
+    colours: usize,
     /// Sites by rising y, and how many of them lie above each place.
     sites: [Capped; MOST_SITES],
     sites_above: [usize; PLACES],
@@ -52,7 +52,7 @@ impl<'a> Maker<'a> {
         let mut sites = [Capped::default(); MOST_SITES];
         for (site, number) in sites.iter_mut().zip(by_y) {
             let own = sheet.sites[*number];
-            *site = Capped { y: own.y as i32, tint: own.colour + 1, cap: bottom - 1 };
+            *site = Capped { y: own.y as i32, colour: own.colour + 1, cap: bottom - 1 };
         }
         let mut sites_above = [0; PLACES];
         for place in 0..=bottom {
@@ -65,7 +65,7 @@ impl<'a> Maker<'a> {
             budgets: Budgets::of(sheet),
             heights,
             bottom,
-            tints: sheet.bounds.len() + 1,
+            colours: sheet.bounds.len() + 1,
             sites,
             sites_above,
         }
@@ -87,39 +87,39 @@ impl<'a> Maker<'a> {
         high
     }
 
-    fn row(&self, place: usize, tint: usize) -> usize {
-        (place * self.tints + tint) * self.budgets.count
+    fn row(&self, place: usize, colour: usize) -> usize {
+        (place * self.colours + colour) * self.budgets.count
     }
 
     /// Fills the table upwards from the bottom edge and gives the least cost within the caps.
     fn fill(&self, work: &mut [u32]) -> u32 {
         for above in (0..self.bottom).rev() {
-            let tints = if above == 0 { 0..1 } else { 1..self.tints };
-            for above_tint in tints {
-                let start = self.row(above, above_tint);
+            let colours = if above == 0 { 0..1 } else { 1..self.colours };
+            for above_colour in colours {
+                let start = self.row(above, above_colour);
                 let (head, lower) = work.split_at_mut(self.row(above + 1, 0));
                 let row = &mut head[start..][..self.budgets.count];
-                row.fill(self.strip_cost(above, above_tint, self.bottom, 0));
-                self.fill_row(above, above_tint, lower, row);
+                row.fill(self.strip_cost(above, above_colour, self.bottom, 0));
+                self.fill_row(above, above_colour, lower, row);
             }
         }
         work[self.row(0, 0) + self.budgets.count - 1]
     }
 
     /// Lowers a row by each label that may come next below. `lower` begins at the place below `above`.
-    fn fill_row(&self, above: usize, above_tint: usize, lower: &[u32], row: &mut [u32]) {
+    fn fill_row(&self, above: usize, above_colour: usize, lower: &[u32], row: &mut [u32]) {
         let label = self.aim.cost(1, self.sheet.width);
         for below in above + 1..self.bottom {
             if self.heights[below] - self.heights[above] < self.sheet.gap as i32 {
                 continue;
             }
-            for below_tint in 1..self.tints {
-                let strip = self.strip_cost(above, above_tint, below, below_tint);
+            for below_colour in 1..self.colours {
+                let strip = self.strip_cost(above, above_colour, below, below_colour);
                 if strip == NONE {
                     continue;
                 }
-                let next = &lower[self.row(below - above - 1, below_tint)..][..row.len()];
-                self.lower_row(row, next, strip + label, below_tint - 1);
+                let next = &lower[self.row(below - above - 1, below_colour)..][..row.len()];
+                self.lower_row(row, next, strip + label, below_colour - 1);
             }
         }
     }
@@ -134,16 +134,16 @@ impl<'a> Maker<'a> {
     }
 
     /// The sum, over the sites between two neighbouring labels, of the cheaper lawful tie.
-    fn strip_cost(&self, above: usize, above_tint: usize, below: usize, below_tint: usize) -> u32 {
+    fn strip_cost(&self, above: usize, above_colour: usize, below: usize, below_colour: usize) -> u32 {
         let (top, bottom, gap) = (self.heights[above], self.heights[below], self.sheet.gap as i32);
         let mut length = 0;
         for site in &self.sites[self.sites_above[above]..self.sites_above[below]] {
             let (up, down) = (site.y - top, bottom - site.y);
             let mut drop = FAR;
-            if site.tint == above_tint && down >= gap && above <= site.cap {
+            if site.colour == above_colour && down >= gap && above <= site.cap {
                 drop = up;
             }
-            if site.tint == below_tint && up >= gap && below <= site.cap {
+            if site.colour == below_colour && up >= gap && below <= site.cap {
                 drop = drop.min(down);
             }
             if drop == FAR {
