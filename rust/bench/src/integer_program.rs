@@ -67,6 +67,9 @@ impl Solver {
         output?;
         let text = std::fs::read_to_string(&answer).unwrap_or_default();
         Ok(match self.objective(&text) {
+            None if text.contains("nfeasible") || text.contains("INTEGER EMPTY") => {
+                Outcome::Failed("the program has no solution".to_string())
+            }
             None => Outcome::OutOfTime,
             Some(objective) => {
                 let (labels, length) = Program::new(sheet).numbers(objective);

@@ -111,37 +111,23 @@ fn bounds(colours: usize, random: &mut Random) -> Vec<u32> {
     bounds
 }
 
-/// A sheet small enough for a search over all layouts (at most 1,296 of them).
+/// Slots and sites of small sheets: at most 1,296 layouts.
+#[rustfmt::skip]
+const SMALL: [(usize, usize); 20] = [
+    (0, 0), (0, 2), (1, 3), (2, 4), (2, 6), (2, 8), (3, 2), (3, 4), (3, 5), (3, 6),
+    (4, 3), (4, 4), (4, 5), (5, 3), (5, 4), (6, 3), (6, 4), (8, 2), (8, 3), (5, 0),
+];
+
+/// A sheet small enough for a search over all layouts.
 pub fn small_sheet(random: &mut Random) -> Sheet {
-    let (slots, sites) = random.pick(&[
-        (0, 0),
-        (0, 2),
-        (1, 3),
-        (2, 4),
-        (2, 6),
-        (2, 8),
-        (3, 2),
-        (3, 4),
-        (3, 5),
-        (3, 6),
-        (4, 3),
-        (4, 4),
-        (4, 5),
-        (5, 3),
-        (5, 4),
-        (6, 3),
-        (6, 4),
-        (8, 2),
-        (8, 3),
-        (5, 0),
-    ]);
+    let (slots, sites) = random.pick(&SMALL);
     let scale = random.pick(&[1, 1, 1, 1, 7, 800]);
     let shape = Shape {
         slots,
         colours: random.pick(&[1, 1, 2, 2, 2, 3, 4]),
         sites,
         width: random.between(8, 14) * scale,
-        gap: random.pick(&[1, 1, 1, 2, 2, 3]) * scale.min(1000),
+        gap: random.pick(&[1, 1, 1, 2, 2, 3]) * scale,
         height: random.between(8, 18) * scale,
     };
     sheet_of(shape, random)
