@@ -1,0 +1,90 @@
+-- The arrays of a sheet give its instances. Assumes nothing.
+use mathlib.Core.Path.{_≡_, refl, sym, ap, ap₂, _∙_}
+use mathlib.Core.Bool.{Bool, true, false, cond, not}
+use mathlib.Core.List.{List, [], _∷_}
+use Prim.Native.Nat.{ℕ, zero, suc, _+_, _*_, _-_, _≤_, _<_}
+use native.Mathlib.Omega.{arith}
+use lib.Dec.{eqb, leb}
+use lib.ListN.{length, getD}
+use Rattle.lists.proofs.Tests.{by-order}
+use Rattle.sheet.specs.Sheet.{Site, Colour, Sheet}
+use Rattle.labelling.specs.Layout.{apart, heightOf, siteShare}
+use Rattle.labelling.proofs.Members.{noSite}
+use Rattle.optimum.specs.Strips.{Point, Strip, Instance}
+use Rattle.optimum.specs.OneSided.{farEnough, clearOf, shareOf, leadOf, boundOf, mayOpen, tipClear, turnOf, heldOf, radicesOf, drawsOf, wordOf, topWord, instanceOf, order, pointAt, pointsAt}
+use Rattle.arrays.specs.Arrays.{measuresOf, boundsOf, tabulate, drawsList, xsOf, ysOf, coloursOf, gathered, instanceBy, pointsBy}
+
+pub bounds-at : (ks : List Colour) (c : ℕ) → getD (boundsOf ks) c 255 ≡ (getD ks c (record { bound = 255; sites = 0 })) .bound
+unfolding boundsOf
+bounds-at [] c = refl
+bounds-at (k ∷ ks) zero = refl
+bounds-at (k ∷ ks) (suc c) = bounds-at ks c
+
+pub tabulate-at : (f : ℕ → ℕ) (k n i : ℕ) → i < n → getD (tabulate f k n) i 0 ≡ f (k + i)
+unfolding tabulate
+tabulate-at f k zero i h = absurd (omega arith)
+tabulate-at f k (suc n) zero h = ap f (omega arith)
+tabulate-at f k (suc n) (suc i) h = tabulate-at f (suc k) n i (omega arith) ∙ ap f (omega arith)
+
+pub tabulate-past : (f : ℕ → ℕ) (k n i : ℕ) → n ≤ i → getD (tabulate f k n) i 0 ≡ 0
+unfolding tabulate
+tabulate-past f k zero i h = refl
+tabulate-past f k (suc n) zero h = absurd (omega arith)
+tabulate-past f k (suc n) (suc i) h = tabulate-past f (suc k) n i (omega arith)
+
+past : (ks : List Colour) (c : ℕ) → length ks ≤ c → (getD ks c (record { bound = 255; sites = 0 })) .bound ≡ 255
+past [] c h = refl
+past (k ∷ ks) zero h = absurd (omega arith)
+past (k ∷ ks) (suc c) h = past ks c (omega arith)
+
+pub draws-at : (s : Sheet) (c : ℕ) → getD (drawsList s) c 0 ≡ drawsOf s c
+draws-at s c =
+    by-order (length (s .colours)) c
+    (λ h. tabulate-past (drawsOf s) 0 (length (s .colours)) c h ∙ sym (unfold drawsOf in rw (past (s .colours) c h)))
+    (λ h. tabulate-at (drawsOf s) 0 (length (s .colours)) c h ∙ ap (drawsOf s) (omega arith))
+
+-- THE ONE-SIDED INSTANCE
+pub instance-by : (s : Sheet) → instanceBy (measuresOf s) (s .slots) (boundsOf (s .colours)) (radicesOf (s .colours)) (drawsList s) ≡ instanceOf s
+unfolding farEnough clearOf shareOf siteShare leadOf mayOpen tipClear turnOf heldOf wordOf
+instance-by s = λ i. record {
+  m = length (s .slots);
+  top = topWord;
+  height = heightOf s;
+  far = farEnough s;
+  clear = clearOf s;
+  share = shareOf s;
+  lead = leadOf s;
+  may = λ t k. not (eqb (bounds-at (s .colours) (t .c) i) 0);
+  tip = tipClear s;
+  kinds = 1;
+  turn = turnOf s;
+  held = heldOf s;
+  drawOf = λ c. draws-at s c i;
+  radices = radicesOf (s .colours);
+  word = wordOf s;
+}
+
+-- THE SITES BY RISING RANK, from one array of each number
+pub xs-at : (ss : List Site) (i : ℕ) → getD (xsOf ss) i 0 ≡ (getD ss i noSite) .x
+unfolding xsOf
+xs-at [] i = refl
+xs-at (s ∷ ss) zero = refl
+xs-at (s ∷ ss) (suc i) = xs-at ss i
+
+pub ys-at : (ss : List Site) (i : ℕ) → getD (ysOf ss) i 0 ≡ (getD ss i noSite) .y
+unfolding ysOf
+ys-at [] i = refl
+ys-at (s ∷ ss) zero = refl
+ys-at (s ∷ ss) (suc i) = ys-at ss i
+
+pub colours-at : (ss : List Site) (i : ℕ) → getD (coloursOf ss) i 0 ≡ (getD ss i noSite) .colour
+unfolding coloursOf
+colours-at [] i = refl
+colours-at (s ∷ ss) zero = refl
+colours-at (s ∷ ss) (suc i) = colours-at ss i
+
+pub points-by : (s : Sheet) (is : List ℕ) → pointsBy (gathered (xsOf (s .sites)) is) (gathered (ysOf (s .sites)) is) (gathered (coloursOf (s .sites)) is) ≡ pointsAt s is
+unfolding pointsBy gathered pointsAt
+points-by s [] = refl
+points-by s (i ∷ is) =
+    λ j. record { x = xs-at (s .sites) i j; y = ys-at (s .sites) i j; c = colours-at (s .sites) i j } ∷ points-by s is j
