@@ -10,6 +10,8 @@ use Rattle.sheet.specs.Sheet.{Site, Colour, Sheet, rankOf, productOf}
 use Rattle.labelling.specs.Layout.{heightOf, noColour, siteShare}
 use Rattle.labelling.proofs.Rules.{siteAt}
 use Rattle.optimum.specs.UsedSlots.{Instance}
+use Rattle.optimum.specs.Budgets.{fullBudget}
+use Rattle.optimum.specs.CostWord.{topWord}
 use Rattle.optimum.specs.TwoSided.{radicesOf, countUnit, lengthUnit, instanceOf}
 
 -- zeros behind a list are not seen
@@ -21,9 +23,9 @@ padded (x ∷ l) z zero = refl
 padded (x ∷ l) z (suc i) = padded l z i
 
 -- heights, bounds, and each site's x, y and colour in arrays
-abbrev pub pageBy : Sheet → (hs bs xs ys cs : List ℕ) → Instance
-pageBy s hs bs xs ys cs = record {
-  top = 4294967295;
+abbrev pub instanceBy : Sheet → (hs bs xs ys cs : List ℕ) → Instance
+instanceBy s hs bs xs ys cs = record {
+  top = topWord;
   m = length (s .slots);
   n = length (s .sites);
   colours = length (s .colours);
@@ -31,7 +33,7 @@ pageBy s hs bs xs ys cs = record {
   each = countUnit s + s .width * lengthUnit s;
   unit = lengthUnit s;
   share = siteShare s;
-  budget = productOf (s .colours) - 1;
+  budget = fullBudget s;
   radices = radicesOf (s .colours);
   unbounded = λ c. eqb (getD bs c 0) 255;
   height = λ k. getD hs k 0;
@@ -42,9 +44,9 @@ pageBy s hs bs xs ys cs = record {
 
 pub instance-by : (s : Sheet) (hs bs xs ys cs : List ℕ) → ((k : ℕ) → getD hs k 0 ≡ heightOf s k) → ((c : ℕ) → getD bs c 0 ≡ (getD (s .colours) c noColour) .bound) →
     ((i : ℕ) → getD xs i 0 ≡ rankOf (siteAt s i)) → ((i : ℕ) → getD ys i 0 ≡ (siteAt s i) .y) → ((i : ℕ) → getD cs i 0 ≡ (siteAt s i) .colour) →
-    pageBy s hs bs xs ys cs ≡ instanceOf s
+    instanceBy s hs bs xs ys cs ≡ instanceOf s
 instance-by s hs bs xs ys cs h b p q r = λ i. record {
-  top = 4294967295;
+  top = topWord;
   m = length (s .slots);
   n = length (s .sites);
   colours = length (s .colours);
@@ -52,7 +54,7 @@ instance-by s hs bs xs ys cs h b p q r = λ i. record {
   each = countUnit s + s .width * lengthUnit s;
   unit = lengthUnit s;
   share = siteShare s;
-  budget = productOf (s .colours) - 1;
+  budget = fullBudget s;
   radices = radicesOf (s .colours);
   unbounded = λ c. eqb (b c i) 255;
   height = λ k. h k i;

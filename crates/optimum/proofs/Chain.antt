@@ -11,7 +11,7 @@ use borrow.Author.Tests.{ltb-true, ltb-false, leb-true, leb-false, eqb-true, eqb
 use Rattle.lists.proofs.Tests.{by-test, by-order, by-either, by-equal, clash, and-both, and-of, tests}
 use Rattle.search.specs.Cost.{plus, plus-le, plus-zero, plus-top, top-plus}
 use Rattle.search.specs.Walk.{Process, costOf}
-use Rattle.optimum.specs.Sums.{listing, oneIf, tally, tally-in, tally-out, sumTo, sum-le, sum-split, sum-cong}
+use Rattle.optimum.specs.Sums.{listing, tally, tally-in, tally-out, sumTo, sum-le, sum-split, sum-cong}
 use Rattle.optimum.specs.UsedSlots.{Instance, at, over, under, farUp, clearDown, may, draw, siteCost, inside, strip, price, next, final, labels}
 
 -- a code: none, or a colour's

@@ -21,18 +21,15 @@ use Rattle.labelling.proofs.Counted.{slots-at, at-slots}
 use Rattle.optimum.specs.Strips.{Point}
 use Rattle.optimum.proofs.Steps.{Steps, isFree, opened, shares}
 use Rattle.optimum.proofs.Pairs.{zeros}
-use Rattle.optimum.proofs.Sum.{sum, sum-cong, firstOf, opened-sum}
-use Rattle.optimum.proofs.Budget.{isOf}
+use Rattle.search.specs.Sums.{sum}
+use Rattle.search.proofs.Sums.{sum-cong, sum-front}
+use Rattle.optimum.proofs.Opened.{firstOf, opened-sum}
+use Rattle.optimum.proofs.Pays.{isOf}
 use Rattle.optimum.specs.OneSided.{shareOf, leadOf, xOf, order, pointAt, pointsAt, instanceOf}
 use Rattle.optimum.proofs.Order.{rank-x, Rise, ordered, gather, sumOver, sum-order}
 use Rattle.optimum.proofs.Zero.{yOf, colourOf}
 
 -- ---- sums
-
-sum-front : (n : ℕ) (f : ℕ → ℕ) → sum (suc n) f ≡ f 0 + sum n (λ k. f (suc k))
-unfolding sum
-sum-front zero f = omega arith
-sum-front (suc n) f = omega (arith, sum-front n f)
 
 used-sum : (w : ℕ → ℕ) (n a : ℕ) (js : List ℕ) → sumOver w (usedFrom a n js) ≡ sum n (λ k. cond (isUsed (a + k) js) (w (a + k)) 0)
 unfolding usedFrom sumOver

@@ -12,7 +12,7 @@ use Rattle.search.specs.Radix.{digitOf, place}
 use Rattle.optimum.specs.Sums.{tally, tally-in, tally-out}
 use Rattle.optimum.specs.UsedSlots.{Instance, over, farUp, may, draw}
 use Rattle.optimum.proofs.Chain.{by-code, fits, fits-skip, fits-label}
-use Rattle.optimum.proofs.Digits.{Drawn}
+use Rattle.search.proofs.Digits.{Drawn}
 
 pub coded : (d c : ℕ) → d ≡ suc c → d ≢ 0
 coded d c e = λ f. omega arith

@@ -19,19 +19,22 @@ use Rattle.labelling.proofs.Words.{count-low, length-low}
 use Rattle.lists.proofs.Tests.{by-test, by-order, by-either, by-equal, clash, and-both, and-of, tests}
 use Rattle.search.specs.Cost.{plus}
 use Rattle.search.specs.Radix.{digitOf, place}
-use Rattle.optimum.specs.Sums.{tally, oneIf, tally-mono, sumTo, sum-head}
+use Rattle.optimum.specs.Sums.{tally, tally-mono, sumTo, sum-head}
 use Rattle.optimum.specs.UsedSlots.{Instance, farUp, allows, value}
 use Rattle.optimum.specs.TwoSided.{radicesOf, countUnit, lengthUnit, instanceOf}
 use Rattle.optimum.proofs.Chain.{is-label, fits}
-use Rattle.optimum.proofs.Digits.{Drawn, drawn, positive, digit-full, radix}
+use Rattle.optimum.specs.Budgets.{fullBudget}
+use Rattle.optimum.specs.CostWord.{topWord}
+use Rattle.optimum.proofs.Budgets.{draws}
+use Rattle.labelling.proofs.Counted.{at-slots}
 use Rattle.optimum.proofs.Fits.{coded, Fitting, Anchored, fits-from}
 use Rattle.optimum.proofs.Ties.{Suits}
 use Rattle.optimum.proofs.Least.{comes, value-low, Hit, value-hit}
 use Rattle.optimum.proofs.Greedy.{Respects}
-use Rattle.optimum.proofs.Bridge.{in-slots, length-used, drops-sum, draws, left-zero, cost, cost-top, bound-digit, lawful-low, G}
+use Rattle.optimum.proofs.Bridge.{length-used, drops-sum, left-zero, cost, cost-top, bound-digit, lawful-low, G}
 
 module _ (s : Sheet) (o : Sound s) (two : s .isTwoSided ≡ true) (coloured : all (colourLow (length (s .colours))) (s .sites) ≡ true) (fx : ℕ → ℕ)
-    (h : Hit (instanceOf s) fx (draws s o two coloured) (o .gapped)) where
+    (h : Hit (instanceOf s) fx (draws s) (o .gapped)) where
   js : List ℕ
   js = h .js
 
@@ -74,7 +77,7 @@ module _ (s : Sheet) (o : Sound s) (two : s .isTwoSided ≡ true) (coloured : al
   far p q l m x y = h .fit .apart p q (omega arith) l (omega arith) x y
 
   budgeted : (e : ℕ) → eqb ((getD (s .colours) e noColour) .bound) 255 ≡ false →
-      tally (λ j. eqb (code j) (suc e)) 0 (length (s .slots)) ≤ digitOf (radicesOf (s .colours)) e (productOf (s .colours) - 1)
+      tally (λ j. eqb (code j) (suc e)) 0 (length (s .slots)) ≤ digitOf (radicesOf (s .colours)) e (fullBudget s)
   unfolding code
   budgeted e b = h .fit .within e b
 
@@ -82,11 +85,11 @@ module _ (s : Sheet) (o : Sound s) (two : s .isTwoSided ≡ true) (coloured : al
       length (usedOf s (slotsOf c (tied s js))) ≤ (getD (s .colours) c noColour) .bound
   two-kept c l b =
       le-trans (le-of-eq (length-used (length (s .slots)) 0 (slotsOf c (tied s js))))
-      (le-trans (tally-mono (λ j. isUsed j (slotsOf c (tied s js))) (λ j. eqb (code j) (suc c)) 0 (length (s .slots)) (λ j p q u. mine j (in-slots c j (s .sites) js long u)))
+      (le-trans (tally-mono (λ j. isUsed j (slotsOf c (tied s js))) (λ j. eqb (code j) (suc c)) 0 (length (s .slots)) (λ j p q u. mine j (at-slots c j (s .sites) js long u)))
       (le-trans (budgeted c b) (le-of-eq (bound-digit s o two coloured c l b))))
     where
-      mine : (j : ℕ) → (i : ℕ) × ((i < length (s .sites)) × (getD js i 0 ≡ j) × ((siteAt s i) .colour ≡ c)) → eqb (code j) (suc c) ≡ true
-      mine j (i, (u, e, z)) = eq-eqb (code j) (suc c) (sym (ap code e) ∙ own i u ∙ ap suc z)
+      mine : (j : ℕ) → (i : ℕ) × (i < length (s .sites)) × (getD js i 0 ≡ j) × ((siteAt s i) .colour ≡ c) → eqb (code j) (suc c) ≡ true
+      mine j (i, u, e, z) = eq-eqb (code j) (suc c) (sym (ap code e) ∙ own i u ∙ ap suc z)
 
   -- two labels, the upper first
   one-way : (i j : ℕ) → i < length (s .sites) → j < length (s .sites) → getD js i 0 < getD js j 0 → heightOf s (getD js i 0) + s .gap ≤ heightOf s (getD js j 0)
@@ -123,16 +126,16 @@ module _ (s : Sheet) (o : Sound s) (two : s .isTwoSided ≡ true) (coloured : al
       (step (tally (λ j. is-label (code j)) 0 (length (s .slots))) (countOf s js) (countUnit s + s .width * lengthUnit s) (drops s (tied s js) * lengthUnit s) _
       (le-trans (le-of-eq (length-used (length (s .slots)) 0 js))
       (tally-mono (λ j. isUsed j js) (λ j. is-label (code j)) 0 (length (s .slots)) (λ j a b c. label-i (code j) (at j c .1))))
-      (drops-sum 4294967295 (lengthUnit s) s (s .sites) js long) (unfold cost in cost-top s o two coloured js))
+      (drops-sum topWord (lengthUnit s) s (s .sites) js long) (unfold cost in cost-top s o two coloured js))
     where
-      same : comes (instanceOf s) fx (draws s o two coloured) (o .gapped) code js ≡ value (instanceOf s) fx
+      same : comes (instanceOf s) fx (draws s) (o .gapped) code js ≡ value (instanceOf s) fx
       same = unfold js code in h .cost
 
       label-i : (d : ℕ) → d ≢ 0 → is-label d ≡ true
       label-i zero n = absurd (n refl)
       label-i (suc d) n = unfold is-label in rw (ne-eqb (suc d) 0 n)
 
-      step : (t c u d z : ℕ) → c ≤ t → z ≡ min d 4294967295 → c * u + d < 4294967295 → c * u + d ≤ plus 4294967295 (t * u) z
+      step : (t c u d z : ℕ) → c ≤ t → z ≡ min d topWord → c * u + d < topWord → c * u + d ≤ plus topWord (t * u) z
       step t c u d z p q l = let a = mul-le-mul-right u p in unfold plus in omega arith
 
   -- it costs just the table's value
@@ -141,7 +144,7 @@ module _ (s : Sheet) (o : Sound s) (two : s .isTwoSided ≡ true) (coloured : al
 
 -- A LAYOUT OF THE TABLE'S VALUE
 pub lawful-hit : (s : Sheet) (o : Sound s) (two : s .isTwoSided ≡ true) (coloured : all (colourLow (length (s .colours))) (s .sites) ≡ true) (fx : ℕ → ℕ) →
-    value (instanceOf s) fx < 4294967295 → (js : List ℕ) × (Obeys s js × Respects (instanceOf s) fx js × (cost s o two coloured js ≡ value (instanceOf s) fx))
+    value (instanceOf s) fx < topWord → (js : List ℕ) × (Obeys s js × Respects (instanceOf s) fx js × (cost s o two coloured js ≡ value (instanceOf s) fx))
 lawful-hit s o two coloured fx l =
-    let h = value-hit (instanceOf s) fx (draws s o two coloured) (o .gapped) l in
+    let h = value-hit (instanceOf s) fx (draws s) (o .gapped) l in
     (js s o two coloured fx h, (obeyed s o two coloured fx h, respected s o two coloured fx h, cost-value s o two coloured fx h))

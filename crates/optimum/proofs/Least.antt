@@ -16,7 +16,7 @@ use Rattle.search.specs.Walk.{Process, best, costOf, walk, best-least, walk-cos
 use Rattle.optimum.specs.Sums.{listing, listing-of, listing-cong, length-listing, tally, sumTo, sum-cong, sum-mono, sum-below}
 use Rattle.optimum.specs.UsedSlots.{Instance, over, labels, below, T, value}
 use Rattle.optimum.proofs.Chain.{is-label, fits, tie, sites, whole, chain-cost}
-use Rattle.optimum.proofs.Digits.{Drawn}
+use Rattle.search.proofs.Digits.{Drawn}
 use Rattle.optimum.proofs.Fits.{Fitting, fits-to}
 use Rattle.optimum.proofs.Ties.{Suits, Found, tie-found, tie-lowest, behind-start}
 

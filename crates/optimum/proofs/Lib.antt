@@ -2,8 +2,10 @@ pub mod StripsHeld
 pub mod Near
 pub mod Pairs
 pub mod Steps
-pub mod Sum
-pub mod Budget
+pub mod Opened
+pub mod Budgets
+pub mod CostWord
+pub mod Pays
 pub mod Order
 pub mod Counts
 pub mod Instance
@@ -19,7 +21,6 @@ pub mod Arrays
 pub mod Bridge
 pub mod TwoSidedCall
 pub mod Chain
-pub mod Digits
 pub mod Fits
 pub mod Found
 pub mod Greedy

@@ -25,6 +25,8 @@ use Rattle.optimum.specs.Strips.{Point, Strip, Instance, State, rulesOf,
 use Rattle.optimum.proofs.StripsHeld.{Rising, Fit, laws, value-best, next-fit}
 use Rattle.optimum.proofs.Pairs.{zeros}
 use Rattle.optimum.specs.OneSided.{shareOf, leadOf, wordOf, topWord}
+use Rattle.optimum.proofs.CostWord.{word-low}
+use Rattle.sheet.specs.Sheet.{numberTop}
 use Rattle.optimum.specs.Cells.{build, cells, stripAt, shareAt, stepCell, entryOf, level, joinCells, foldCells, valueCells}
 use Rattle.optimum.proofs.Levels.{build-at, Level, level-cons, cell-low, Coloured, Kept, value-cells, keeps}
 
@@ -68,15 +70,12 @@ below-pad (r ∷ rs) n w v = ap (λ (b : Bool). leb (w % r) (v % r) && b) (below
 -- ---- words stay below the sentinel
 
 -- one step's cost on an accepted sheet
-pub step-low : (s : Sheet) → Sound s → (k x y : ℕ) → y < 16384 → (wordOf s 1 (leadOf s x + shareOf s k y) < topWord) × (wordOf s 0 (shareOf s k y) < topWord)
-unfolding wordOf leadOf shareOf
+pub step-low : (s : Sheet) → Sound s → (k x y : ℕ) → y < numberTop → (wordOf s 1 (leadOf s x + shareOf s k y) < topWord) × (wordOf s 0 (shareOf s k y) < topWord)
+unfolding leadOf shareOf
 step-low s o k x y h =
-    go (s .isShortest) (s .width - x) (siteShare s (heightOf s k) y) (omega (arith, o .narrow)) (share-le s (heightOf s k) y (height-low (s .slots) k (o .heights)) h)
-  where
-    go : (b : Bool) (w e : ℕ) → w < 16384 → e ≤ 16383
-        → (cond b ((w + e) * 64 + 1) (1 * 33554432 + (w + e)) < 4294967295) × (cond b (e * 64 + 0) (0 * 33554432 + e) < 4294967295)
-    go true w e p q = omega arith
-    go false w e p q = omega arith
+    let n = o .narrow in
+    let q = share-le s (heightOf s k) y (height-low (s .slots) k (o .heights)) h in
+    (word-low s 1 _ (omega arith) (omega arith), word-low s 0 _ (omega arith) (omega arith))
 
 module _ (P : Instance) (C R : ℕ) where
   open Instance P using (m, top)

@@ -11,14 +11,15 @@ use borrow.Author.Tests.{leb-true, leb-false, ltb-true, ltb-false, le-leb, lt-le
 use Rattle.lists.proofs.Tests.{by-test, by-order, by-equal, by-either, and-both, and-of, clash, tests}
 use mathlib.Core.Bool.{false≢true}
 use Rattle.search.specs.Cost.{least, first, least-le, least-is, first-le, first-is}
-use Rattle.sheet.specs.Sheet.{all, Site, Sheet, rankOf, rankTop, hasRank, ranksDiffer}
+use Rattle.sheet.specs.Sheet.{numberTop, all, Site, Sheet, rankOf, rankTop, hasRank, ranksDiffer}
 use Rattle.labelling.specs.Layout.{isUsed}
 use Rattle.lists.proofs.Tests.{or-e, or-l, or-r, and-l, and-r, not-f, is-false, eqb-self}
 use Rattle.labelling.proofs.Members.{noSite, all-at, used-head, used-tail}
 use Rattle.sheet.proofs.Accepted.{Sound, lowX, lowY, rank-low}
 use Rattle.labelling.proofs.Earlier.{rankAt}
 use Rattle.optimum.proofs.StripsHeld.{set-same, set-other}
-use Rattle.optimum.proofs.Sum.{sum, sum-cong, sum-add, sum-zero, sum-point}
+use Rattle.search.specs.Sums.{sum}
+use Rattle.search.proofs.Sums.{sum-cong, sum-add, sum-zero, sum-point, sum-pos, sum-ones}
 use Rattle.optimum.specs.OneSided.{nextRank, siteOf, orderFrom, order, scatter}
 
 -- ---- distinct x
@@ -48,7 +49,7 @@ same-site s o i j hi hj e =
 -- ---- rank, x and y
 
 module _ (s : Sheet) (o : Sound s) where
-  y-low : (i : ℕ) → i < length (s .sites) → (getD (s .sites) i noSite) .y < 16384
+  y-low : (i : ℕ) → i < length (s .sites) → (getD (s .sites) i noSite) .y < numberTop
   y-low i h = ltb-true _ _ (all-at lowY noSite (s .sites) (o .ys) i h)
 
   pub rank-of-low : (i : ℕ) → i < length (s .sites) → rankAt s i < rankTop
@@ -80,17 +81,6 @@ pub record Ordered (s : Sheet) (n a : ℕ) (is : List ℕ) : Type 0 where
   pub low : (i : ℕ) → isUsed i is ≡ true → (i < length (s .sites)) × (a ≤ rankAt s i)
   pub whole : (i : ℕ) → i < length (s .sites) → a ≤ rankAt s i → isUsed i is ≡ true
   pub rise : Rise s is
-
-sum-pos : (n : ℕ) (f : ℕ → ℕ) → 0 < sum n f → (k : ℕ) × (k < n) × (0 < f k)
-unfolding sum
-sum-pos zero f h = absurd (omega arith)
-sum-pos (suc n) f h =
-    by-order 1 (f n) (λ l. (n, omega arith, l)) (λ l. let (k, u, p) = sum-pos n f (omega arith) in (k, omega arith, p))
-
-ones : (n : ℕ) → sum n (λ i. 1) ≡ n
-unfolding sum
-ones zero = refl
-ones (suc n) = omega (arith, ones n)
 
 module _ (s : Sheet) (o : Sound s) where
   low-at : (i : ℕ) → i < length (s .sites) → rankAt s i < rankTop
@@ -186,7 +176,7 @@ module _ (s : Sheet) (o : Sound s) where
 
   count-all : count 0 ≡ length (s .sites)
   unfolding count
-  count-all = sum-cong (length (s .sites)) _ (λ i. 1) (λ i h. rw (le-leb 0 (rankAt s i) (omega arith))) ∙ ones (length (s .sites))
+  count-all = sum-cong (length (s .sites)) _ (λ i. 1) (λ i h. rw (le-leb 0 (rankAt s i) (omega arith))) ∙ sum-ones (length (s .sites))
 
   -- THE ORDER has each site once, by rising x
   pub ordered : Ordered s (length (s .sites)) 0 (order s)

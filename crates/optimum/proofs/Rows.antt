@@ -14,6 +14,7 @@ use Rattle.lists.proofs.Tests.{by-test, by-order, by-either, by-equal}
 use Rattle.search.specs.Cost.{plus, least, plus-zero, plus-le, plus-top, top-plus, least-le-top, least-cong}
 use Rattle.search.specs.Radix.{digitOf, place}
 use Rattle.search.specs.Walk.{Process, best}
+pub use Rattle.search.proofs.Digits.{digit-flat}
 use Rattle.optimum.specs.Sums.{listing, sumTo, sum-le}
 use Rattle.optimum.specs.UsedSlots.{Instance, put, farUp, may, draw, strip, price, next, final, labels, below, T, value}
 
@@ -204,10 +205,3 @@ set-at (c ∷ l) (suc i) p (suc j) h = set-at l i p j (omega arith) ∙ ap (λ (
 pub put-set : (l : List ℕ) (i p : ℕ) → i < length l → put (λ j. getD l j 0) i p ≡ (λ j. getD (set l i p) j 0)
 unfolding put
 put-set l i p h = fun-ext (λ j. sym (set-at l i p j h))
-
--- A DIGIT at once
-pub digit-flat : (rs : List ℕ) (c v : ℕ) → c < length rs → digitOf rs c v ≡ v / place rs c % getD rs c 0
-unfolding digitOf place
-digit-flat [] c v h = absurd (omega arith)
-digit-flat (r ∷ rs) zero v h = ap (λ (z : ℕ). z % r) (sym (div-one v))
-digit-flat (r ∷ rs) (suc c) v h = digit-flat rs c (v / r) (omega arith) ∙ ap (λ (z : ℕ). z % getD rs c 0) (div-div-eq-div-mul v r (place rs c) ∙ ap (λ (z : ℕ). v / z) (mul-comm r (place rs c)))

@@ -11,7 +11,7 @@ use Rattle.lists.proofs.Tests.{by-test, by-order, by-either, by-equal, clash, a
 use Rattle.search.specs.Radix.{digitOf, place}
 use Rattle.optimum.specs.UsedSlots.{Instance, at, over, under, farUp, clearUp, clearDown, may, draw, allows, upCost, downCost, siteCost}
 use Rattle.optimum.proofs.Chain.{by-code, fits, fits-skip, fits-label, tie, tie-skip, tie-in, tie-on}
-use Rattle.optimum.proofs.Digits.{Drawn}
+use Rattle.search.proofs.Digits.{Drawn}
 use Rattle.optimum.proofs.Fits.{coded, Fitting, fits-to, far-at}
 
 module _ (G : Instance) (fx : ℕ → ℕ) (code : ℕ → ℕ) (draws : (c v : ℕ) → 0 < digitOf (G .radices) c v → Drawn (G .radices) c v) (wide : 0 < G .dist) where

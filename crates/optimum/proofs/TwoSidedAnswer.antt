@@ -24,32 +24,13 @@ use Rattle.lists.proofs.Tests.{by-test, by-order, by-either, by-equal}
 use Rattle.search.specs.Cost.{first}
 use Rattle.optimum.specs.Sums.{listing, listing-of, listing-same, listing-at, length-listing, tally, tally-le}
 use Rattle.optimum.specs.UsedSlots.{Instance, put, value, leftmost, choose, capAll, ties, answer}
-use Rattle.optimum.specs.TwoSided.{countUnit, lengthUnit, instanceOf, twoSided}
+use Rattle.optimum.specs.CostWord.{topWord, countIn, lengthIn, layoutCost}
+use Rattle.optimum.specs.TwoSided.{instanceOf, twoSided}
+use Rattle.optimum.proofs.CostWord.{better-costs, layout-count, layout-length}
 use Rattle.optimum.proofs.Greedy.{Respects, allows-free, keeps, exact, none-ahead, passes-on, passes-last, chosen}
 use Rattle.optimum.proofs.Halve.{halve, halve-first}
 use Rattle.optimum.proofs.Bridge.{cost, cost-is, cost-top, lawful-low, low-slot}
 use Rattle.optimum.proofs.Found.{lawful-hit}
-
--- one word compares as the two numbers do
-abbrev word : Bool → (count size : ℕ) → ℕ
-word b c l = c * cond b 1 33554432 + l * cond b 64 1
-
-less-first : (b : Bool) (c l d k : ℕ) → c ≤ 48 → l < 2097152 → d ≤ 48 → k < 2097152 → cond b l c < cond b k d → word b c l < word b d k
-less-first true c l d k p q r s h = omega arith
-less-first false c l d k p q r s h = omega arith
-
-less-second : (b : Bool) (c l d k : ℕ) → cond b l c ≡ cond b k d → cond b c l < cond b d k → word b c l < word b d k
-less-second true c l d k e h = omega arith
-less-second false c l d k e h = omega arith
-
-same-both : (b : Bool) (c l d k : ℕ) → cond b l c ≡ cond b k d → cond b c l ≡ cond b d k → word b c l ≡ word b d k
-same-both true c l d k e h = omega arith
-same-both false c l d k e h = omega arith
-
--- the two numbers, from the word
-unword : (b : Bool) (c l w : ℕ) → c ≤ 48 → l < 2097152 → w ≡ word b c l → (c ≡ cond b (w % 64) (w / 33554432)) × (l ≡ cond b (w / 64) (w % 33554432))
-unword true c l w p q e = (omega arith, omega arith)
-unword false c l w p q e = (omega arith, omega arith)
 
 -- sites with one x are one: with its own number for its slot, each is found by its x
 ranks-differ : (ss : List Site) → ranksDiffer ss ≡ true → (i j : ℕ) → i < length ss → j < length ss → rankOf (getD ss i noSite) ≡ rankOf (getD ss j noSite) → i ≡ j
@@ -66,21 +47,12 @@ module _ (s : Sheet) (o : Sound s) (two : s .isTwoSided ≡ true) (coloured : al
   price : List ℕ → ℕ
   price js = cost s o two coloured js
 
-  price-is : (js : List ℕ) → price js ≡ word (s .isShortest) (countOf s js) (lengthOf s js)
+  price-is : (js : List ℕ) → price js ≡ layoutCost s js
   unfolding price
   price-is js = cost-is s o two coloured js
 
   better-cheaper : (ks js : List ℕ) → Better s ks js → (price ks < price js) ⊎ ((price ks ≡ price js) × Earlier s ks js)
-  better-cheaper ks js (inl p) =
-      let a = price-is ks in let b = price-is js in
-      let c = less-first (s .isShortest) (countOf s ks) (lengthOf s ks) (countOf s js) (lengthOf s js) (count-low s o ks) (length-low s o ks) (count-low s o js) (length-low s o js) p in
-      inl (omega arith)
-  better-cheaper ks js (inr (e, inl p)) =
-      let a = price-is ks in let b = price-is js in
-      let c = less-second (s .isShortest) (countOf s ks) (lengthOf s ks) (countOf s js) (lengthOf s js) e p in
-      inl (omega arith)
-  better-cheaper ks js (inr (e, inr (p, q))) =
-      inr (price-is ks ∙ same-both (s .isShortest) (countOf s ks) (lengthOf s ks) (countOf s js) (lengthOf s js) e p ∙ sym (price-is js), q)
+  better-cheaper ks js b = rw (price-is ks, price-is js) (better-costs s o ks js b)
 
   abbrev pub free : ℕ → ℕ
   free i = 0
@@ -98,21 +70,21 @@ module _ (s : Sheet) (o : Sound s) (two : s .isTwoSided ≡ true) (coloured : al
   unfolding price
   low fx js ob h = lawful-low s o two coloured js ob fx h
 
-  hit : (fx : ℕ → ℕ) → value (instanceOf s) fx < 4294967295 → (js : List ℕ) × (Obeys s js × Respects (instanceOf s) fx js × (price js ≡ value (instanceOf s) fx))
+  hit : (fx : ℕ → ℕ) → value (instanceOf s) fx < topWord → (js : List ℕ) × (Obeys s js × Respects (instanceOf s) fx js × (price js ≡ value (instanceOf s) fx))
   unfolding price
   hit fx l = lawful-hit s o two coloured fx l
 
   slots-low : (js : List ℕ) → Obeys s js → (i : ℕ) → i < length (s .sites) → getD js i 0 < length (s .slots)
   slots-low js ob i l = low-slot s o two coloured js ob i l
 
-  price-top : (js : List ℕ) → price js < 4294967295
+  price-top : (js : List ℕ) → price js < topWord
   unfolding price
   price-top js = cost-top s o two coloured js
 
   differ : (i j : ℕ) → i < length (s .sites) → j < length (s .sites) → rankOf (siteAt s i) ≡ rankOf (siteAt s j) → i ≡ j
   differ = ranks-differ (s .sites) (o .differ)
 
-  module _ (below : least < 4294967295) where
+  module _ (below : least < topWord) where
     kept : value (instanceOf s) capped-all ≡ least
     kept = keeps (instanceOf s) (Obeys s) price slots-low low hit differ least below (length (s .sites)) free refl
 
@@ -148,17 +120,15 @@ module _ (s : Sheet) (o : Sound s) (two : s .isTwoSided ≡ true) (coloured : al
         go (js, (ob, h, e)) = best-some-iff s o js .1 (first-is js ob h e) ∙ ap some (sym (ties-are js ob h (e ∙ kept)))
 
     -- the answer's two numbers, from the least cost
-    pub numbers : (countOf s (ties (instanceOf s) capped-all) ≡ cond (s .isShortest) (least % 64) (least / 33554432)) ×
-        (lengthOf s (ties (instanceOf s) capped-all) ≡ cond (s .isShortest) (least / 64) (least % 33554432))
+    pub numbers : (countOf s (ties (instanceOf s) capped-all) ≡ countIn s least) × (lengthOf s (ties (instanceOf s) capped-all) ≡ lengthIn s least)
     numbers = go (hit capped-all (rw kept below))
       where
         go : (js : List ℕ) × (Obeys s js × Respects (instanceOf s) capped-all js × (price js ≡ value (instanceOf s) capped-all)) →
-            (countOf s (ties (instanceOf s) capped-all) ≡ cond (s .isShortest) (least % 64) (least / 33554432)) ×
-            (lengthOf s (ties (instanceOf s) capped-all) ≡ cond (s .isShortest) (least / 64) (least % 33554432))
+            (countOf s (ties (instanceOf s) capped-all) ≡ countIn s least) × (lengthOf s (ties (instanceOf s) capped-all) ≡ lengthIn s least)
         go (js, (ob, h, e)) =
-            subst⁻¹ (λ (ks : List ℕ). (countOf s ks ≡ cond (s .isShortest) (least % 64) (least / 33554432)) × (lengthOf s ks ≡ cond (s .isShortest) (least / 64) (least % 33554432)))
-            (ties-are js ob h (e ∙ kept))
-            (unword (s .isShortest) (countOf s js) (lengthOf s js) least (count-low s o js) (length-low s o js) (sym (e ∙ kept) ∙ price-is js))
+            let w : layoutCost s js ≡ least = sym (price-is js) ∙ e ∙ kept in
+            subst⁻¹ (λ (ks : List ℕ). (countOf s ks ≡ countIn s least) × (lengthOf s ks ≡ lengthIn s least)) (ties-are js ob h (e ∙ kept))
+            (sym (ap (countIn s) (sym w) ∙ layout-count s o js), sym (ap (lengthIn s) (sym w) ∙ layout-length s o js))
 
     -- at the states that the walk meets, the slot may be found by halving
     pub choose-halved : (fx : ℕ → ℕ) (r : ℕ) → value (instanceOf s) fx ≡ least → r < length (s .sites) → fx r ≡ 0 →
@@ -183,16 +153,16 @@ module _ (s : Sheet) (o : Sound s) (two : s .isTwoSided ≡ true) (coloured : al
         value (instanceOf s) (put fx r (suc (choose (instanceOf s) least fx r))) ≡ least
     step-keeps fx r v l z = chosen (instanceOf s) (Obeys s) price slots-low low hit differ least below fx r l z v
 
-  pub none-is : 4294967295 ≤ least → best s ≡ none
+  pub none-is : topWord ≤ least → best s ≡ none
   none-is h = best-none-iff s .1 (λ ks ok. absurd (let a = low free ks ok (respect-free ks) in omega (arith, price-top ks)))
 
   -- THE THEOREM
   pub two-sided-best : best s ≡ twoSided s
   unfolding twoSided answer
   two-sided-best =
-      by-order 4294967295 least
-      (λ h. rw (le-ltb least 4294967295 h) (none-is h))
-      (λ h. rw (lt-ltb least 4294967295 h) (some-is h))
+      by-order topWord least
+      (λ h. rw (le-ltb least topWord h) (none-is h))
+      (λ h. rw (lt-ltb least topWord h) (some-is h))
 
 -- for accepted words
 pub two-sided-made : (ws : List ℕ) → sheetFault ws ≡ 0 → (sheetIn ws) .isTwoSided ≡ true → best (sheetIn ws) ≡ twoSided (sheetIn ws)

@@ -1,3 +1,5 @@
+pub mod Budgets
+pub mod CostWord
 pub mod Strips
 pub mod OneSided
 pub mod Cells
