@@ -1,12 +1,10 @@
--- The sheet from arrays that are padded with zeros, as code holds them, is the sheet of the sheet. Assumes nothing.
-use mathlib.Core.Path.{_≡_, refl, sym, ap, ap₂, _∙_, fun-ext}
-use mathlib.Core.Bool.{Bool, true, false}
+-- The two-sided instance from arrays padded with zeros, as code holds them, is the sheet's.
+use mathlib.Core.Path.{_≡_, refl, sym}
 use mathlib.Core.List.{List, [], _∷_, _++_, map}
-use Prim.Native.Nat.{ℕ, zero, suc, _+_, _*_, _-_, _≤_, _<_}
-use native.Mathlib.Omega.{arith}
+use Prim.Native.Nat.{ℕ, zero, suc, _+_, _*_}
 use lib.Dec.{eqb}
 use lib.ListN.{length, getD, replicate}
-use Rattle.sheet.specs.Sheet.{Site, Colour, Sheet, rankOf, productOf}
+use Rattle.sheet.specs.Sheet.{Site, Colour, Sheet, rankOf}
 use Rattle.labelling.specs.Layout.{heightOf, noColour, siteShare}
 use Rattle.labelling.proofs.Rules.{siteAt}
 use Rattle.optimum.specs.UsedSlots.{Instance}

@@ -1,14 +1,14 @@
 -- Laws of a sheet's budgets: its radices are positive, their product is P, and the full budget's digits are the bounds.
-use mathlib.Core.Path.{_≡_, refl, sym, ap, _∙_}
-use mathlib.Core.Bool.{true, false, cond}
+use mathlib.Core.Path.{_≡_, refl, ap}
+use mathlib.Core.Bool.{true, false}
 use mathlib.Core.List.{List, [], _∷_}
-use Prim.Native.Nat.{ℕ, zero, suc, _+_, _-_, _<_, _≤_}
+use Prim.Native.Nat.{ℕ, zero, suc, _+_, _<_, _≤_}
 use native.Mathlib.Omega.{arith}
 use lib.Dec.{eqb}
 use lib.ListN.{length, getD}
 use borrow.Author.Tests.{eqb-false}
 use Rattle.lists.proofs.Tests.{by-test, by-order}
-use Rattle.search.specs.Radix.{digitOf, place}
+use Rattle.search.specs.Radix.{place}
 use Rattle.search.proofs.Digits.{Positive, product, product-pos, digit-full, Drawn, drawn}
 use Rattle.sheet.specs.Sheet.{Colour, Sheet, productOf}
 use Rattle.optimum.specs.Budgets.{unboundedColour, boundOf, isUnbounded, radixOf, radicesOf, digitIn, drawsOf, fullBudget}

@@ -1,5 +1,5 @@
 -- Laws of the cost word: it adds, it is below the greatest word, it compares as the aim's two numbers do, and both are read off it.
-use mathlib.Core.Path.{_≡_, refl, sym, ap, _∙_}
+use mathlib.Core.Path.{_≡_, refl}
 use mathlib.Core.Logic.{_⊎_, inl, inr}
 use mathlib.Core.Bool.{Bool, true, false, cond}
 use mathlib.Core.List.{List}

@@ -1,33 +1,31 @@
--- Count, length and the labels of a colour are sums over the steps of the walk: the leftmost site of a label is the one that
--- opens it. Assumes nothing but that the sheet is accepted and one-sided.
+-- Theorem 1, the numbers: count, length and the labels of a colour are sums over the steps of the walk, since the leftmost site of a
+-- label is the one that opens it.
 use mathlib.Core.Path.{_≡_, refl, sym, ap, ap₂, _∙_, subst}
-use mathlib.Core.Bool.{Bool, true, false, cond}
+use mathlib.Core.Bool.{Bool, true, false, cond, false≢true}
 use mathlib.Core.List.{List, [], _∷_}
 use Prim.Native.Nat.{ℕ, zero, suc, _+_, _-_, _≤_, _<_}
 use native.Mathlib.Omega.{arith}
 use lib.Dec.{eqb}
 use lib.ListN.{length, getD, replicate, length-replicate}
 use borrow.Author.Tests.{eqb-true, eqb-false, eq-eqb, ne-eqb}
-use Rattle.lists.proofs.Tests.{by-test, by-equal, by-either}
-use mathlib.Core.Bool.{false≢true}
+use Rattle.lists.proofs.Tests.{by-test, by-equal, by-either, or-e, is-false}
+use Rattle.search.specs.Sums.{sum}
+use Rattle.search.proofs.Sums.{sum-cong, sum-front}
 use Rattle.sheet.specs.Sheet.{Site, Sheet}
-use Rattle.labelling.specs.Layout.{tiedOf, tied, siteShare, heightOf, isUsed, usedFrom, usedOf, leftEnd, slotsOf, countOf, backbones, drops}
-use Rattle.lists.proofs.Tests.{or-e, is-false}
-use Rattle.labelling.proofs.Members.{noSite, used-at, at-used, used-head, used-tail}
 use Rattle.sheet.proofs.Accepted.{Sound}
+use Rattle.labelling.specs.Layout.{tiedOf, tied, siteShare, heightOf, isUsed, usedFrom, usedOf, leftEnd, slotsOf, countOf, backbones, drops}
+use Rattle.labelling.proofs.Members.{noSite, used-at, at-used, used-head, used-tail}
 use Rattle.labelling.proofs.Earlier.{rankAt}
 use Rattle.labelling.proofs.LeftEnd.{left-end}
 use Rattle.labelling.proofs.Counted.{slots-at, at-slots}
 use Rattle.optimum.specs.Strips.{Point}
+use Rattle.optimum.specs.OneSided.{shareOf, leadOf, xOf, order, pointAt, pointsAt, instanceOf}
 use Rattle.optimum.proofs.Steps.{Steps, isFree, opened, shares}
 use Rattle.optimum.proofs.Pairs.{zeros}
-use Rattle.search.specs.Sums.{sum}
-use Rattle.search.proofs.Sums.{sum-cong, sum-front}
 use Rattle.optimum.proofs.Opened.{firstOf, opened-sum}
 use Rattle.optimum.proofs.Pays.{isOf}
-use Rattle.optimum.specs.OneSided.{shareOf, leadOf, xOf, order, pointAt, pointsAt, instanceOf}
 use Rattle.optimum.proofs.Order.{rank-x, Rise, ordered, gather, sumOver, sum-order}
-use Rattle.optimum.proofs.Zero.{yOf, colourOf}
+use Rattle.optimum.proofs.RankedPairs.{yOf, colourOf}
 
 -- ---- sums
 

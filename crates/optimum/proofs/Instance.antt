@@ -1,70 +1,44 @@
 -- An accepted sheet obeys what the steps ask of an instance: its distances, its costs and its budget.
-use mathlib.Core.Path.{_≡_, refl, sym, ap, ap₂, _∙_, subst, subst⁻¹}
-use mathlib.Core.Logic.{_⊎_, inl, inr, _↔_}
-use mathlib.Core.Bool.{Bool, true, false, cond, _&&_, _||_, not}
-use mathlib.Core.List.{List, [], _∷_, _++_}
-use Prim.Native.Nat.{ℕ, zero, suc, _+_, _-_, _*_, _/_, _%_, _≤_, _<_, min}
+use mathlib.Core.Path.{_≡_, ap}
+use mathlib.Core.Logic.{_⊎_, inl, inr}
+use mathlib.Core.Bool.{true, not}
+use Prim.Native.Nat.{ℕ, _+_, _<_}
 use native.Mathlib.Omega.{arith}
-use lib.Dec.{eqb, leb, ltb}
-use lib.ListN.{length, getD, set, replicate, length-set, length-replicate}
-use borrow.Author.Tests.{leb-true, leb-false, ltb-true, ltb-false, le-leb, lt-leb, lt-ltb, le-ltb, eqb-true, eqb-false, eq-eqb, ne-eqb}
-use Rattle.lists.proofs.Tests.{by-test, by-order, by-equal, by-either, and-both, and-of, clash, tests}
-use native.Mathlib.Nat.{mod-one}
-use Rattle.search.specs.Radix.{below, digitOf, place, digit-le, digit-sub, sharing}
-use Rattle.sheet.specs.Sheet.{Site, Colour, Sheet, rising, productOf}
-use Rattle.labelling.specs.Layout.{apart, heightOf, isUsed}
-use Rattle.lists.proofs.Tests.{not-f}
-use Rattle.labelling.proofs.Members.{rise-at}
-use Rattle.sheet.proofs.Accepted.{Sound}
-use Rattle.optimum.specs.Strips.{Point, Instance}
-use Rattle.optimum.proofs.Near.{Good}
-use Rattle.optimum.proofs.Steps.{Linear}
+use lib.Dec.{eqb}
+use lib.ListN.{length, getD}
+use borrow.Author.Tests.{eqb-true, eqb-false, ne-eqb}
+use Rattle.lists.proofs.Tests.{by-test, by-either, clash, not-f}
+use Rattle.search.specs.Radix.{below, digit-le, sharing}
 use Rattle.search.proofs.Digits.{place-same, digit-wide}
+use Rattle.sheet.specs.Sheet.{Sheet, rising}
+use Rattle.sheet.proofs.Accepted.{Sound}
+use Rattle.labelling.specs.Layout.{heightOf}
+use Rattle.labelling.proofs.Members.{rise-at}
+use Rattle.optimum.specs.Strips.{Point}
 use Rattle.optimum.specs.Budgets.{boundOf, isUnbounded, radicesOf, digitIn, drawsOf}
 use Rattle.optimum.specs.OneSided.{farEnough, clearOf, mayOpen, instanceOf}
+use Rattle.optimum.proofs.Neighbours.{Good}
+use Rattle.optimum.proofs.Distances.{far-sym, far-trans, far-above, far-below, clear-above, clear-below, clear-off}
+use Rattle.optimum.proofs.Steps.{Linear}
 use Rattle.optimum.proofs.Budgets.{positive, radix-at, draws-none, draws-one, draws}
 use Rattle.optimum.proofs.CostWord.{word-nothing, word-adds}
 use Rattle.optimum.proofs.Pays.{Budgeted}
 
 -- ---- distances
 
-sym-apart : (a b : ℕ) → apart a b ≡ apart b a
-sym-apart a b = omega arith
-
-far-3 : (d a b c : ℕ) → a < b → b < c → d ≤ apart a b → d ≤ apart b c → d ≤ apart a c
-far-3 d a b c p q h k = omega arith
-
-far-y : (d a b y : ℕ) → a < b → d ≤ apart a b → b ≤ y → d ≤ apart a y
-far-y d a b y p h q = omega arith
-
-far-z : (d a b y : ℕ) → b < a → d ≤ apart a b → y < b → d ≤ apart a y
-far-z d a b y p h q = omega arith
-
-near-y : (d a b y : ℕ) → a < b → b ≤ y → d ≤ apart b y → d ≤ apart a y
-near-y d a b y p q h = omega arith
-
-near-z : (d a b y : ℕ) → b < a → y < b → d ≤ apart b y → d ≤ apart a y
-near-z d a b y p q h = omega arith
-
-off-y : (d a y : ℕ) → 0 < d → d ≤ apart a y → a ≡ y → ⊥
-off-y d a y p h e = omega arith
-
 pub good : (s : Sheet) → Sound s → Good (instanceOf s)
 unfolding farEnough clearOf
 good s o = record {
   rising = up;
-  far-sym = λ i c k d e. rw (sym-apart (h k) (h i)) e;
-  far-trans = λ i c j d k e p q l f g. le-leb (s .gap) _ (far-3 (s .gap) (h i) (h j) (h k) (up i j p (omega arith)) (up j k q l) (leb-true (s .gap) _ f) (leb-true (s .gap) _ g));
-  far-above = λ j c k d y p l f q. le-leb (s .gap) _ (far-y (s .gap) (h j) (h k) y (up j k p l) (leb-true (s .gap) _ f) q);
-  far-below = λ j c k d y p l f q. le-leb (s .gap) _ (far-z (s .gap) (h j) (h k) y (up k j p l) (leb-true (s .gap) _ f) q);
-  clear-above = λ j k y p l q f. le-leb (s .gap) _ (near-y (s .gap) (h j) (h k) y (up j k p l) q (leb-true (s .gap) _ f));
-  clear-below = λ j k y p l q f. le-leb (s .gap) _ (near-z (s .gap) (h j) (h k) y (up k j p l) q (leb-true (s .gap) _ f));
-  clear-off = λ k y f e. off-y (s .gap) (h k) y (o .gapped) (leb-true (s .gap) _ f) e;
+  far-sym = far-sym s;
+  far-trans = λ i c j d k e p q l f g. far-trans s i c j d k e (up i j p (omega arith)) (up j k q l) f g;
+  far-above = λ j c k d y p l f q. far-above s j c k d y (up j k p l) f q;
+  far-below = λ j c k d y p l f q. far-below s j c k d y (up k j p l) f q;
+  clear-above = λ j k y p l q f. clear-above s j k y (up j k p l) q f;
+  clear-below = λ j k y p l q f. clear-below s j k y (up k j p l) q f;
+  clear-off = λ k y f e. clear-off s k y (o .gapped) f e;
 }
   where
-    h : ℕ → ℕ
-    h = heightOf s
-
     up : (j k : ℕ) → j < k → k < length (s .slots) → heightOf s j < heightOf s k
     up j k p l = rise-at (s .slots) (o .rise) j k p l
 

@@ -1,5 +1,6 @@
+pub mod Distances
 pub mod StripsHeld
-pub mod Near
+pub mod Neighbours
 pub mod Pairs
 pub mod Steps
 pub mod Opened
@@ -9,8 +10,8 @@ pub mod Pays
 pub mod Order
 pub mod Counts
 pub mod Instance
-pub mod Zero
-pub mod Join
+pub mod RankedPairs
+pub mod OneSidedBest
 pub mod Levels
 pub mod Loops
 pub mod OneSidedAnswer
@@ -18,13 +19,13 @@ pub mod Write
 pub mod OneSidedExamples
 pub mod TwoSidedAnswer
 pub mod Arrays
-pub mod Bridge
+pub mod LawfulFits
 pub mod TwoSidedCall
 pub mod Chain
 pub mod Fits
-pub mod Found
-pub mod Greedy
-pub mod Halve
+pub mod FitsLawful
+pub mod Caps
+pub mod Halving
 pub mod Least
 pub mod Rows
 pub mod TwoSidedExamples

@@ -1,34 +1,31 @@
--- For the code: what its loops and its walk need beside the equations. Bounds of the words, the slot that a loop finds, radices
--- padded to eight, and that each step of the walk finds its slot. Assumes nothing.
-use mathlib.Core.Path.{_≡_, refl, sym, ap, ap₂, _∙_, subst, subst⁻¹}
-use mathlib.Core.Logic.{_⊎_, inl, inr, _↔_}
-use mathlib.Core.Bool.{Bool, true, false, cond, _&&_, _||_, not}
+-- For the code: words stay below the greatest, the slot that a loop finds, radices padded to eight, and that each step of the walk
+-- finds its slot.
+use mathlib.Core.Path.{_≡_, refl, sym, ap, _∙_}
+use mathlib.Core.Logic.{_⊎_, inl, inr}
+use mathlib.Core.Bool.{Bool, true, false, _&&_}
 use mathlib.Core.List.{List, [], _∷_, _++_}
-use Prim.Native.Nat.{ℕ, zero, suc, _+_, _-_, _*_, _/_, _%_, _≤_, _<_, min}
+use Prim.Native.Nat.{ℕ, zero, suc, _+_, _/_, _%_, _≤_, _<_}
 use native.Mathlib.Omega.{arith}
-use lib.ListN.{drop}
 use native.Mathlib.Nat.{mod-one, div-one}
-use lib.Dec.{eqb, leb, ltb}
-use lib.ListN.{length, getD, set, replicate, length-set, length-replicate}
-use borrow.Author.Tests.{leb-true, leb-false, ltb-true, ltb-false, le-leb, lt-leb, lt-ltb, le-ltb, eqb-true, eqb-false, eq-eqb, ne-eqb}
-use Rattle.lists.proofs.Tests.{by-test, by-order, by-equal, by-either, and-both, and-of, clash, tests}
-use Rattle.search.specs.Cost.{plus, least, first, plus-below, plus-le, least-is, least-le-top, first-le, first-is}
+use lib.ListN.{drop, getD, set, replicate}
+use lib.Dec.{eqb, leb}
+use borrow.Author.Tests.{eqb-true, eq-eqb, ne-eqb}
+use Rattle.lists.proofs.Tests.{by-test}
+use Rattle.search.specs.Cost.{plus, least, first, plus-below, least-is, least-le-top, first-le, first-is}
 use Rattle.search.specs.Radix.{below}
 use Rattle.search.specs.Walk.{best, chooseBy}
 use Rattle.search.specs.Plan.{T-nil}
-use Rattle.sheet.specs.Sheet.{all, Site, Sheet}
-use Rattle.labelling.specs.Layout.{heightOf, siteShare}
-use Rattle.labelling.proofs.Members.{all-at}
+use Rattle.sheet.specs.Sheet.{Sheet, numberTop}
 use Rattle.sheet.proofs.Accepted.{Sound}
+use Rattle.labelling.specs.Layout.{heightOf}
 use Rattle.labelling.proofs.Words.{height-low, share-le}
 use Rattle.optimum.specs.Strips.{Point, Strip, Instance, State, rulesOf, price, next, labels, value, inside}
+use Rattle.optimum.specs.OneSided.{shareOf, leadOf, wordOf, topWord}
+use Rattle.optimum.specs.Cells.{cells, stripAt, entryOf, level, joinCells}
 use Rattle.optimum.proofs.StripsHeld.{Rising, Fit, laws, value-best, next-fit}
 use Rattle.optimum.proofs.Pairs.{zeros}
-use Rattle.optimum.specs.OneSided.{shareOf, leadOf, wordOf, topWord}
 use Rattle.optimum.proofs.CostWord.{word-low}
-use Rattle.sheet.specs.Sheet.{numberTop}
-use Rattle.optimum.specs.Cells.{build, cells, stripAt, shareAt, stepCell, entryOf, level, joinCells, foldCells, valueCells}
-use Rattle.optimum.proofs.Levels.{build-at, Level, level-cons, cell-low, Coloured, Kept, value-cells, keeps}
+use Rattle.optimum.proofs.Levels.{build-at, Level, level-cons, cell-low}
 
 -- ---- the first that passes, as a loop finds it
 

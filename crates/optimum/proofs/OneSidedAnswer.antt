@@ -1,42 +1,34 @@
--- WHAT THE CODE SHOWS of a one-sided sheet: with the levels filled and the walk walked, the answer, and the call as document 03
--- has it. Assumes nothing but that the sheet is accepted and one-sided.
-use mathlib.Core.Path.{_≡_, refl, sym, ap, ap₂, _∙_, subst, subst⁻¹}
-use mathlib.Core.Logic.{_⊎_, inl, inr, _↔_}
-use mathlib.Core.Bool.{Bool, true, false, cond, _&&_, _||_, not}
+-- One-sided, for the code: with the levels filled and the walk walked, the answer, and what the call gives and leaves.
+use mathlib.Core.Path.{_≡_, refl, sym, ap, ap₂, _∙_, subst}
+use mathlib.Core.Bool.{Bool, true, false, cond}
 use mathlib.Core.List.{List, [], _∷_, _++_}
-use Prim.Native.Nat.{ℕ, zero, suc, _+_, _-_, _*_, _/_, _%_, _≤_, _<_, min}
+use mathlib.Core.Option.{none, some}
+use Prim.Native.Nat.{ℕ, zero, suc, _+_, _*_, _≤_, _<_, _^_}
 use native.Mathlib.Omega.{arith}
-use lib.Dec.{eqb, leb, ltb}
-use lib.ListN.{length, getD, set, replicate, length-set, length-replicate}
-use borrow.Author.Tests.{leb-true, leb-false, ltb-true, ltb-false, le-leb, lt-leb, lt-ltb, le-ltb, eqb-true, eqb-false, eq-eqb, ne-eqb}
-use Rattle.lists.proofs.Tests.{by-test, by-order, by-equal, by-either, and-both, and-of, clash, tests}
-use mathlib.Core.Option.{Option, none, some}
-use lib.ListN.{drop}
 use native.Mathlib.Nat.{pow-suc, pow-zero}
-use Prim.Native.Nat.{_^_}
+use lib.ListN.{length, getD, replicate, drop}
+use borrow.Author.Tests.{ltb-true, lt-ltb, le-ltb, eq-eqb}
 use Rattle.search.specs.Plan.{T, Rest, Rest-one}
 use Rattle.search.specs.Walk.{answerBy, walkBy}
-use Rattle.sheet.specs.Sheet.{all, Site, Colour, Sheet, sheetIn, sheetFault, productOf, workFor}
-use Rattle.labelling.specs.Layout.{countOf, lengthOf, layoutWords, best, answer, answerBy as wordsBy, answerOf}
-use Rattle.labelling.specs.Promise.{takesSheet}
-use Rattle.lists.proofs.Tests.{is-false}
-use Rattle.labelling.specs.Layout.{isUsed}
-use Rattle.labelling.proofs.Members.{noSite, all-at, used-head, used-tail}
+use Rattle.sheet.specs.Sheet.{all, Sheet, sheetIn, productOf, workFor}
 use Rattle.sheet.proofs.Accepted.{Sound, sound, colourLow, sites-coloured}
+use Rattle.labelling.specs.Layout.{countOf, lengthOf, layoutWords, best, answer, answerBy as wordsBy, isUsed}
+use Rattle.labelling.specs.Promise.{takesSheet}
+use Rattle.labelling.proofs.Members.{noSite, all-at, used-head, used-tail}
 use Rattle.labelling.proofs.Maker.{First, best-some-iff, best-none-iff, Result, made, unmade, cleared}
 use Rattle.optimum.specs.Strips.{Point, Strip, Instance, rulesOf, stripsFrom, strips, labels, value, walked}
-use Rattle.optimum.proofs.StripsHeld.{laws, walked-first, walked-none, walked-cost}
+use Rattle.optimum.specs.CostWord.{layoutCost}
+use Rattle.optimum.specs.OneSided.{turnOf, topWord, instanceOf, order, pointsAt, tiesOf, oneSided}
+use Rattle.optimum.specs.Cells.{cells, cellOf, level, valueCells, oneSidedCells}
+use Rattle.optimum.proofs.StripsHeld.{laws, walked-first, walked-cost}
 use Rattle.optimum.proofs.Pairs.{zeros}
 use Rattle.optimum.proofs.Budgets.{full-low}
-unfoldable pub use Rattle.optimum.specs.CostWord.{countIn, lengthIn}
-use Rattle.optimum.specs.CostWord.{layoutCost}
 use Rattle.optimum.proofs.CostWord.{layout-count, layout-length}
-use Rattle.optimum.specs.OneSided.{turnOf, topWord, instanceOf, order, pointAt, pointsAt, tiesOf, oneSided}
-use Rattle.optimum.proofs.Order.{Ordered, ordered}
+use Rattle.optimum.proofs.Order.{ordered}
 use Rattle.optimum.proofs.Instance.{good}
-use Rattle.optimum.proofs.Join.{fullBudget, putBack, found-long, found-first, found-cost, one-sided-best, costs}
-use Rattle.optimum.specs.Cells.{cells, cellOf, level, valueCells, oneSidedCells}
-use Rattle.optimum.proofs.Levels.{InRange, Level, Coloured, level-holds, value-cells, Kept, walk-cells, answer-cells}
+use Rattle.optimum.proofs.OneSidedBest.{fullBudget, putBack, found-long, found-first, found-cost, one-sided-best}
+use Rattle.optimum.proofs.Levels.{Coloured, level-holds, Kept, walk-cells, answer-cells}
+unfoldable pub use Rattle.optimum.specs.CostWord.{countIn, lengthIn}
 
 turn-low : (s : Sheet) (t : Point) (k : ℕ) → turnOf s t k < 1
 unfolding turnOf

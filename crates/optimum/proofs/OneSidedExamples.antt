@@ -1,8 +1,7 @@
--- The starred examples of document 01 by the walk: computed. Assumes nothing.
+-- Document 01's starred examples and the sheets of Telling.antt, computed by the one-sided table and walk.
 use mathlib.Core.Path.{_≡_, refl}
-use mathlib.Core.List.{List, [], _∷_}
-use mathlib.Core.Option.{Option, none, some}
-use Prim.Native.Nat.{ℕ}
+use mathlib.Core.List.{[], _∷_}
+use mathlib.Core.Option.{none, some}
 use Rattle.search.specs.Cost.{plus, least, first}
 use Rattle.search.specs.Semi.{sum, prod}
 use Rattle.search.specs.Share.{conv, cheaper, never, just}
@@ -12,9 +11,9 @@ use Rattle.search.specs.Plan.{weight, T, Rest}
 use Rattle.search.specs.Walk.{chooseBy, walkBy, answerBy}
 use Rattle.sheet.specs.Sheet.{all, rankOf, sheetIn, slotsIn, coloursIn, sitesRun, sitesIn, productOf}
 use Rattle.labelling.specs.Promise.{sheetA, a, boundZero}
+use Rattle.labelling.specs.Layout.{siteShare, tiedOf, isUsed, usedFrom, leastX, slotsOf, boundsKept, backbones, drops, byRank, slotAt, comesFirst}
 use Rattle.optimum.specs.Strips.{marked, over, under, inside, farFrom, clearFrom, opens, joinsUp, joinsDown, cost, draw, children, stripsFrom, strips, holdFrom, hold, price, next, value, walked}
 use Rattle.optimum.specs.Cells.{build, cellOf, stripAt, shareAt, shareCells, stepCell, entryOf, level, joinCells, foldCells, startCells, valueCells, oneSidedCells}
-use Rattle.labelling.specs.Layout.{siteShare, tiedOf, isUsed, usedFrom, leastX, slotsOf, boundsKept, backbones, drops, byRank, slotAt, comesFirst}
 use Rattle.optimum.specs.Telling.{Telling}
 use Rattle.optimum.specs.OneSided.{farEnough, clearOf, shareOf, leadOf, mayOpen, tipClear, turnOf, heldOf, radicesOf, drawsOf, wordOf, nextRank, siteOf, orderFrom, order, pointsAt, scatter, oneSided}
 

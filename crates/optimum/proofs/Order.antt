@@ -1,26 +1,24 @@
--- The order of the sites by rising x: it has each site once. Sums over it. Assumes nothing but that the sheet is accepted.
+-- The order of the sites by rising rank has each site once; sums over it.
 use mathlib.Core.Path.{_≡_, refl, sym, ap, ap₂, _∙_, subst, subst⁻¹}
-use mathlib.Core.Logic.{_⊎_, inl, inr, _↔_}
-use mathlib.Core.Bool.{Bool, true, false, cond, _&&_, _||_, not}
-use mathlib.Core.List.{List, [], _∷_, _++_}
-use Prim.Native.Nat.{ℕ, zero, suc, _+_, _-_, _*_, _/_, _%_, _≤_, _<_, min}
+use mathlib.Core.Logic.{_⊎_, inl, inr}
+use mathlib.Core.Bool.{true, false, cond, _||_, not, false≢true}
+use mathlib.Core.List.{List, [], _∷_}
+use Prim.Native.Nat.{ℕ, zero, suc, _+_, _≤_, _<_}
 use native.Mathlib.Omega.{arith}
-use lib.Dec.{eqb, leb, ltb}
-use lib.ListN.{length, getD, set, replicate, length-set, length-replicate}
-use borrow.Author.Tests.{leb-true, leb-false, ltb-true, ltb-false, le-leb, lt-leb, lt-ltb, le-ltb, eqb-true, eqb-false, eq-eqb, ne-eqb}
-use Rattle.lists.proofs.Tests.{by-test, by-order, by-equal, by-either, and-both, and-of, clash, tests}
-use mathlib.Core.Bool.{false≢true}
-use Rattle.search.specs.Cost.{least, first, least-le, least-is, first-le, first-is}
-use Rattle.sheet.specs.Sheet.{numberTop, all, Site, Sheet, rankOf, rankTop, hasRank, ranksDiffer}
-use Rattle.labelling.specs.Layout.{isUsed}
-use Rattle.lists.proofs.Tests.{or-e, or-l, or-r, and-l, and-r, not-f, is-false, eqb-self}
-use Rattle.labelling.proofs.Members.{noSite, all-at, used-head, used-tail}
-use Rattle.sheet.proofs.Accepted.{Sound, lowX, lowY, rank-low}
-use Rattle.labelling.proofs.Earlier.{rankAt}
-use Rattle.optimum.proofs.StripsHeld.{set-same, set-other}
+use lib.Dec.{eqb, leb}
+use lib.ListN.{length, getD, set, length-set}
+use borrow.Author.Tests.{leb-true, ltb-true, le-leb, lt-leb, eqb-true, eqb-false, eq-eqb, ne-eqb}
+use Rattle.lists.proofs.Tests.{by-test, by-order, by-equal, by-either, clash, or-e, or-l, or-r, and-l, and-r, not-f, is-false, eqb-self}
+use Rattle.search.specs.Cost.{least, least-le, least-is, first-le, first-is}
 use Rattle.search.specs.Sums.{sum}
 use Rattle.search.proofs.Sums.{sum-cong, sum-add, sum-zero, sum-point, sum-pos, sum-ones}
+use Rattle.sheet.specs.Sheet.{numberTop, Site, Sheet, rankOf, rankTop, hasRank, ranksDiffer}
+use Rattle.sheet.proofs.Accepted.{Sound, lowX, lowY, rank-low}
+use Rattle.labelling.specs.Layout.{isUsed}
+use Rattle.labelling.proofs.Members.{noSite, all-at, used-head, used-tail}
+use Rattle.labelling.proofs.Earlier.{rankAt}
 use Rattle.optimum.specs.OneSided.{nextRank, siteOf, orderFrom, order, scatter}
+use Rattle.optimum.proofs.StripsHeld.{set-same, set-other}
 
 -- ---- distinct x
 

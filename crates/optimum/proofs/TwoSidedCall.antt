@@ -1,21 +1,19 @@
--- What a call of the maker on an accepted two-sided sheet answers and leaves, by the table's value. Assumes nothing.
-use mathlib.Core.Path.{_≡_, refl, sym, ap, ap₂, _∙_, subst}
-use mathlib.Core.Bool.{Bool, true, false, cond}
-use mathlib.Core.List.{List, [], _∷_, _++_}
-use mathlib.Core.Option.{Option, none, some}
-use Prim.Native.Nat.{ℕ, zero, suc, _+_, _*_, _-_, _/_, _%_, _≤_, _<_}
-use native.Mathlib.Omega.{arith}
-use lib.ListN.{length, getD, drop}
-use Rattle.sheet.specs.Sheet.{Sheet, sheetIn, sheetFault}
-use Rattle.labelling.specs.Layout.{countOf, lengthOf, layoutWords, answerOf, best}
-use Rattle.labelling.specs.Promise.{takesSheet}
+-- Two-sided, for the code: what the call gives and leaves, by the table's value.
+use mathlib.Core.Path.{_≡_, ap₂, subst}
+use mathlib.Core.Bool.{true}
+use mathlib.Core.List.{List, _++_}
+use Prim.Native.Nat.{ℕ, _+_, _≤_, _<_}
+use lib.ListN.{length, drop}
+use Rattle.sheet.specs.Sheet.{Sheet, sheetIn}
 use Rattle.sheet.proofs.Accepted.{sound, sites-coloured}
+use Rattle.labelling.specs.Layout.{layoutWords}
+use Rattle.labelling.specs.Promise.{takesSheet}
 use Rattle.labelling.proofs.Maker.{First, Result, cleared, best-some-iff, best-none-iff, made, unmade}
-use Rattle.optimum.specs.UsedSlots.{Instance, value, capAll, ties}
+use Rattle.optimum.specs.UsedSlots.{value, capAll, ties}
 use Rattle.optimum.specs.CostWord.{topWord}
-unfoldable pub use Rattle.optimum.specs.CostWord.{countIn, lengthIn}
 use Rattle.optimum.specs.TwoSided.{instanceOf}
 use Rattle.optimum.proofs.TwoSidedAnswer.{some-is, none-is, numbers}
+unfoldable pub use Rattle.optimum.specs.CostWord.{countIn, lengthIn}
 
 -- the least cost of a sheet, and the caps at the end of the walk
 abbrev pub leastOf : Sheet → ℕ

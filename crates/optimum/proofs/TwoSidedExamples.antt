@@ -1,16 +1,12 @@
--- Examples by computation: sheet A two-sided. Assumes nothing.
+-- Document 01's two-sided example, computed.
 use mathlib.Core.Path.{_≡_, refl}
-use mathlib.Core.Bool.{cond}
-use mathlib.Core.List.{List, [], _∷_}
-use mathlib.Core.Option.{Option, none, some}
-use Prim.Native.Nat.{ℕ}
-use lib.ListN.{length, getD}
-use Rattle.labelling.specs.Layout.{siteShare}
-use Rattle.sheet.specs.Sheet.{rankOf, sheetIn, slotsIn, sitesIn, coloursIn, sitesRun, productOf}
-use Rattle.labelling.specs.Promise.{sheetA}
+use mathlib.Core.List.{[], _∷_}
+use mathlib.Core.Option.{some}
 use Rattle.search.specs.Cost.{plus, least, first}
-use Rattle.search.specs.Walk.{walk}
 use Rattle.search.specs.Radix.{digitOf, place}
+use Rattle.sheet.specs.Sheet.{rankOf, sheetIn, slotsIn, sitesIn, coloursIn, sitesRun, productOf}
+use Rattle.labelling.specs.Layout.{siteShare}
+use Rattle.labelling.specs.Promise.{sheetA}
 use Rattle.optimum.specs.Sums.{listing, sumTo}
 use Rattle.optimum.specs.UsedSlots.{put, at, over, under, farUp, clearUp, clearDown, may, draw, allows, upCost, downCost, siteCost, inside, strip, price, next, final, below, T, value, leftmost, choose, capAll, ties, answer}
 use Rattle.optimum.specs.TwoSided.{radicesOf, twoSided}

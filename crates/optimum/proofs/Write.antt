@@ -1,29 +1,23 @@
 -- Writing the answer word by word: the walk names each site once, so what the area held has no part in the result.
--- Assumes nothing but that the sheet is accepted.
-use mathlib.Core.Path.{_≡_, refl, sym, ap, ap₂, _∙_, subst, subst⁻¹}
-use mathlib.Core.Logic.{_⊎_, inl, inr, _↔_}
-use mathlib.Core.Bool.{Bool, true, false, cond, _&&_, _||_, not}
+use mathlib.Core.Path.{_≡_, refl, sym, ap, ap₂, _∙_, subst⁻¹}
+use mathlib.Core.Bool.{true, false}
 use mathlib.Core.List.{List, [], _∷_, _++_}
-use Prim.Native.Nat.{ℕ, zero, suc, _+_, _-_, _*_, _/_, _%_, _≤_, _<_, min}
+use Prim.Native.Nat.{ℕ, zero, suc, _+_, _*_, _≤_, _<_}
 use native.Mathlib.Omega.{arith}
-use lib.Dec.{eqb, leb, ltb}
-use lib.ListN.{length, getD, set, replicate, length-set, length-replicate}
-use borrow.Author.Tests.{leb-true, leb-false, ltb-true, ltb-false, le-leb, lt-leb, lt-ltb, le-ltb, eqb-true, eqb-false, eq-eqb, ne-eqb}
-use Rattle.lists.proofs.Tests.{by-test, by-order, by-equal, by-either, and-both, and-of, clash, tests}
-use lib.ListN.{take, drop, take-append-drop, length-take}
-use mathlib.Core.Bool.{false≢true}
+use lib.ListN.{length, getD, set, replicate, length-set, length-replicate, take, drop, take-append-drop, length-take}
+use borrow.Author.Tests.{ne-eqb}
+use Rattle.lists.proofs.Tests.{by-equal, clash}
 use Rattle.sheet.specs.Sheet.{Sheet, sheetIn}
+use Rattle.sheet.proofs.Accepted.{Sound, sound, sites-coloured}
 use Rattle.labelling.specs.Promise.{takesSheet}
 use Rattle.labelling.proofs.Maker.{Result, cleared}
 use Rattle.labelling.specs.Layout.{isUsed, tieWords, layoutWords}
-use Rattle.lists.proofs.Tests.{or-l, or-r, is-false}
 use Rattle.labelling.proofs.Members.{used-head, used-tail}
-use Rattle.sheet.proofs.Accepted.{Sound, sound, sites-coloured}
-use Rattle.optimum.proofs.StripsHeld.{set-same, set-other}
 use Rattle.optimum.specs.OneSided.{topWord, order, scatter}
+use Rattle.optimum.proofs.StripsHeld.{set-same, set-other}
 use Rattle.optimum.proofs.OneSidedAnswer.{countIn, lengthIn, firstCell, slotsWalked, walk-long, call-made}
-use Rattle.optimum.proofs.Order.{Rise, Ordered, ordered}
-use Rattle.optimum.proofs.Join.{putBack}
+use Rattle.optimum.proofs.Order.{ordered}
+use Rattle.optimum.proofs.OneSidedBest.{putBack}
 
 -- a tie as a word; the ties written in turn, the tie of site i to place i + 1 of the area
 abbrev pub tieWord : ℕ → ℕ

@@ -1,12 +1,11 @@
--- THE ONE-SIDED WALK, as code is to follow it: the sheet, its open labels, the strips between them, the table's rules,
--- and the walk. Assumes nothing: these are definitions.
-use mathlib.Core.Path.{_≡_, refl}
+-- The one-sided walk as code follows it: what is asked of a sheet, its open labels, the strips between them, the table's rules, and
+-- the walk.
 use mathlib.Core.Bool.{Bool, true, false, cond, not, _&&_, _||_}
-use mathlib.Core.Option.{Option, none, some}
+use mathlib.Core.Option.{Option}
 use mathlib.Core.List.{List, [], _∷_}
-use Prim.Native.Nat.{ℕ, zero, suc, _+_, _-_, _*_, _≤_, _<_}
+use Prim.Native.Nat.{ℕ, zero, suc, _+_, _-_}
 use lib.Dec.{eqb, leb, ltb}
-use lib.ListN.{length, getD, set, replicate}
+use lib.ListN.{getD, set, replicate}
 use Rattle.search.specs.Radix.{below}
 use Rattle.search.specs.Plan.{Rules, Rest}
 use Rattle.search.specs.Walk.{Process, answerBy}
@@ -17,7 +16,7 @@ pub record Point : Type 0 where
   pub y : ℕ
   pub c : ℕ
 
--- a strip: the labels above and below it (0: the page's top edge, k + 1: slot k, m + 1: its bottom edge) and their
+-- a strip: the labels above and below it (0: the sheet's top edge, k + 1: slot k, m + 1: its bottom edge) and their
 -- colours (0: an edge has none, c + 1: colour c); d is 1 if the last site tied in it went down
 pub record Strip : Type 0 where
   pub a : ℕ
@@ -97,7 +96,7 @@ module _ (P : Instance) where
       (record { a = p .a; ca = p .ca; b = suc k; cb = suc (s .c); d = turn s k } ∷ record { a = suc k; ca = suc (s .c); b = p .b; cb = p .cb; d = 0 } ∷ [])
       (record { a = p .a; ca = p .ca; b = p .b; cb = p .cb; d = turn s k } ∷ [])
 
-  -- the table and its sharing: `T (rulesOf P)`, `Rest (rulesOf P)`; their equations are in theory's Plan
+  -- the table and its sharing: `T (rulesOf P)`, `Rest (rulesOf P)`; their equations are in search's Plan
   abbrev pub rulesOf : Rules Strip Point
   rulesOf = record { top = top; m = m; below = below radices; inside = inside; cost = cost; draw = draw; children = children }
 

@@ -1,10 +1,10 @@
--- Sheets that tell the answer from what a misreading of document 01 gives. Assumes nothing: these are definitions.
+-- Sheets that tell the answer from what a misreading of document 01 gives.
 use mathlib.Core.Path.{_≡_}
-use mathlib.Core.Bool.{Bool, true}
+use mathlib.Core.Bool.{true}
 use mathlib.Core.List.{List, [], _∷_}
-use mathlib.Core.Option.{Option, some}
+use mathlib.Core.Option.{some}
 use Prim.Native.Nat.{ℕ}
-use Rattle.sheet.specs.Sheet.{Sheet, sheetIn}
+use Rattle.sheet.specs.Sheet.{sheetIn}
 use Rattle.labelling.specs.Layout.{brokenIn, isBetter}
 use Rattle.optimum.specs.OneSided.{oneSided}
 

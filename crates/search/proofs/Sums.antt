@@ -8,7 +8,7 @@ use lib.Dec.{eqb}
 use lib.ListN.{length, getD}
 use borrow.Author.Tests.{eq-eqb, ne-eqb}
 use Rattle.lists.proofs.Tests.{by-test, by-order, by-equal}
-use Rattle.search.specs.Sums.{listing, oneIf, tally, sum}
+use Rattle.search.specs.Sums.{listing, tally, sum}
 
 -- ---- plain sums
 

@@ -1,8 +1,7 @@
 -- Budgets in mixed radix: a number v has a digit for each radix of a list, the lowest first, and what is left above them.
 -- w may be taken from v where each digit of w is at most v's. Any list of radices will do, 0 and 1 among them.
--- Assumes nothing.
-use mathlib.Core.Path.{_≡_, refl, sym, ap, ap₂, _∙_, subst}
-use mathlib.Core.Bool.{Bool, true, false, _&&_}
+use mathlib.Core.Path.{_≡_, refl, ap, _∙_}
+use mathlib.Core.Bool.{Bool, true, _&&_}
 use mathlib.Core.List.{List, [], _∷_}
 use Prim.Native.Nat.{ℕ, zero, suc, _+_, _-_, _*_, _/_, _%_, _≤_, _<_}
 use native.Mathlib.Nat.{div-add-mod', mul-le-mul-right, mod-lt, mod-zero, div-zero, zero-mod, zero-div, zero-lt-suc}

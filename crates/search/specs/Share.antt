@@ -1,17 +1,15 @@
--- Sharing a budget. A budget is a number v; `below w v` says that w may be taken from v, which leaves v - w. `conv f g v` is
--- the least cost of sharing v between f and g. With it, and the least of two, the functions from budgets to costs are a
--- commutative semiring. Assumes nothing but the laws of `below`, the record `Sharing`.
-use mathlib.Core.Path.{_≡_, refl, sym, ap, ap₂, _∙_, fun-ext}
-use mathlib.Core.Logic.{_⊎_, inl, inr}
+-- Sharing a budget. `below w v` says that w may be taken from the budget v, which leaves v - w; `conv f g v` is the least cost of
+-- sharing v between f and g. With it, and the least of two, the functions from budgets to costs are a commutative semiring.
+use mathlib.Core.Path.{_≡_, refl, ap, _∙_, fun-ext}
 use mathlib.Core.Bool.{Bool, true, false, cond}
 use mathlib.Core.List.{List, [], _∷_}
 use Prim.Native.Nat.{ℕ, zero, suc, _+_, _-_, _≤_, _<_, min}
-use native.Mathlib.Nat.{le-antisymm, le-trans, le-of-eq, le-refl, sub-zero, zero-add}
+use native.Mathlib.Nat.{le-antisymm, le-trans, le-refl, sub-zero, zero-add}
 use native.Mathlib.Omega.{arith}
 use lib.Dec.{eqb}
 use borrow.Author.Tests.{eqb-true, eqb-false, eq-eqb, ne-eqb}
 use Rattle.lists.proofs.Tests.{by-test, clash}
-use Rattle.search.specs.Cost.{plus, least, plus-comm, plus-assoc, plus-min, plus-top, top-plus, plus-le, plus-zero, plus-mono, least-le-top, least-le, least-most, least-cong, plus-least}
+use Rattle.search.specs.Cost.{plus, least, plus-comm, plus-assoc, plus-min, plus-top, top-plus, plus-le, plus-mono, least-le-top, least-le, least-most, plus-least}
 use Rattle.search.specs.Semi.{Semiring, sum, prod}
 
 -- what may be taken from what

@@ -1,16 +1,16 @@
--- Theorem 4: the walk gives the first. For any states, sites, steps and costs. Assumes nothing.
+-- THEOREM 4: the walk gives the first. For any states, sites, steps and costs.
 use mathlib.Core.Path.{_≡_, refl, sym, ap, ap₂, _∙_}
 use mathlib.Core.Logic.{_⊎_, inl, inr, _↔_}
-use mathlib.Core.Bool.{Bool, true, false, cond}
+use mathlib.Core.Bool.{cond}
 use mathlib.Core.Option.{Option, none, some}
 use mathlib.Core.List.{List, [], _∷_}
-use Prim.Native.Nat.{ℕ, zero, suc, _+_, _≤_, _<_, min}
-use native.Mathlib.Nat.{eq-or-lt-of-le, le-antisymm, le-trans, le-of-eq}
+use Prim.Native.Nat.{ℕ, _+_, _≤_, _<_, min}
+use native.Mathlib.Nat.{eq-or-lt-of-le, le-trans}
 use native.Mathlib.Omega.{arith}
 use lib.Dec.{eqb, ltb}
-use borrow.Author.Tests.{eqb-true, eq-eqb, ltb-true, ltb-false, lt-ltb, le-ltb}
+use borrow.Author.Tests.{eqb-true, eq-eqb, ltb-true, lt-ltb, le-ltb}
 use Rattle.lists.proofs.Tests.{by-test, by-order, by-either}
-use Rattle.search.specs.Cost.{plus, least, first, plus-le, plus-mono, plus-cancel, plus-below, least-le-top, least-le, least-most, least-is, first-le, first-is, first-cong, top-plus}
+use Rattle.search.specs.Cost.{plus, least, first, plus-le, plus-mono, plus-cancel, plus-below, least-le-top, least-le, least-is, first-le, first-is, first-cong}
 
 -- js is ks, or is smaller at the first place where they differ
 unfoldable pub Before : List ℕ → List ℕ → Type 0

@@ -1,45 +1,41 @@
--- THE JOIN: the best of document 03 is what the one-sided walk over the table finds. Assumes nothing but that the sheet is
--- accepted and one-sided.
+-- ONE-SIDED: the best of an accepted sheet is what the walk over the table finds. Theorems 0 to 4 put together.
 use mathlib.Core.Path.{_≡_, refl, sym, ap, ap₂, _∙_, subst, subst⁻¹}
-use mathlib.Core.Logic.{_⊎_, inl, inr, _↔_}
-use mathlib.Core.Bool.{Bool, true, false, cond, _&&_, _||_, not}
-use mathlib.Core.List.{List, [], _∷_, _++_}
-use Prim.Native.Nat.{ℕ, zero, suc, _+_, _-_, _*_, _/_, _%_, _≤_, _<_, min}
-use native.Mathlib.Omega.{arith}
-use lib.Dec.{eqb, leb, ltb}
-use lib.ListN.{length, getD, set, replicate, length-set, length-replicate}
-use borrow.Author.Tests.{leb-true, leb-false, ltb-true, ltb-false, le-leb, lt-leb, lt-ltb, le-ltb, eqb-true, eqb-false, eq-eqb, ne-eqb}
-use Rattle.lists.proofs.Tests.{by-test, by-order, by-equal, by-either, and-both, and-of, clash, tests}
-use mathlib.Core.Bool.{false≢true}
+use mathlib.Core.Logic.{_⊎_, inl, inr}
+use mathlib.Core.Bool.{true, false, false≢true}
+use mathlib.Core.List.{List, [], _∷_}
 use mathlib.Core.Option.{Option, none, some}
+use Prim.Native.Nat.{ℕ, suc, _+_, _≤_, _<_}
+use native.Mathlib.Omega.{arith}
+use lib.Dec.{eqb, ltb}
+use lib.ListN.{length, getD, set, replicate, length-replicate}
+use borrow.Author.Tests.{ltb-true, lt-ltb, eqb-true, eqb-false}
+use Rattle.lists.proofs.Tests.{by-test, by-either, or-e, is-false}
 use Rattle.search.specs.Walk.{Before, First as Cheapest, costOf}
-use Rattle.sheet.specs.Sheet.{all, Site, Colour, Sheet, productOf}
-use Rattle.labelling.specs.Layout.{tied, heightOf, noColour, isUsed, usedOf, slotsOf, countOf, lengthOf, firstNumber, secondNumber, isBetter, best}
-use Rattle.lists.proofs.Tests.{or-e, is-false}
-use Rattle.labelling.proofs.Members.{noSite, all-at, at-all, used-head, used-tail}
+use Rattle.sheet.specs.Sheet.{Sheet}
 use Rattle.sheet.proofs.Accepted.{Sound}
+use Rattle.labelling.specs.Layout.{noColour, isUsed, isBetter, best}
+use Rattle.labelling.proofs.Members.{noSite, all-at, at-all, used-head, used-tail}
 use Rattle.labelling.proofs.Best.{Obeys, below as lowTies}
-use Rattle.labelling.proofs.Words.{count-low, length-low}
 use Rattle.labelling.proofs.Rules.{Rules, Bounded, obeys-rules, rules-obey}
-use Rattle.labelling.proofs.Earlier.{rankAt, Earlier, Better, better-e}
+use Rattle.labelling.proofs.Earlier.{Earlier, better-e}
 use Rattle.labelling.proofs.Maker.{First, best-some-iff, best-none-iff}
-use Rattle.optimum.specs.Strips.{Point, Instance, hold, labels, walked}
+use Rattle.labelling.proofs.Pairs.{AllInOrder, rules-pairs, pairs-rules}
+use Rattle.optimum.specs.Strips.{Point, Instance, labels, walked}
+use Rattle.optimum.specs.Budgets.{unboundedColour, isUnbounded, digitIn}
+use Rattle.optimum.specs.CostWord.{layoutCost}
+use Rattle.optimum.specs.OneSided.{tipClear, heldOf, boundOf, wordOf, topWord, instanceOf, order, pointAt, pointsAt, scatter, tiesOf, oneSided}
 use Rattle.optimum.proofs.StripsHeld.{walked-first, walked-none}
-use Rattle.optimum.proofs.Near.{Step, Apart}
-use Rattle.optimum.proofs.Steps.{Steps, Pays, Tips, Turns, tips-all, turns-all, opened, shares, total, run-e, run-i}
+use Rattle.optimum.proofs.Neighbours.{Apart}
+use Rattle.optimum.proofs.Steps.{Steps, Pays, Tips, Turns, tips-all, turns-all, opened, total, run-e, run-i}
 use Rattle.optimum.proofs.Pairs.{zeros, StepAll, Pairs, steps-e, steps-i, first-step}
 use Rattle.optimum.proofs.Pays.{isOf, pays-e, pays-i}
-use Rattle.optimum.specs.Budgets.{unboundedColour, isUnbounded, digitIn}
-pub use Rattle.optimum.specs.Budgets.{fullBudget}
 use Rattle.optimum.proofs.Budgets.{bound-of, bounded-low, full-digit}
-use Rattle.optimum.specs.CostWord.{layoutCost}
 use Rattle.optimum.proofs.CostWord.{layout-low, better-costs}
-use Rattle.optimum.specs.OneSided.{tipClear, heldOf, boundOf, radicesOf, wordOf, topWord, instanceOf, xOf, order, pointAt, pointsAt, scatter, tiesOf, oneSided}
-use Rattle.optimum.proofs.Order.{Rise, Ordered, ordered, same-site, gather, gather-long, scatter-long, gather-scatter}
+use Rattle.optimum.proofs.Order.{Rise, ordered, gather, scatter-long, gather-scatter}
 use Rattle.optimum.proofs.Instance.{good, linear, budgeted}
-use Rattle.labelling.proofs.Pairs.{AllInOrder, rules-pairs, pairs-rules}
-use Rattle.optimum.proofs.Zero.{AllPairs, pairs-rising, rising-pairs, list-e, list-i}
+use Rattle.optimum.proofs.RankedPairs.{AllPairs, pairs-rising, rising-pairs, list-e, list-i}
 use Rattle.optimum.proofs.Counts.{shares-drops, count-is, lead-is, colour-is}
+pub use Rattle.optimum.specs.Budgets.{fullBudget}
 
 -- ---- slots below m
 

@@ -1,37 +1,37 @@
--- A sheet's layouts and its sheet: a lawful layout is a choice of labels that fit and of slots that suit the sites. Assumes nothing.
-use mathlib.Core.Path.{_≡_, refl, sym, ap, ap₂, _∙_, subst, subst⁻¹}
+-- Two-sided, from the rules to the table: a lawful layout is a choice of labels that fit and of slots that suit the sites, so the
+-- table's value is at most its cost.
+use mathlib.Core.Path.{_≡_, refl, sym, ap, _∙_, subst, subst⁻¹}
 use mathlib.Core.Logic.{_⊎_, inl, inr, _≢_}
-use mathlib.Core.Bool.{Bool, true, false, cond, _&&_, _||_, not}
+use mathlib.Core.Bool.{Bool, true, false, cond}
 use mathlib.Core.List.{List, [], _∷_}
 use Prim.Native.Nat.{ℕ, zero, suc, _+_, _*_, _-_, _≤_, _<_, min}
-use native.Mathlib.Nat.{le-refl, le-trans, le-of-eq, le-antisymm, mul-le-mul-right}
+use native.Mathlib.Nat.{le-trans, le-of-eq, mul-le-mul-right}
 use native.Mathlib.Omega.{arith}
-use lib.Dec.{ltb, leb, eqb}
+use lib.Dec.{ltb, eqb}
 use lib.ListN.{length, getD}
-use borrow.Author.Tests.{ltb-true, ltb-false, leb-true, leb-false, eqb-true, eqb-false, lt-ltb, le-ltb, le-leb, lt-leb, eq-eqb, ne-eqb}
-use Rattle.sheet.specs.Sheet.{all, Site, Colour, Sheet, productOf}
-use Rattle.labelling.specs.Layout.{Tied, tiedOf, tied, apart, heightOf, noColour, siteShare, isUsed, usedFrom, usedOf, leastX, leftEnd, slotsOf, backbones, drops, countOf, lengthOf}
-use Rattle.labelling.proofs.Members.{rise-at, all-at, at-all, used-at, at-used, used-head, used-tail, noSite}
-use Rattle.labelling.proofs.Best.{below, Obeys}
-use Rattle.labelling.proofs.Rules.{Rules, Bounded, siteAt, obeys-rules, rules-obey}
-use Rattle.sheet.proofs.Accepted.{Sound, colourLow}
-use Rattle.labelling.proofs.Words.{count-low, length-low}
-use Rattle.lists.proofs.Tests.{by-test, by-order, by-either, by-equal, clash, and-both, and-of, tests}
+use borrow.Author.Tests.{ltb-true, eqb-true, eqb-false, le-leb}
+use Rattle.lists.proofs.Tests.{by-test, by-either, clash}
 use Rattle.search.specs.Cost.{plus}
 use Rattle.search.specs.Radix.{digitOf, place}
+use Rattle.sheet.specs.Sheet.{all, Site, Colour, Sheet}
+use Rattle.sheet.proofs.Accepted.{Sound, colourLow}
+use Rattle.labelling.specs.Layout.{isFar, tiedOf, tied, heightOf, noColour, siteShare, isUsed, usedFrom, usedOf, leastX, leftEnd, slotsOf, backbones, drops, countOf, lengthOf}
+use Rattle.labelling.proofs.Members.{rise-at, all-at, used-at, noSite}
+use Rattle.labelling.proofs.Best.{Obeys}
+use Rattle.labelling.proofs.Rules.{Rules, Bounded, siteAt, obeys-rules}
+use Rattle.labelling.proofs.Counted.{slots-at}
 use Rattle.optimum.specs.Sums.{tally, tally-mono, sumTo, sum-head}
-use Rattle.optimum.specs.UsedSlots.{Instance, farUp, allows, value}
+use Rattle.optimum.specs.UsedSlots.{Instance, farUp, value}
 use Rattle.optimum.specs.TwoSided.{radicesOf, countUnit, lengthUnit, instanceOf}
 use Rattle.optimum.specs.Budgets.{fullBudget}
 use Rattle.optimum.specs.CostWord.{topWord, layoutCost}
+use Rattle.optimum.proofs.Distances.{far-down}
 use Rattle.optimum.proofs.Budgets.{bound-of, full-digit, draws}
 use Rattle.optimum.proofs.CostWord.{word-units, layout-low}
-use Rattle.labelling.proofs.Counted.{slots-at}
-use Rattle.optimum.proofs.Chain.{is-label, fits}
-use Rattle.optimum.proofs.Fits.{coded, Fitting, Anchored, fits-from}
-use Rattle.optimum.proofs.Ties.{Suits}
-use Rattle.optimum.proofs.Least.{comes, value-low, Hit, value-hit}
-use Rattle.optimum.proofs.Greedy.{Respects}
+use Rattle.optimum.proofs.Chain.{is-label}
+use Rattle.optimum.proofs.Fits.{Anchored, fits-from}
+use Rattle.optimum.proofs.Least.{value-low}
+use Rattle.optimum.proofs.Caps.{Respects}
 
 -- THE CODE OF A SLOT: none, or the colour of the first site that has it
 unfoldable pub codeIn : ℕ → List Site → List ℕ → ℕ
@@ -153,16 +153,13 @@ module _ (s : Sheet) (o : Sound s) (two : s .isTwoSided ≡ true) (coloured : al
     unfolding farUp
     far p q l m x y = go (view p (s .sites) js (ob .long)) (view q (s .sites) js (ob .long))
       where
-        two-far : (a b d : ℕ) → a < b → d ≤ (a - b) + (b - a) → a + d ≤ b
-        two-far a b d l h = omega arith
-
         go : View p (s .sites) js → View q (s .sites) js → farUp G (suc p) (codes p) q (codes q) ≡ true
         go (inl (z, f)) w = absurd (x z)
         go (inr v) (inl (z, f)) = absurd (y z)
         go (inr (i, (u, e, z))) (inr (j, (v, e′, z′))) =
-            let h : leb (s .gap) (apart (heightOf s (getD js i 0)) (heightOf s (getD js j 0))) ≡ true = r .three i j u v (λ (w : getD js i 0 ≡ getD js j 0). omega arith) in
-            let g : leb (s .gap) (apart (heightOf s p) (heightOf s q)) ≡ true = rw (e, e′) at h in
-            le-leb (heightOf s p + s .gap) (heightOf s q) (two-far (heightOf s p) (heightOf s q) (s .gap) (rise-at (s .slots) (o .rise) p q l m) (leb-true _ _ g))
+            let h = r .three i j u v (λ (w : getD js i 0 ≡ getD js j 0). omega arith) in
+            let g : isFar s p ((siteAt s i) .colour) q ((siteAt s j) .colour) ≡ true = rw (e, e′) at h in
+            le-leb (heightOf s p + s .gap) (heightOf s q) (far-down s p ((siteAt s i) .colour) q ((siteAt s j) .colour) (rise-at (s .slots) (o .rise) p q l m) g)
 
     clear : (i q : ℕ) → i < length (s .sites) → codes q ≢ 0 → q ≢ getD js i 0 →
         ((heightOf s q + s .gap ≤ (siteAt s i) .y) × (heightOf s q < heightOf s (getD js i 0))) ⊎
@@ -192,12 +189,12 @@ module _ (s : Sheet) (o : Sound s) (two : s .isTwoSided ≡ true) (coloured : al
             (λ j a b c. mine j (eqb-true _ _ c) (view j (s .sites) js (ob .long))))
             (le-trans (le-of-eq (sym (length-used (length (s .slots)) 0 (slotsOf e (tied s js))))) q)
 
-    -- the table's value is at most what a lawful layout costs that respects the capped-all sites
-    pub lawful-low : (fx : ℕ → ℕ) → Respects G fx js → value G fx ≤ cost js
+    -- the table's value is at most what a lawful layout costs within the caps
+    pub lawful-low : (caps : ℕ → ℕ) → Respects G caps js → value G caps ≤ cost js
     unfolding cost
-    lawful-low fx h =
-        le-trans (value-low G fx (draws s) (o .gapped) codes js
-        (fits-from G fx codes (draws s) low-code far (length (s .slots)) 0 0 0 (fullBudget s) (omega arith) (unfold Anchored in tt) within)
+    lawful-low caps h =
+        le-trans (value-low G caps (draws s) (o .gapped) codes js
+        (fits-from G caps codes (draws s) low-code far (length (s .slots)) 0 0 0 (fullBudget s) (omega arith) (unfold Anchored in tt) within)
         (λ i l. record { slot = low-slot i l; own = own i l; allowed = h i l; clear = λ q m z n. clear i q l z n }))
         (step (tally (λ j. is-label (codes j)) 0 (length (s .slots))) (countOf s js) (countUnit s + s .width * lengthUnit s) (drops s (tied s js) * lengthUnit s) _
         (le-trans (tally-mono (λ j. is-label (codes j)) (λ j. isUsed j js) 0 (length (s .slots)) (λ j a b c. used-code j (label-e (codes j) c)))
