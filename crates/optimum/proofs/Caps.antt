@@ -223,17 +223,6 @@ module _ (G : Instance) where
         (λ p. ap (value G) (stop f caps (p .0)) ∙ v)
         (λ p. ap (value G) (step f caps (p .0)) ∙ keeps f (put caps (leftmost G caps n) (suc (choose G w caps (leftmost G caps n)))) (chosen caps (leftmost G caps n) (p .0) (p .1) v))
 
-    pub extends : (f : ℕ) (caps : ℕ → ℕ) (i : ℕ) → caps i ≢ 0 → capAll G w f caps i ≡ caps i
-    extends zero caps i z = ap (λ (g : ℕ → ℕ). g i) (nil caps)
-    extends (suc f) caps i z =
-        by-either (left caps n (le-refl n))
-        (λ p. ap (λ (g : ℕ → ℕ). g i) (stop f caps (p .0)))
-        (λ p.
-        let r = leftmost G caps n in
-        let k = choose G w caps r in
-        let q : put caps r (suc k) i ≡ caps i = put-other caps r (suc k) i (λ e. z (ap caps e ∙ p .1)) in
-        ap (λ (g : ℕ → ℕ). g i) (step f caps (p .0)) ∙ extends f (put caps r (suc k)) i (λ e. z (sym q ∙ e)) ∙ q)
-
     all-capped : (caps : ℕ → ℕ) → uncapped caps ≡ 0 → (i : ℕ) → i < n → caps i ≢ 0
     all-capped caps h i l = eqb-false (caps i) 0 (tally-none (λ j. eqb (caps j) 0) n 0 h i (omega arith) (omega arith))
 

@@ -1,7 +1,7 @@
 -- An accepted sheet obeys what the steps ask of an instance: its distances, its costs and its budget.
-use mathlib.Core.Path.{_≡_, ap}
+use mathlib.Core.Path.{_≡_, refl, ap}
 use mathlib.Core.Logic.{_⊎_, inl, inr}
-use mathlib.Core.Bool.{true, not}
+use mathlib.Core.Bool.{true, not, false}
 use Prim.Native.Nat.{ℕ, _+_, _<_}
 use native.Mathlib.Omega.{arith}
 use lib.Dec.{eqb}
@@ -14,9 +14,9 @@ use Rattle.sheet.specs.Sheet.{Sheet, rising}
 use Rattle.sheet.proofs.Accepted.{Sound}
 use Rattle.labelling.specs.Layout.{heightOf}
 use Rattle.labelling.proofs.Members.{rise-at}
-use Rattle.optimum.specs.Strips.{Point}
+use Rattle.optimum.specs.Strips.{Strip, Point}
 use Rattle.optimum.specs.Budgets.{boundOf, isUnbounded, radicesOf, digitIn, drawsOf}
-use Rattle.optimum.specs.OneSided.{farEnough, clearOf, mayOpen, instanceOf}
+use Rattle.optimum.specs.OneSided.{farEnough, clearOf, mayOpen, tipClear, turnOf, heldOf, instanceOf}
 use Rattle.optimum.proofs.Neighbours.{Good}
 use Rattle.optimum.proofs.Distances.{far-sym, far-trans, far-above, far-below, clear-above, clear-below, clear-off}
 use Rattle.optimum.proofs.Steps.{Linear}
@@ -41,6 +41,22 @@ good s o = record {
   where
     up : (j k : ℕ) → j < k → k < length (s .slots) → heightOf s j < heightOf s k
     up j k p l = rise-at (s .slots) (o .rise) j k p l
+
+-- ---- what is asked of a step beside them: nothing; a site leaves no mark
+
+pub tip-clear : (s : Sheet) (t : Point) (k : ℕ) → tipClear s t k ≡ true
+unfolding tipClear
+tip-clear s t k = refl
+
+pub not-held : (s : Sheet) (p : Strip) (t : Point) → heldOf s p t ≡ false
+unfolding heldOf
+not-held s p t = refl
+
+pub turn-low : (s : Sheet) (t : Point) (k : ℕ) → turnOf s t k < 1
+unfolding turnOf
+turn-low s t k = omega arith
+
+-- ---- costs
 
 pub linear : (s : Sheet) → Linear (instanceOf s)
 linear s = record { nothing = word-nothing s; adds = word-adds s }

@@ -16,23 +16,19 @@ use Rattle.labelling.specs.Layout.{countOf, lengthOf, layoutWords, best, answer
 use Rattle.labelling.specs.Promise.{takesSheet}
 use Rattle.labelling.proofs.Members.{noSite, all-at, used-head, used-tail}
 use Rattle.labelling.proofs.Maker.{First, best-some-iff, best-none-iff, Result, made, unmade, cleared}
-use Rattle.optimum.specs.Strips.{Point, Strip, Instance, rulesOf, stripsFrom, strips, labels, value, walked}
+use Rattle.optimum.specs.Strips.{Strip, Instance, rulesOf, stripsFrom, strips, labels, value, walked}
 use Rattle.optimum.specs.CostWord.{layoutCost}
-use Rattle.optimum.specs.OneSided.{turnOf, topWord, instanceOf, order, pointsAt, tiesOf, oneSided}
+use Rattle.optimum.specs.OneSided.{topWord, instanceOf, order, pointsAt, tiesOf, oneSided}
 use Rattle.optimum.specs.Cells.{cells, cellOf, level, valueCells, oneSidedCells}
 use Rattle.optimum.proofs.StripsHeld.{laws, walked-first, walked-cost}
 use Rattle.optimum.proofs.Pairs.{zeros}
 use Rattle.optimum.proofs.Budgets.{full-low}
 use Rattle.optimum.proofs.CostWord.{layout-count, layout-length}
 use Rattle.optimum.proofs.Order.{ordered}
-use Rattle.optimum.proofs.Instance.{good}
+use Rattle.optimum.proofs.Instance.{good, turn-low}
 use Rattle.optimum.proofs.OneSidedBest.{fullBudget, putBack, found-long, found-first, found-cost, one-sided-best}
 use Rattle.optimum.proofs.Levels.{Coloured, level-holds, Kept, walk-cells, answer-cells}
 unfoldable pub use Rattle.optimum.specs.CostWord.{countIn, lengthIn}
-
-turn-low : (s : Sheet) (t : Point) (k : ℕ) → turnOf s t k < 1
-unfolding turnOf
-turn-low s t k = omega arith
 
 -- the whole sheet: the strip between the edges
 abbrev pub wholeStrip : Sheet → Strip

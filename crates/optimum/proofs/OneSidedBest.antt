@@ -11,8 +11,8 @@ use lib.ListN.{length, getD, set, replicate, length-replicate}
 use borrow.Author.Tests.{ltb-true, lt-ltb, eqb-true, eqb-false}
 use Rattle.lists.proofs.Tests.{by-test, by-either, or-e, is-false}
 use Rattle.search.specs.Walk.{Before, First as Cheapest, costOf}
-use Rattle.sheet.specs.Sheet.{Sheet}
-use Rattle.sheet.proofs.Accepted.{Sound}
+use Rattle.sheet.specs.Sheet.{sheetIn, sheetFault, Sheet}
+use Rattle.sheet.proofs.Accepted.{Sound, sound}
 use Rattle.labelling.specs.Layout.{noColour, isUsed, isBetter, best}
 use Rattle.labelling.proofs.Members.{noSite, all-at, at-all, used-head, used-tail}
 use Rattle.labelling.proofs.Best.{Obeys, below as lowTies}
@@ -23,7 +23,7 @@ use Rattle.labelling.proofs.Pairs.{AllInOrder, rules-pairs, pairs-rules}
 use Rattle.optimum.specs.Strips.{Point, Instance, labels, walked}
 use Rattle.optimum.specs.Budgets.{unboundedColour, isUnbounded, digitIn}
 use Rattle.optimum.specs.CostWord.{layoutCost}
-use Rattle.optimum.specs.OneSided.{tipClear, heldOf, boundOf, wordOf, topWord, instanceOf, order, pointAt, pointsAt, scatter, tiesOf, oneSided}
+use Rattle.optimum.specs.OneSided.{boundOf, wordOf, topWord, instanceOf, order, pointAt, pointsAt, scatter, tiesOf, oneSided}
 use Rattle.optimum.proofs.StripsHeld.{walked-first, walked-none}
 use Rattle.optimum.proofs.Neighbours.{Apart}
 use Rattle.optimum.proofs.Steps.{Steps, Pays, Tips, Turns, tips-all, turns-all, opened, total, run-e, run-i}
@@ -32,7 +32,7 @@ use Rattle.optimum.proofs.Pays.{isOf, pays-e, pays-i}
 use Rattle.optimum.proofs.Budgets.{bound-of, bounded-low, full-digit}
 use Rattle.optimum.proofs.CostWord.{layout-low, better-costs}
 use Rattle.optimum.proofs.Order.{Rise, ordered, gather, scatter-long, gather-scatter}
-use Rattle.optimum.proofs.Instance.{good, linear, budgeted}
+use Rattle.optimum.proofs.Instance.{good, tip-clear, not-held, linear, budgeted}
 use Rattle.optimum.proofs.RankedPairs.{AllPairs, pairs-rising, rising-pairs, list-e, list-i}
 use Rattle.optimum.proofs.Counts.{shares-drops, count-is, lead-is, colour-is}
 pub use Rattle.optimum.specs.Budgets.{fullBudget}
@@ -87,10 +87,10 @@ module _ (s : Sheet) (o : Sound s) (one : s .isTwoSided ≡ false) where
             (list-i s js (order s) (ordered s o .rise) (λ i j ui uj h. pairs-rising s o one js p i j (ordered s o .low i ui .0) (ordered s o .low j uj .0) h))
 
         tips : Tips (instanceOf s) (replicate (length (s .slots)) 0) (pointsAt s (order s)) (gather js (order s))
-        tips = tips-all (instanceOf s) (λ t k. unfold tipClear in refl) (pointsAt s (order s)) _ (gather js (order s))
+        tips = tips-all (instanceOf s) (tip-clear s) (pointsAt s (order s)) _ (gather js (order s))
 
         turns : Turns (instanceOf s) (replicate (length (s .slots)) 0) (replicate (suc (length (s .slots))) 0) (pointsAt s (order s)) (gather js (order s))
-        turns = turns-all (instanceOf s) (λ p t. unfold heldOf in refl) (pointsAt s (order s)) _ _ (gather js (order s))
+        turns = turns-all (instanceOf s) (not-held s) (pointsAt s (order s)) _ _ (gather js (order s))
 
         enough : (c : ℕ) → isUnbounded s c ≡ false → opened (instanceOf s) (isOf c) (replicate (length (s .slots)) 0) (pointsAt s (order s)) (gather js (order s)) ≤ digitIn s c (fullBudget s)
         enough c u =
@@ -226,9 +226,6 @@ module _ (s : Sheet) (o : Sound s) (one : s .isTwoSided ≡ false) where
           omega (arith, obeys-cost s o one js (b .long) b, walked-none (instanceOf s) (good s o .rising) (fullBudget s) (pointsAt s (order s)) e (gather js (order s)), layout-low s o js))
       go (some ks) e = best-some-iff s o _ .1 (found-first ks (walked-first (instanceOf s) (good s o .rising) (fullBudget s) (pointsAt s (order s)) ks e))
 
--- as it is said from outside
-abbrev pub OneSidedBest : Type 0
-OneSidedBest = (s : Sheet) → Sound s → s .isTwoSided ≡ false → best s ≡ oneSided s
-
-pub one-sided : OneSidedBest
-one-sided = one-sided-best
+-- for accepted words
+pub one-sided-made : (ws : List ℕ) → sheetFault ws ≡ 0 → (sheetIn ws) .isTwoSided ≡ false → best (sheetIn ws) ≡ oneSided (sheetIn ws)
+one-sided-made ws h one = one-sided-best (sheetIn ws) (sound ws h) one

@@ -50,9 +50,6 @@ module _ (s : Sheet) (o : Sound s) where
   y-low : (i : ℕ) → i < length (s .sites) → (getD (s .sites) i noSite) .y < numberTop
   y-low i h = ltb-true _ _ (all-at lowY noSite (s .sites) (o .ys) i h)
 
-  pub rank-of-low : (i : ℕ) → i < length (s .sites) → rankAt s i < rankTop
-  rank-of-low i h = rank-low _ (ltb-true _ _ (all-at lowX noSite (s .sites) (o .xs) i h)) (y-low i h)
-
   -- x does not fall as the rank rises
   pub rank-x : (i j : ℕ) → i < length (s .sites) → j < length (s .sites) → rankAt s i ≤ rankAt s j → (getD (s .sites) i noSite) .x ≤ (getD (s .sites) j noSite) .x
   unfolding rankOf
@@ -186,11 +183,6 @@ module _ (s : Sheet) (o : Sound s) where
 unfoldable pub gather : (js is : List ℕ) → List ℕ
 gather js [] = []
 gather js (i ∷ is) = getD js i 0 ∷ gather js is
-
-pub gather-long : (js is : List ℕ) → length (gather js is) ≡ length is
-unfolding gather
-gather-long js [] = refl
-gather-long js (i ∷ is) = ap suc (gather-long js is)
 
 pub scatter-long : (is ks out : List ℕ) → length (scatter out is ks) ≡ length out
 unfolding scatter

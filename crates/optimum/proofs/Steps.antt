@@ -67,10 +67,6 @@ module _ (P : Instance) where
             below-it (inl q) d = absurd (omega arith)
             below-it (inr (j, q, l, c, n, y)) d = let t : k ≡ j = omega arith in rw t y
 
-    free-e : (L : List ℕ) (k : ℕ) → isFree L k ≡ true → getD L k 0 ≡ 0
-    unfolding isFree
-    free-e L k e = eqb-true _ 0 e
-
     free-i : (L : List ℕ) (k : ℕ) → getD L k 0 ≡ 0 → isFree L k ≡ true
     unfolding isFree
     free-i L k e = eq-eqb _ 0 e

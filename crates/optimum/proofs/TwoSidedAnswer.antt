@@ -25,7 +25,7 @@ use Rattle.optimum.specs.CostWord.{topWord, countIn, lengthIn, layoutCos
 use Rattle.optimum.specs.TwoSided.{instanceOf, twoSided}
 use Rattle.optimum.proofs.CostWord.{better-costs, layout-count, layout-length}
 use Rattle.optimum.proofs.Caps.{Respects, allows-uncapped, keeps, exact, none-ahead, passes-on, passes-last, chosen}
-use Rattle.optimum.proofs.Halving.{halve, halve-first}
+use Rattle.optimum.proofs.Halve.{halve, halve-first}
 use Rattle.optimum.proofs.LawfulFits.{cost, cost-is, cost-top, lawful-low, low-slot}
 use Rattle.optimum.proofs.FitsLawful.{lawful-attained}
 
@@ -39,6 +39,10 @@ ranks-differ ss d i j l u e =
     let q = listing-at (λ k. k) 0 (length ss) j u in
     let c = ap (λ (z : ℕ). slotAt z (tiedOf ss ns)) e in
     omega arith
+
+-- so many halvings find one of at most 48 slots: 48 is below 2^6
+abbrev pub halvings : ℕ
+halvings = 6
 
 module _ (s : Sheet) (o : Sound s) (two : s .isTwoSided ≡ true) (coloured : all (colourLow (length (s .colours))) (s .sites) ≡ true) where
   price : List ℕ → ℕ
@@ -129,7 +133,7 @@ module _ (s : Sheet) (o : Sound s) (two : s .isTwoSided ≡ true) (coloured : al
 
     -- at the states that the walk meets, the slot may be found by halving
     pub choose-halved : (caps : ℕ → ℕ) (r : ℕ) → value (instanceOf s) caps ≡ least → r < length (s .sites) → caps r ≡ 0 →
-        choose (instanceOf s) least caps r ≡ halve (λ k. eqb (value (instanceOf s) (put caps r (suc k))) least) 6 0 (length (s .slots) - 1)
+        choose (instanceOf s) least caps r ≡ halve (λ k. eqb (value (instanceOf s) (put caps r (suc k))) least) halvings 0 (length (s .slots) - 1)
     unfolding choose
     choose-halved caps r v l z = go (attained caps (rw v below))
       where
@@ -137,10 +141,10 @@ module _ (s : Sheet) (o : Sound s) (two : s .isTwoSided ≡ true) (coloured : al
         on k j h q = eq-eqb _ _ (passes-on (instanceOf s) (Obeys s) price slots-low low attained differ least below caps r k j l z v (eqb-true _ _ h) q)
 
         go : (js : List ℕ) × (Obeys s js × Respects (instanceOf s) caps js × (price js ≡ value (instanceOf s) caps)) →
-            first (length (s .slots)) (λ k. eqb (value (instanceOf s) (put caps r (suc k))) least) ≡ halve (λ k. eqb (value (instanceOf s) (put caps r (suc k))) least) 6 0 (length (s .slots) - 1)
+            first (length (s .slots)) (λ k. eqb (value (instanceOf s) (put caps r (suc k))) least) ≡ halve (λ k. eqb (value (instanceOf s) (put caps r (suc k))) least) halvings 0 (length (s .slots) - 1)
         go (js, (ob, h, e)) =
             let a = slots-low js ob r l in
-            sym (halve-first (length (s .slots)) (λ k. eqb (value (instanceOf s) (put caps r (suc k))) least) on 6 0 (length (s .slots) - 1) (omega arith)
+            sym (halve-first (length (s .slots)) (λ k. eqb (value (instanceOf s) (put caps r (suc k))) least) on halvings 0 (length (s .slots) - 1) (omega arith)
             (omega (arith, o .few-slots)) (omega arith)
             (eq-eqb _ _ (passes-last (instanceOf s) (Obeys s) price slots-low low attained differ least below caps r (length (s .slots) - 1) l z v (omega arith)))
             (λ j u. absurd (omega arith)))

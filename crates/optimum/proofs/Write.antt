@@ -19,6 +19,10 @@ use Rattle.optimum.proofs.OneSidedAnswer.{countIn, lengthIn, firstCell,
 use Rattle.optimum.proofs.Order.{ordered}
 use Rattle.optimum.proofs.OneSidedBest.{putBack}
 
+-- a layout's first word: kind 8, the count from bit 21 on, the length below it
+abbrev pub headWord : (count size : ℕ) → ℕ
+headWord c l = 8 * 268435456 + c * 2097152 + l
+
 -- a tie as a word; the ties written in turn, the tie of site i to place i + 1 of the area
 abbrev pub tieWord : ℕ → ℕ
 tieWord k = 9 * 268435456 + k
@@ -88,7 +92,7 @@ scatter-words (i ∷ is) (k ∷ ks) b = ap (λ (z : List ℕ). scatter z is (wor
 
 -- THE ANSWER AREA: the first word, then the ties in the order of the walk, whatever the area held
 pub write-all : (s : Sheet) → Sound s → (ks : List ℕ) → length ks ≡ length (s .sites) → (c l : ℕ) (out : List ℕ) → length (s .sites) + 1 ≤ length out
-    → writeTies (set out 0 (8 * 268435456 + c * 2097152 + l)) (order s) ks ≡ layoutWords c l (putBack s ks) ++ drop (length (s .sites) + 1) out
+    → writeTies (set out 0 (headWord c l)) (order s) ks ≡ layoutWords c l (putBack s ks) ++ drop (length (s .sites) + 1) out
 write-all s o ks lk c l [] h = absurd (omega arith)
 write-all s o ks lk c l (w ∷ out) h =
     ap (λ (z : List ℕ). writeTies (head ∷ z) (order s) ks) (sym (take-append-drop n out))
@@ -100,7 +104,7 @@ write-all s o ks lk c l (w ∷ out) h =
     n = length (s .sites)
 
     head : ℕ
-    head = 8 * 268435456 + c * 2097152 + l
+    head = headWord c l
 
     later : suc n ≡ length (s .sites) + 1
     later = omega arith
@@ -118,7 +122,7 @@ write-all s o ks lk c l (w ∷ out) h =
 -- ---- THE CALL on a one-sided sheet, as the code makes it: the first word from the first cell, then a tie for each site by rising x
 pub call-written : (ws k out : List ℕ) (t : takesSheet ws k out) → sheetIn ws .isTwoSided ≡ false → firstCell (sheetIn ws) < topWord →
     Result ws k out 0
-    (writeTies (set out 0 (8 * 268435456 + countIn (sheetIn ws) (firstCell (sheetIn ws)) * 2097152 + lengthIn (sheetIn ws) (firstCell (sheetIn ws))))
+    (writeTies (set out 0 (headWord (countIn (sheetIn ws) (firstCell (sheetIn ws))) (lengthIn (sheetIn ws) (firstCell (sheetIn ws)))))
     (order (sheetIn ws)) (slotsWalked (sheetIn ws))) (cleared ws k)
 call-written ws k out t one h =
     let s = sheetIn ws in

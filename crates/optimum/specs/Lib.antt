@@ -7,4 +7,5 @@ pub mod Reached
 pub mod UsedSlots
 pub mod TwoSided
 pub mod Sums
-pub mod Telling
+pub mod Examples
+pub mod Optimum

@@ -5,7 +5,7 @@ use mathlib.Core.Logic.{_≢_}
 use mathlib.Core.Bool.{true}
 use mathlib.Core.List.{List, [], _∷_}
 use Prim.Native.Nat.{ℕ, zero, suc, _+_, _-_, _*_, _/_, _%_, _<_}
-use native.Mathlib.Nat.{mod-lt, mod-one, zero-mod, zero-div, mod-eq-of-lt, div-eq-of-lt, div-lt-iff-lt-mul, add-zero, mul-comm, div-div-eq-div-mul, div-one}
+use native.Mathlib.Nat.{mod-lt, zero-mod, zero-div, mod-eq-of-lt, div-eq-of-lt, div-lt-iff-lt-mul, add-zero, mul-comm, div-div-eq-div-mul, div-one}
 use native.Mathlib.Omega.{arith}
 use lib.Arith.{digits-div, digits-mod}
 use lib.ListN.{length, getD}
@@ -26,13 +26,7 @@ digit-zero [] c = refl
 digit-zero (r ∷ rs) zero = zero-mod r
 digit-zero (r ∷ rs) (suc c) = rw (zero-div r) (digit-zero rs c)
 
--- a digit of radix 1 is 0; a digit that is not 0 has a radix of 2 at least
-pub digit-one : (rs : List ℕ) (c v : ℕ) → getD rs c 1 ≡ 1 → digitOf rs c v ≡ 0
-unfolding digitOf
-digit-one [] c v e = refl
-digit-one (r ∷ rs) zero v e = rw e (mod-one v)
-digit-one (r ∷ rs) (suc c) v e = digit-one rs c (v / r) e
-
+-- a digit that is not 0 has a radix of 2 at least
 pub digit-wide : (rs : List ℕ) (c v : ℕ) → Positive rs → 0 < digitOf rs c v → 1 < getD rs c 1
 unfolding digitOf Positive
 digit-wide [] c v w h = absurd (omega arith)
