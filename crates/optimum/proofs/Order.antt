@@ -15,6 +15,7 @@ use Rattle.search.proofs.Sums.{sum-cong, sum-add, sum-zero, sum-point, sum-pos,
 use Rattle.sheet.specs.Sheet.{numberTop, Site, Sheet, rankOf, rankTop, hasRank, ranksDiffer}
 use Rattle.sheet.proofs.Accepted.{Sound, lowX, lowY, rank-low}
 use Rattle.labelling.specs.Layout.{isUsed}
+use Rattle.labelling.proofs.Counted.{sumOver}
 use Rattle.labelling.proofs.Members.{noSite, all-at, used-head, used-tail}
 use Rattle.labelling.proofs.Earlier.{rankAt}
 use Rattle.optimum.specs.OneSided.{nextRank, siteOf, orderFrom, order, scatter}
@@ -209,10 +210,6 @@ gather-scatter s (i ∷ is) (k ∷ ks) out r h l =
     (gather-scatter s is ks (set out i k) (r .1) (λ j u. rw (length-set out i k) (h j (used-tail j i is u))) (omega arith))
 
 -- ---- a sum over a list of sites
-
-unfoldable pub sumOver : (ℕ → ℕ) → List ℕ → ℕ
-sumOver f [] = 0
-sumOver f (i ∷ is) = f i + sumOver f is
 
 pub sum-over : (s : Sheet) (n : ℕ) (f : ℕ → ℕ) (is : List ℕ) → Rise s is → ((i : ℕ) → isUsed i is ≡ true → i < n) → sumOver f is ≡ sum n (λ i. cond (isUsed i is) (f i) 0)
 unfolding sumOver isUsed Rise

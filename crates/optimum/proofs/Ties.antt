@@ -1,11 +1,11 @@
 -- One site among labels that fit: what its tie costs is the least over the slots that suit it.
 use mathlib.Core.Path.{_≡_, refl, sym, ap, _∙_, subst, subst⁻¹}
 use mathlib.Core.Logic.{_⊎_, inl, inr, _≢_}
-use mathlib.Core.Bool.{true, _&&_}
+use mathlib.Core.Bool.{true, _&&_, Bool, cond}
 use Prim.Native.Nat.{ℕ, zero, suc, _+_, _*_, _-_, _≤_, _<_, min}
 use native.Mathlib.Nat.{le-refl, le-trans}
 use native.Mathlib.Omega.{arith}
-use lib.Dec.{ltb, leb, eqb}
+use lib.Dec.{ltb, leb}
 use borrow.Author.Tests.{ltb-true, leb-true, eqb-true, lt-ltb, le-leb, lt-leb, eq-eqb}
 use Rattle.lists.proofs.Tests.{by-test, by-order, by-either, by-equal, and-both}
 use Rattle.search.specs.Radix.{digitOf}
@@ -57,23 +57,22 @@ module _ (G : Instance) (caps : ℕ → ℕ) (code : ℕ → ℕ) (draws : (c v 
 
   -- ---- the two choices
 
+  -- a cost below none passed its three tests
+  below-none : (e p q : Bool) (z : ℕ) → cond (e && (p && q)) z top < top → (cond (e && (p && q)) z top ≡ z) × (e ≡ true) × (p ≡ true) × (q ≡ true)
+  below-none e p q z h =
+      by-test (e && (p && q))
+      (λ b. let u = and-both _ _ b in let v = and-both _ _ (u .1) in (rw b, u .0, v .0, v .1))
+      (λ b. absurd (let n : top < top = rw b at h in omega arith))
+
   up-is : (a ca b i : ℕ) → upCost G caps a ca b i < top →
       (upCost G caps a ca b i ≡ share (at G a) (y i) * unit) × (ca ≡ suc (colour i)) × (clearDown G b (y i) ≡ true) × (allows G caps i a ≡ true)
   unfolding upCost
-  up-is a ca b i h =
-      by-test (eqb ca (suc (colour i)) && (clearDown G b (y i) && allows G caps i a))
-      (λ e. let p = and-both _ _ e in let q = and-both _ _ (p .1) in
-      (rw e, eqb-true ca (suc (colour i)) (p .0), q .0, q .1))
-      (λ e. absurd (let z : top < top = rw e at h in omega arith))
+  up-is a ca b i h = let t = below-none _ _ _ _ h in (t .0, eqb-true ca (suc (colour i)) (t .1), t .2, t .3)
 
   down-is : (a b cb i : ℕ) → downCost G caps a b cb i < top →
       (downCost G caps a b cb i ≡ share (at G b) (y i) * unit) × (cb ≡ suc (colour i)) × (clearUp G a (y i) ≡ true) × (allows G caps i b ≡ true)
   unfolding downCost
-  down-is a b cb i h =
-      by-test (eqb cb (suc (colour i)) && (clearUp G a (y i) && allows G caps i b))
-      (λ e. let p = and-both _ _ e in let q = and-both _ _ (p .1) in
-      (rw e, eqb-true cb (suc (colour i)) (p .0), q .0, q .1))
-      (λ e. absurd (let z : top < top = rw e at h in omega arith))
+  down-is a b cb i h = let t = below-none _ _ _ _ h in (t .0, eqb-true cb (suc (colour i)) (t .1), t .2, t .3)
 
   site-up : (a ca b cb i : ℕ) → ca ≡ suc (colour i) → clearDown G b (y i) ≡ true → allows G caps i a ≡ true → siteCost G caps a ca b cb i ≤ share (at G a) (y i) * unit
   unfolding siteCost upCost
