@@ -2,7 +2,7 @@
 use mathlib.Core.Path.{_≡_, refl, sym, ap, ap₂, _∙_, subst⁻¹}
 use mathlib.Core.Bool.{true, false}
 use mathlib.Core.List.{List, [], _∷_, _++_}
-use Prim.Native.Nat.{ℕ, zero, suc, _+_, _*_, _≤_, _<_}
+use Prim.Native.Nat.{ℕ, zero, suc, _+_, _≤_, _<_}
 use native.Mathlib.Omega.{arith}
 use lib.ListN.{length, getD, set, replicate, length-set, length-replicate, take, drop, take-append-drop, length-take}
 use borrow.Author.Tests.{ne-eqb}
@@ -13,24 +13,11 @@ use Rattle.labelling.specs.Promise.{takesSheet}
 use Rattle.labelling.proofs.Maker.{Result, cleared}
 use Rattle.labelling.specs.Layout.{isUsed, tieWords, layoutWords}
 use Rattle.labelling.proofs.Members.{used-head, used-tail}
-use Rattle.optimum.specs.OneSided.{topWord, order, scatter}
+use Rattle.optimum.specs.OneSided.{headWord, tieWord, writeTies, topWord, order, scatter}
 use Rattle.optimum.proofs.StripsHeld.{set-same, set-other}
 use Rattle.optimum.proofs.OneSidedAnswer.{countIn, lengthIn, firstCell, slotsWalked, walk-long, call-made}
 use Rattle.optimum.proofs.Order.{ordered}
 use Rattle.optimum.proofs.OneSidedBest.{putBack}
-
--- a layout's first word: kind 8, the count from bit 21 on, the length below it
-abbrev pub headWord : (count size : ℕ) → ℕ
-headWord c l = 8 * 268435456 + c * 2097152 + l
-
--- a tie as a word; the ties written in turn, the tie of site i to place i + 1 of the area
-abbrev pub tieWord : ℕ → ℕ
-tieWord k = 9 * 268435456 + k
-
-unfoldable pub writeTies : (out is ks : List ℕ) → List ℕ
-writeTies out [] ks = out
-writeTies out (i ∷ is) [] = out
-writeTies out (i ∷ is) (k ∷ ks) = writeTies (set out (suc i) (tieWord k)) is ks
 
 list-ext : (l k : List ℕ) → length l ≡ length k → ((i : ℕ) → i < length l → getD l i 0 ≡ getD k i 0) → l ≡ k
 list-ext [] [] e h = refl

@@ -3,7 +3,7 @@
 use mathlib.Core.Bool.{Bool, true, false, cond, not}
 use mathlib.Core.List.{List, [], _∷_}
 use mathlib.Core.Option.{Option, none, some}
-use Prim.Native.Nat.{ℕ, zero, suc, _-_}
+use Prim.Native.Nat.{ℕ, zero, suc, _+_, _-_, _*_}
 use lib.Dec.{eqb, leb}
 use lib.ListN.{length, set, replicate}
 use Rattle.search.specs.Cost.{least, first}
@@ -101,6 +101,19 @@ unfoldable pub scatter : (out is ks : List ℕ) → List ℕ
 scatter out [] ks = out
 scatter out (i ∷ is) [] = out
 scatter out (i ∷ is) (k ∷ ks) = scatter (set out i k) is ks
+
+-- a layout's first word: kind 8, the count from bit 21 on, the length below it
+abbrev pub headWord : (count size : ℕ) → ℕ
+headWord c l = 8 * 268435456 + c * 2097152 + l
+
+-- a tie as a word; the ties written in turn, that of site i to place i + 1 of the area
+abbrev pub tieWord : ℕ → ℕ
+tieWord k = 9 * 268435456 + k
+
+unfoldable pub writeTies : (out is ks : List ℕ) → List ℕ
+writeTies out [] ks = out
+writeTies out (i ∷ is) [] = out
+writeTies out (i ∷ is) (k ∷ ks) = writeTies (set out (suc i) (tieWord k)) is ks
 
 abbrev pub tiesOf : Sheet → Option (List ℕ) → Option (List ℕ)
 tiesOf s none = none
