@@ -2,10 +2,10 @@
 use mathlib.Core.Path.{_≡_, refl, ap}
 use mathlib.Core.Bool.{true, false}
 use mathlib.Core.List.{List, [], _∷_}
-use Prim.Native.Nat.{ℕ, zero, suc, _+_, _<_, _≤_}
+use Prim.Native.Nat.{ℕ, zero, suc, _+_, _<_}
 use native.Mathlib.Omega.{arith}
 use lib.Dec.{eqb}
-use lib.ListN.{length, getD}
+use lib.ListN.{length, getD, List·getD-eq-default}
 use borrow.Author.Tests.{eqb-false}
 use Rattle.lists.proofs.Tests.{by-test, by-order}
 use Rattle.search.specs.Radix.{place}
@@ -13,17 +13,11 @@ use Rattle.search.proofs.Digits.{Positive, product, product-pos, digit-full, Dr
 use Rattle.sheet.specs.Sheet.{Colour, Sheet, productOf}
 use Rattle.optimum.specs.Budgets.{unboundedColour, boundOf, isUnbounded, radixOf, radicesOf, digitIn, drawsOf, fullBudget}
 
--- ---- a list read past its end, and within it
-
+-- what stands past the end of a list has no part within it
 in-range : {A : Type 0} (l : List A) (i : ℕ) (d e : A) → i < length l → getD l i d ≡ getD l i e
 in-range [] i d e h = absurd (omega arith)
 in-range (x ∷ l) zero d e h = refl
 in-range (x ∷ l) (suc i) d e h = in-range l i d e (omega arith)
-
-past-end : {A : Type 0} (l : List A) (i : ℕ) (d : A) → length l ≤ i → getD l i d ≡ d
-past-end [] i d h = refl
-past-end (x ∷ l) zero d h = absurd (omega arith)
-past-end (x ∷ l) (suc i) d h = past-end l i d (omega arith)
 
 -- ---- radices
 
@@ -59,7 +53,7 @@ bound-of s c d h = in-range (s .colours) c d unboundedColour h
 pub bounded-low : (s : Sheet) (c : ℕ) → isUnbounded s c ≡ false → c < length (s .colours)
 bounded-low s c u =
     by-order (length (s .colours)) c
-    (λ h. absurd (eqb-false (boundOf s c) 255 u (ap (λ (k : Colour). k .bound) (past-end (s .colours) c unboundedColour h))))
+    (λ h. absurd (eqb-false (boundOf s c) 255 u (ap (λ (k : Colour). k .bound) (List·getD-eq-default (s .colours) unboundedColour h))))
     (λ h. h)
 
 -- THE FULL BUDGET's digits are the bounds

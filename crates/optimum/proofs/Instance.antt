@@ -2,7 +2,7 @@
 use mathlib.Core.Path.{_≡_, refl, ap}
 use mathlib.Core.Logic.{_⊎_, inl, inr}
 use mathlib.Core.Bool.{true, not, false}
-use Prim.Native.Nat.{ℕ, _+_, _<_}
+use Prim.Native.Nat.{ℕ, _+_, _-_, _<_}
 use native.Mathlib.Omega.{arith}
 use lib.Dec.{eqb}
 use lib.ListN.{length, getD}
@@ -30,10 +30,10 @@ pub good : (s : Sheet) → Sound s → Good (instanceOf s)
 unfolding farEnough clearOf
 good s o = record {
   rising = up;
-  far-sym = far-sym s;
-  far-trans = λ i c j d k e p q l f g. far-trans s i c j d k e (up i j p (omega arith)) (up j k q l) f g;
-  far-above = λ j c k d y p l f q. far-above s j c k d y (up j k p l) f q;
-  far-below = λ j c k d y p l f q. far-below s j c k d y (up k j p l) f q;
+  far-sym = λ i c k d e. far-sym s i (c - 1) k (d - 1) e;
+  far-trans = λ i c j d k e p q l f g. far-trans s i (c - 1) j (d - 1) k (e - 1) (up i j p (omega arith)) (up j k q l) f g;
+  far-above = λ j c k d y p l f q. far-above s j (c - 1) k (d - 1) y (up j k p l) f q;
+  far-below = λ j c k d y p l f q. far-below s j (c - 1) k (d - 1) y (up k j p l) f q;
   clear-above = λ j k y p l q f. clear-above s j k y (up j k p l) q f;
   clear-below = λ j k y p l q f. clear-below s j k y (up k j p l) q f;
   clear-off = λ k y f e. clear-off s k y (o .gapped) f e;

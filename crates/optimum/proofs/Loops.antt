@@ -25,7 +25,7 @@ unfolding first
 first-none zero t f = refl
 first-none (suc n) t f = rw (f 0 (omega arith)) (ap suc (first-none n (λ j. t (suc j)) (λ j l. f (suc j) (omega arith))))
 
-module _ (P : Instance) where
+module _ (P : Instance) (C R : ℕ) where
   open Instance P using (m, top)
 
   -- ---- each step of the walk finds its slot, and the value stays below the sentinel

@@ -1,11 +1,12 @@
 -- The equations by which code fills the two-sided table: its rows in a loop, its cells, sums that saturate, caps in a list.
 use mathlib.Core.Path.{_≡_, refl, sym, ap, ap₂, _∙_, fun-ext}
-use mathlib.Core.Bool.{Bool, true, false, cond, _&&_}
-use mathlib.Core.List.{List, [], _∷_}
+use mathlib.Core.Bool.{true, false, cond, _&&_}
+use mathlib.Core.List.{List}
 use Prim.Native.Nat.{ℕ, zero, suc, _+_, _*_, _-_, _≤_, _<_, min}
 use native.Mathlib.Nat.{mul-le-mul-right}
 use native.Mathlib.Omega.{arith}
 use lib.Dec.{leb, eqb}
+use lib.Seq.{getD-set-same, getD-set-other}
 use lib.ListN.{length, getD, set}
 use borrow.Author.Tests.{le-leb, lt-leb, eq-eqb, ne-eqb}
 use Rattle.lists.proofs.Tests.{by-test, by-order, by-equal}
@@ -190,14 +191,10 @@ cell-apart C P a ca v b cb w h k l =
 
 -- CAPS IN A LIST
 set-at : (l : List ℕ) (i p j : ℕ) → i < length l → getD (set l i p) j 0 ≡ cond (eqb j i) p (getD l j 0)
-set-at [] i p j h = absurd (omega arith)
-set-at (c ∷ l) zero p zero h = refl
-set-at (c ∷ l) zero p (suc j) h = rw (ne-eqb (suc j) 0 (omega arith))
-set-at (c ∷ l) (suc i) p zero h = rw (ne-eqb 0 (suc i) (omega arith))
-set-at (c ∷ l) (suc i) p (suc j) h = set-at l i p j (omega arith) ∙ ap (λ (b : Bool). cond b p (getD l j 0)) (same j i)
-  where
-    same : (j i : ℕ) → eqb j i ≡ eqb (suc j) (suc i)
-    same j i = by-equal j i (λ e. rw (eq-eqb j i e, eq-eqb (suc j) (suc i) (ap suc e))) (λ e. rw (ne-eqb j i e, ne-eqb (suc j) (suc i) (λ q. e (omega arith))))
+set-at l i p j h =
+    by-equal j i
+    (λ e. rw (e, eq-eqb i i refl) (getD-set-same l i p 0 h))
+    (λ n. rw (ne-eqb j i n) (getD-set-other l i j p 0 n))
 
 pub put-set : (l : List ℕ) (i p : ℕ) → i < length l → put (λ j. getD l j 0) i p ≡ (λ j. getD (set l i p) j 0)
 unfolding put

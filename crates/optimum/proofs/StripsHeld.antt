@@ -8,6 +8,7 @@ use mathlib.Core.List.{List, [], _∷_}
 use Prim.Native.Nat.{ℕ, zero, suc, _+_, _-_, _≤_, _<_}
 use native.Mathlib.Omega.{arith}
 use lib.Dec.{eqb, leb, ltb}
+use lib.Seq.{getD-set-same, getD-set-other}
 use lib.ListN.{length, getD, set, replicate, length-set, length-replicate}
 use borrow.Author.Tests.{ltb-true, ltb-false, le-leb, lt-leb, lt-ltb, le-ltb, eqb-true, eqb-false, eq-eqb, ne-eqb}
 use Rattle.lists.proofs.Tests.{by-test, by-order, by-equal, by-either, and-both, or-e, not-f}
@@ -20,16 +21,10 @@ use Rattle.optimum.specs.Strips.{Point, Strip, Instance, over, under, in
 
 -- a list with one place changed
 pub set-same : (L : List ℕ) (k c : ℕ) → k < length L → getD (set L k c) k 0 ≡ c
-set-same [] k c h = absurd (omega arith)
-set-same (u ∷ L) zero c h = refl
-set-same (u ∷ L) (suc k) c h = set-same L k c (omega arith)
+set-same L k c h = getD-set-same L k c 0 h
 
 pub set-other : (L : List ℕ) (k c j : ℕ) → (j ≡ k → ⊥) → getD (set L k c) j 0 ≡ getD L j 0
-set-other [] k c j h = refl
-set-other (u ∷ L) zero c zero h = absurd (h refl)
-set-other (u ∷ L) zero c (suc j) h = refl
-set-other (u ∷ L) (suc k) c zero h = refl
-set-other (u ∷ L) (suc k) c (suc j) h = set-other L k c j (λ e. h (ap suc e))
+set-other L k c j h = getD-set-other L k j c 0 h
 
 pub set-id : (L : List ℕ) (k c : ℕ) → getD L k 0 ≡ c → 0 < c → set L k c ≡ L
 set-id [] k c e h = refl

@@ -1,9 +1,10 @@
 -- Writing the answer word by word: the walk names each site once, so what the area held has no part in the result.
-use mathlib.Core.Path.{_≡_, refl, sym, ap, ap₂, _∙_, subst⁻¹}
+use mathlib.Core.Path.{_≡_, refl, sym, ap, _∙_, subst⁻¹}
 use mathlib.Core.Bool.{true, false}
 use mathlib.Core.List.{List, [], _∷_, _++_}
 use Prim.Native.Nat.{ℕ, zero, suc, _+_, _≤_, _<_}
 use native.Mathlib.Omega.{arith}
+use lib.Seq.{ext-getD}
 use lib.ListN.{length, getD, set, replicate, length-set, length-replicate, take, drop, take-append-drop, length-take}
 use borrow.Author.Tests.{ne-eqb}
 use Rattle.lists.proofs.Tests.{by-equal, clash}
@@ -19,16 +20,10 @@ use Rattle.optimum.proofs.OneSidedAnswer.{countIn, lengthIn, firstCell,
 use Rattle.optimum.proofs.Order.{ordered}
 use Rattle.optimum.proofs.OneSidedBest.{putBack}
 
-list-ext : (l k : List ℕ) → length l ≡ length k → ((i : ℕ) → i < length l → getD l i 0 ≡ getD k i 0) → l ≡ k
-list-ext [] [] e h = refl
-list-ext [] (y ∷ k) e h = absurd (omega arith)
-list-ext (x ∷ l) [] e h = absurd (omega arith)
-list-ext (x ∷ l) (y ∷ k) e h = ap₂ (λ (a : ℕ) (b : List ℕ). a ∷ b) (h 0 (omega arith)) (list-ext l k (omega arith) (λ i u. h (suc i) (omega arith)))
-
 -- what the list held at the places that are named has no part in the result
 scatter-any : (is ks o p : List ℕ) → length ks ≡ length is → length o ≡ length p → ((i : ℕ) → i < length o → isUsed i is ≡ false → getD o i 0 ≡ getD p i 0) → scatter o is ks ≡ scatter p is ks
 unfolding scatter isUsed
-scatter-any [] ks o p lk l h = list-ext o p l (λ i u. h i u refl)
+scatter-any [] ks o p lk l h = ext-getD 0 o p l (λ i u. h i u refl)
 scatter-any (i ∷ is) [] o p lk l h = absurd (omega arith)
 scatter-any (i ∷ is) (k ∷ ks) o p lk l h =
     scatter-any is ks (set o i k) (set p i k) (omega arith) (length-set o i k ∙ l ∙ sym (length-set p i k)) (λ j u f.

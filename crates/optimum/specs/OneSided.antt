@@ -21,7 +21,7 @@ unfoldable pub use Rattle.optimum.specs.CostWord.{wordOf}
 
 -- two labels, by slot and colour + 1, are far enough apart
 unfoldable pub farEnough : Sheet → (j c k d : ℕ) → Bool
-farEnough s j c k d = isFar s j c k d
+farEnough s j c k d = isFar s j (c - 1) k (d - 1)
 
 -- the label at slot k is clear of a site of height y
 unfoldable pub clearOf : Sheet → (k y : ℕ) → Bool
@@ -39,7 +39,7 @@ leadOf s x = s .width - x
 unfoldable pub mayOpen : Sheet → Point → (k : ℕ) → Bool
 mayOpen s t k = not (eqb (boundOf s (t .c)) 0)
 
--- what else is asked of a label that this site opens at slot k; of a step by its strip's mark; the mark that a site leaves
+-- nothing else is asked of a label that this site opens at slot k; a site leaves no mark, and no mark holds one
 unfoldable pub tipClear : Sheet → Point → (k : ℕ) → Bool
 tipClear s t k = true
 

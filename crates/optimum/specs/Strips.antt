@@ -17,7 +17,7 @@ pub record Point : Type 0 where
   pub c : ℕ
 
 -- a strip: the labels above and below it (0: the sheet's top edge, k + 1: slot k, m + 1: its bottom edge) and their
--- colours (0: an edge has none, c + 1: colour c); d is 1 if the last site tied in it went down
+-- colours (0: an edge has none, c + 1: colour c); d is the mark that the last site tied in it left
 pub record Strip : Type 0 where
   pub a : ℕ
   pub ca : ℕ
@@ -25,24 +25,29 @@ pub record Strip : Type 0 where
   pub cb : ℕ
   pub d : ℕ
 
--- what is asked of a sheet. The changes of document 02 touch `far` (two labels, by slot and colour + 1, are far enough apart),
--- `clear` (a label is clear of a site's height), `share` (a site's share of the length, by slot and height), `may` (a label may be
--- opened here by this site), `tip` (a label opened here by this site is clear of the sites left of its tip) `turn` (the mark that a site leaves in its strip, by its slot; below `kinds`), `held` (by its mark the strip lets the site join only the label below) and `lead` (the length of the backbone that a site at x opens)
+-- what the table and the walk ask of a sheet
 pub record Instance : Type 0 where
+  -- how many slots; the cost that stands for none; a slot's height
   pub m : ℕ
   pub top : ℕ
   pub height : ℕ → ℕ
+  -- two labels, each by slot and colour + 1, are far enough apart; a label at a slot is clear of a site of height y
   pub far : ℕ → ℕ → ℕ → ℕ → Bool
   pub clear : ℕ → ℕ → Bool
+  -- a site's share of the length, by slot and height; the length of the backbone that a site at x opens
   pub share : ℕ → ℕ → ℕ
   pub lead : ℕ → ℕ
+  -- a site may open a label at a slot, by its colour's bound; and by the sites left of the label's tip
   pub may : Point → ℕ → Bool
   pub tip : Point → ℕ → Bool
+  -- how many marks there are; the mark that a site leaves in its strip, by its slot; by its mark a strip holds a site to the label below
   pub kinds : ℕ
   pub turn : Point → ℕ → ℕ
   pub held : Strip → Point → Bool
+  -- what a label of a colour draws from the budget; the radices of the budget's digits
   pub drawOf : ℕ → ℕ
   pub radices : List ℕ
+  -- count and length as one cost
   pub word : ℕ → ℕ → ℕ
 
 module _ (P : Instance) where

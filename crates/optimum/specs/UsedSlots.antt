@@ -9,19 +9,23 @@ use Rattle.search.specs.Walk.{Process, best}
 use Rattle.search.specs.Radix.{digitOf, place}
 use Rattle.optimum.specs.Sums.{listing, sumTo}
 
--- top: "none"; each: what a label costs; unit: what a length of one costs; share: a site's share of the length, by its slot's height and its own; x: the sites' order, as a number; budget: the number whose digits are the bounds
+-- what the table and the walk ask of a sheet
 pub record Instance : Type 0 where
+  -- the cost that stands for none; how many slots, sites and colours; the gap
   pub top : ℕ
   pub m : ℕ
   pub n : ℕ
   pub colours : ℕ
   pub dist : ℕ
+  -- what a label costs, its backbone included; what a length of one costs; a site's share of the length, by its slot's height and its own
   pub each : ℕ
   pub unit : ℕ
   pub share : ℕ → ℕ → ℕ
+  -- the budget at the start, the radices of its digits, and which colours have no digit
   pub budget : ℕ
   pub radices : List ℕ
   pub unbounded : ℕ → Bool
+  -- a slot's height; a site's rank, height and colour
   pub height : ℕ → ℕ
   pub x : ℕ → ℕ
   pub y : ℕ → ℕ
