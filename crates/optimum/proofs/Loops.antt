@@ -1,11 +1,12 @@
--- For the code: the first that passes a test, as a loop finds it, and that each step of the walk finds its slot.
+-- For the code: the first that passes a test, as a loop finds it; a part of an area; each step of the walk finds its slot.
 use mathlib.Core.Path.{_≡_, refl, sym, ap, _∙_}
 use mathlib.Core.Logic.{_⊎_, inl, inr}
 use mathlib.Core.Bool.{Bool, true, false}
-use mathlib.Core.List.{List, _∷_}
-use Prim.Native.Nat.{ℕ, zero, suc, _≤_, _<_}
+use mathlib.Core.List.{List, [], _∷_}
+use Prim.Native.Nat.{ℕ, zero, suc, _+_, _≤_, _<_}
 use native.Mathlib.Omega.{arith}
 use lib.Dec.{eqb}
+use lib.ListN.{drop, getD}
 use borrow.Author.Tests.{eqb-true, eq-eqb, ne-eqb}
 use Rattle.search.specs.Cost.{plus, least, first, plus-below, least-is, first-le, first-is}
 use Rattle.search.specs.Walk.{best, chooseBy}
@@ -24,6 +25,18 @@ pub first-none : (n : ℕ) (t : ℕ → Bool) → ((j : ℕ) → j < n → t j �
 unfolding first
 first-none zero t f = refl
 first-none (suc n) t f = rw (f 0 (omega arith)) (ap suc (first-none n (λ j. t (suc j)) (λ j l. f (suc j) (omega arith))))
+
+-- ---- a part of an area
+
+pub at-drop : (l : List ℕ) (d i : ℕ) → getD (drop d l) i 0 ≡ getD l (d + i) 0
+at-drop l zero i = ap (λ (z : ℕ). getD l z 0) (omega arith)
+at-drop [] (suc d) i = refl
+at-drop (x ∷ l) (suc d) i = at-drop l d i ∙ ap (λ (z : ℕ). getD (x ∷ l) z 0) later
+  where
+    later : suc (d + i) ≡ suc d + i
+    later = omega arith
+
+-- ---- the walk
 
 module _ (P : Instance) (C R : ℕ) where
   open Instance P using (m, top)
