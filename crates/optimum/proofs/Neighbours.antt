@@ -1,18 +1,18 @@
--- THEOREM 2: neighbours are enough. A step is in order against all open labels exactly when the strip that holds the site
--- lets it open a label or join one. Assumes nothing but the laws of a sheet, the record `Good`.
-use mathlib.Core.Path.{_≡_, refl, sym, ap, ap₂, _∙_, subst, subst⁻¹}
-use mathlib.Core.Logic.{_⊎_, inl, inr, _↔_}
-use mathlib.Core.Bool.{Bool, true, false, cond, _&&_, _||_}
-use mathlib.Core.List.{List, [], _∷_, _++_}
-use Prim.Native.Nat.{ℕ, zero, suc, _+_, _-_, _*_, _≤_, _<_}
+-- THEOREM 2: neighbours are enough. A step is in order against all open labels exactly when the strip that holds the site lets it
+-- open a label or join one. The record `Good` is what it asks of an instance.
+use mathlib.Core.Path.{_≡_, refl, ap, _∙_}
+use mathlib.Core.Logic.{_⊎_, inl, inr}
+use mathlib.Core.Bool.{Bool, true, false, _&&_, _||_}
+use mathlib.Core.List.{List}
+use Prim.Native.Nat.{ℕ, suc, _≤_, _<_}
 use native.Mathlib.Omega.{arith}
-use lib.Dec.{eqb, leb, ltb}
-use lib.ListN.{length, getD, set, length-set}
-use borrow.Author.Tests.{leb-true, leb-false, ltb-true, ltb-false, le-leb, lt-leb, lt-ltb, le-ltb, eqb-true, eqb-false, eq-eqb, ne-eqb}
-use Rattle.lists.proofs.Tests.{by-test, by-order, by-equal, by-either, and-both, and-of, clash, tests}
-use Rattle.lists.proofs.Tests.{or-e, not-f}
-use Rattle.optimum.specs.Strips.{Point, Strip, Instance, opens, joinsUp, joinsDown, clearFrom, farFrom, hold}
-use Rattle.optimum.proofs.StripsHeld.{Upper, Lower, Holds, holds, opens-at, up-e, down-e, Rising, set-same, set-other}
+use lib.Dec.{ltb}
+use lib.ListN.{getD}
+use borrow.Author.Tests.{le-leb, lt-leb, lt-ltb, eq-eqb}
+use Rattle.lists.proofs.Tests.{by-order, by-equal, by-either, and-both, not-f}
+use Rattle.labelling.specs.Lawful.{Miss}
+use Rattle.optimum.specs.Strips.{Point, Strip, Instance, opens, joinsUp, joinsDown, clearFrom, farFrom}
+use Rattle.optimum.proofs.StripsHeld.{Upper, Lower, Holds, opens-at, up-e, down-e}
 
 -- what is asked of "far enough apart" and "clear of"
 pub record Good (P : Instance) : Type 0 where
@@ -25,16 +25,12 @@ pub record Good (P : Instance) : Type 0 where
   pub clear-below : (j k y : ℕ) → k < j → j < P .m → y < P .height k → P .clear k y ≡ true → P .clear j y ≡ true
   pub clear-off : (k y : ℕ) → P .clear k y ≡ true → P .height k ≡ y → ⊥
 
--- a vertical from y to e misses the height h
-abbrev pub Miss : (h y e : ℕ) → Type 0
-Miss h y e = ((h < y) × (h < e)) ⊎ ((y < h) × (e < h))
-
 or-right : (a b : Bool) → b ≡ true → a || b ≡ true
 or-right true b e = refl
 or-right false b e = e
 
 module _ (P : Instance) where
-  open Instance P using (m, top, height, far, clear, share, lead, may, tip, kinds, turn, held, drawOf, radices, word)
+  open Instance P using (m, height, far, clear, may, tip, held)
 
   -- the label of colour + 1 d at j is in order with the site s at k
   abbrev pub Rel : ℕ → ℕ → Point → ℕ → Type 0

@@ -1,26 +1,23 @@
--- Theorem 0's pairs of tied sites (labelling's proofs/Pairs), one-sided, in the order of rising x: they are what `Pairs` says of
--- the lists. Assumes nothing but that the sheet is accepted.
+-- THEOREM 0 by rank: the pairs of labelling's proofs/Pairs, each site with those after it, are what `Pairs` says of the lists.
 use mathlib.Core.Path.{_≡_, sym, ap, _∙_, subst}
-use mathlib.Core.Bool.{true, false}
+use mathlib.Core.Bool.{true, false, false≢true}
 use mathlib.Core.List.{List, [], _∷_}
 use Prim.Native.Nat.{ℕ, suc, _≤_, _<_}
 use native.Mathlib.Omega.{arith}
 use lib.Dec.{eqb}
 use lib.ListN.{length, getD}
 use borrow.Author.Tests.{eqb-true}
-use Rattle.lists.proofs.Tests.{by-order, by-equal, by-either}
-use mathlib.Core.Bool.{false≢true}
+use Rattle.lists.proofs.Tests.{by-order, by-equal, by-either, or-e}
 use Rattle.sheet.specs.Sheet.{Sheet}
+use Rattle.sheet.proofs.Accepted.{Sound}
 use Rattle.labelling.specs.Layout.{siteAt, isUsed}
 use Rattle.labelling.specs.Pairs.{startOf}
-use Rattle.lists.proofs.Tests.{or-e}
 use Rattle.labelling.proofs.Members.{noSite, used-head, used-tail}
-use Rattle.sheet.proofs.Accepted.{Sound}
 use Rattle.labelling.proofs.Earlier.{rankAt}
 use Rattle.labelling.proofs.LeftEnd.{start-one}
 use Rattle.labelling.proofs.Pairs.{AllInOrder}
-use Rattle.optimum.proofs.Pairs.{Pair, PairAll, Pairs}
 use Rattle.optimum.specs.OneSided.{farEnough, clearOf, xOf, pointAt, pointsAt, instanceOf}
+use Rattle.optimum.proofs.Pairs.{Pair, PairAll, Pairs}
 use Rattle.optimum.proofs.Order.{rank-x, x-rank, Rise, gather, same-site}
 use Rattle.optimum.proofs.Instance.{good}
 

@@ -1,78 +1,41 @@
--- THE JOIN: the best of document 03 is what the one-sided walk over the table finds. Assumes nothing but that the sheet is
--- accepted and one-sided.
+-- ONE-SIDED: the best of an accepted sheet is what the walk over the table finds. Theorems 0 to 4 put together.
 use mathlib.Core.Path.{_≡_, refl, sym, ap, ap₂, _∙_, subst, subst⁻¹}
-use mathlib.Core.Logic.{_⊎_, inl, inr, _↔_}
-use mathlib.Core.Bool.{Bool, true, false, cond, _&&_, _||_, not}
-use mathlib.Core.List.{List, [], _∷_, _++_}
-use Prim.Native.Nat.{ℕ, zero, suc, _+_, _-_, _*_, _/_, _%_, _≤_, _<_, min}
-use native.Mathlib.Omega.{arith}
-use lib.Dec.{eqb, leb, ltb}
-use lib.ListN.{length, getD, set, replicate, length-set, length-replicate}
-use borrow.Author.Tests.{leb-true, leb-false, ltb-true, ltb-false, le-leb, lt-leb, lt-ltb, le-ltb, eqb-true, eqb-false, eq-eqb, ne-eqb}
-use Rattle.lists.proofs.Tests.{by-test, by-order, by-equal, by-either, and-both, and-of, clash, tests}
-use mathlib.Core.Bool.{false≢true}
+use mathlib.Core.Logic.{_⊎_, inl, inr}
+use mathlib.Core.Bool.{true, false, false≢true}
+use mathlib.Core.List.{List, [], _∷_}
 use mathlib.Core.Option.{Option, none, some}
+use Prim.Native.Nat.{ℕ, suc, _+_, _≤_, _<_}
+use native.Mathlib.Omega.{arith}
+use lib.Dec.{eqb, ltb}
+use lib.ListN.{length, getD, set, replicate, length-replicate}
+use borrow.Author.Tests.{ltb-true, lt-ltb, eqb-true, eqb-false}
+use Rattle.lists.proofs.Tests.{by-test, by-either, or-e, is-false}
 use Rattle.search.specs.Walk.{Before, First as Cheapest, costOf}
-use Rattle.sheet.specs.Sheet.{all, Site, Colour, Sheet, productOf}
-use Rattle.labelling.specs.Layout.{tied, heightOf, noColour, isUsed, usedOf, slotsOf, countOf, lengthOf, firstNumber, secondNumber, isBetter, best}
-use Rattle.lists.proofs.Tests.{or-e, is-false}
+use Rattle.sheet.specs.Sheet.{sheetIn, sheetFault, Sheet}
+use Rattle.sheet.proofs.Accepted.{Sound, sound}
+use Rattle.labelling.specs.Layout.{noColour, isUsed, isBetter, best}
 use Rattle.labelling.proofs.Members.{noSite, all-at, at-all, used-head, used-tail}
-use Rattle.sheet.proofs.Accepted.{Sound}
 use Rattle.labelling.proofs.Best.{Obeys, below as lowTies}
-use Rattle.labelling.proofs.Words.{count-low, length-low}
 use Rattle.labelling.proofs.Rules.{Rules, Bounded, obeys-rules, rules-obey}
-use Rattle.labelling.proofs.Earlier.{rankAt, Earlier, Better, better-e}
+use Rattle.labelling.proofs.Earlier.{Earlier, better-e}
 use Rattle.labelling.proofs.Maker.{First, best-some-iff, best-none-iff}
-use Rattle.optimum.specs.Strips.{Point, Instance, hold, labels, walked}
-use Rattle.optimum.proofs.StripsHeld.{walked-first, walked-none}
-use Rattle.optimum.proofs.Near.{Step, Apart}
-use Rattle.optimum.proofs.Steps.{Steps, Pays, Tips, Turns, tips-all, turns-all, opened, shares, total, run-e, run-i}
-use Rattle.optimum.proofs.Pairs.{zeros, StepAll, Pairs, steps-e, steps-i, first-step}
-use Rattle.optimum.proofs.Budget.{isOf, pays-e, pays-i, digit-full}
-use Rattle.optimum.specs.OneSided.{tipClear, heldOf, boundOf, radicesOf, wordOf, topWord, instanceOf, xOf, order, pointAt, pointsAt, scatter, tiesOf, oneSided}
-use Rattle.optimum.proofs.Order.{Rise, Ordered, ordered, same-site, gather, gather-long, scatter-long, gather-scatter}
-use Rattle.optimum.proofs.Instance.{good, linear, budgeted, positive, radix-at, radices-long, product-is, digitIn, isUnbounded}
 use Rattle.labelling.proofs.Pairs.{AllInOrder, rules-pairs, pairs-rules}
-use Rattle.optimum.proofs.Zero.{AllPairs, pairs-rising, rising-pairs, list-e, list-i}
+use Rattle.optimum.specs.Strips.{Point, Instance, labels, walked}
+use Rattle.optimum.specs.Budgets.{unboundedColour, isUnbounded, digitIn}
+use Rattle.optimum.specs.CostWord.{layoutCost}
+use Rattle.optimum.specs.OneSided.{boundOf, wordOf, topWord, instanceOf, order, pointAt, pointsAt, scatter, tiesOf, oneSided}
+use Rattle.optimum.proofs.StripsHeld.{walked-first, walked-none}
+use Rattle.optimum.proofs.Neighbours.{Apart}
+use Rattle.optimum.proofs.Steps.{Steps, Pays, Tips, Turns, tips-all, turns-all, opened, total, run-e, run-i}
+use Rattle.optimum.proofs.Pairs.{zeros, StepAll, Pairs, steps-e, steps-i, first-step}
+use Rattle.optimum.proofs.Pays.{isOf, pays-e, pays-i}
+use Rattle.optimum.proofs.Budgets.{bound-of, bounded-low, full-digit}
+use Rattle.optimum.proofs.CostWord.{layout-low, better-costs}
+use Rattle.optimum.proofs.Order.{Rise, ordered, gather, scatter-long, gather-scatter}
+use Rattle.optimum.proofs.Instance.{good, tip-clear, not-held, linear, budgeted}
+use Rattle.optimum.proofs.RankedPairs.{AllPairs, pairs-rising, rising-pairs, list-e, list-i}
 use Rattle.optimum.proofs.Counts.{shares-drops, count-is, lead-is, colour-is}
-
--- ---- the first digits are the bounds
-
-in-range : {A : Type 0} (l : List A) (i : ℕ) (d e : A) → i < length l → getD l i d ≡ getD l i e
-in-range [] i d e h = absurd (omega arith)
-in-range (x ∷ l) zero d e h = refl
-in-range (x ∷ l) (suc i) d e h = in-range l i d e (omega arith)
-
-past-end : {A : Type 0} (l : List A) (i : ℕ) (d : A) → length l ≤ i → getD l i d ≡ d
-past-end [] i d h = refl
-past-end (x ∷ l) zero d h = absurd (omega arith)
-past-end (x ∷ l) (suc i) d h = past-end l i d (omega arith)
-
-bounded-low : (s : Sheet) (c : ℕ) → isUnbounded s c ≡ false → c < length (s .colours)
-bounded-low s c u =
-    by-order (length (s .colours)) c
-    (λ h. absurd (eqb-false (boundOf s c) 255 u (ap (λ (k : Colour). k .bound) (past-end (s .colours) c (record { bound = 255; sites = 0 }) h))))
-    (λ h. h)
-
-abbrev pub fullBudget : Sheet → ℕ
-fullBudget s = productOf (s .colours) - 1
-
-full-digit : (s : Sheet) (c : ℕ) → isUnbounded s c ≡ false → digitIn s c (fullBudget s) ≡ boundOf s c
-full-digit s c u =
-    let h = bounded-low s c u in
-    let q : getD (radicesOf (s .colours)) c 1 ≡ boundOf s c + 1 = rw u at (radix-at (s .colours) c) in
-    let f = digit-full (radicesOf (s .colours)) c (positive (s .colours)) (omega (arith, radices-long (s .colours))) in
-    rw (product-is (s .colours)) (omega arith)
-
--- ---- the word of a count and a length is below the sentinel
-
-pub word-low : (s : Sheet) → Sound s → (js : List ℕ) → wordOf s (countOf s js) (lengthOf s js) < topWord
-unfolding wordOf
-word-low s o js = go (s .isShortest) (countOf s js) (lengthOf s js) (count-low s o js) (length-low s o js)
-  where
-    go : (b : Bool) (c l : ℕ) → c ≤ 48 → l < 2097152 → cond b (l * 64 + c) (c * 33554432 + l) < 4294967295
-    go true c l h k = omega arith
-    go false c l h k = omega arith
+pub use Rattle.optimum.specs.Budgets.{fullBudget}
 
 -- ---- slots below m
 
@@ -124,15 +87,15 @@ module _ (s : Sheet) (o : Sound s) (one : s .isTwoSided ≡ false) where
             (list-i s js (order s) (ordered s o .rise) (λ i j ui uj h. pairs-rising s o one js p i j (ordered s o .low i ui .0) (ordered s o .low j uj .0) h))
 
         tips : Tips (instanceOf s) (replicate (length (s .slots)) 0) (pointsAt s (order s)) (gather js (order s))
-        tips = tips-all (instanceOf s) (λ t k. unfold tipClear in refl) (pointsAt s (order s)) _ (gather js (order s))
+        tips = tips-all (instanceOf s) (tip-clear s) (pointsAt s (order s)) _ (gather js (order s))
 
         turns : Turns (instanceOf s) (replicate (length (s .slots)) 0) (replicate (suc (length (s .slots))) 0) (pointsAt s (order s)) (gather js (order s))
-        turns = turns-all (instanceOf s) (λ p t. unfold heldOf in refl) (pointsAt s (order s)) _ _ (gather js (order s))
+        turns = turns-all (instanceOf s) (not-held s) (pointsAt s (order s)) _ _ (gather js (order s))
 
         enough : (c : ℕ) → isUnbounded s c ≡ false → opened (instanceOf s) (isOf c) (replicate (length (s .slots)) 0) (pointsAt s (order s)) (gather js (order s)) ≤ digitIn s c (fullBudget s)
         enough c u =
             let h = bounded-low s c u in
-            let e : getD (s .colours) c noColour ≡ getD (s .colours) c (record { bound = 255; sites = 0 }) = in-range (s .colours) c _ _ h in
+            let e : getD (s .colours) c noColour ≡ getD (s .colours) c unboundedColour = bound-of s c noColour h in
             rw (colour-is s o one js long steps (agree-of p) c, full-digit s c u)
             (by-either (subst (Bounded s js c) e (r .two c h)) (λ q. absurd (eqb-false (boundOf s c) 255 u q)) (λ q. q))
 
@@ -159,19 +122,19 @@ module _ (s : Sheet) (o : Sound s) (one : s .isTwoSided ≡ false) where
 
         two : (c : ℕ) → c < length (s .colours) → Bounded s js c (getD (s .colours) c noColour)
         two c h =
-            let e : getD (s .colours) c noColour ≡ getD (s .colours) c (record { bound = 255; sites = 0 }) = in-range (s .colours) c _ _ h in
+            let e : getD (s .colours) c noColour ≡ getD (s .colours) c unboundedColour = bound-of s c noColour h in
             subst⁻¹ (Bounded s js c) e (by-test (isUnbounded s c)
             (λ u. inl (eqb-true (boundOf s c) 255 u))
             (λ u. inr (let g = pays-e (instanceOf s) (digitIn s) (isUnbounded s) (budgeted s) (pointsAt s (order s)) (gather js (order s)) _ (fullBudget s) y c u in
             omega (arith, g, colour-is s o one js long t (agree-of p) c, full-digit s c u))))
 
-    -- the packed cost of ties that obey the rules is the word of their count and length
-    pub obeys-cost : Obeys s js → costs (gather js (order s)) ≡ wordOf s (countOf s js) (lengthOf s js)
+    -- the cost of ties that obey the rules is the word of their count and length
+    pub obeys-cost : Obeys s js → costs (gather js (order s)) ≡ layoutCost s js
     obeys-cost b =
         let t = obeys-steps b in
         let e = run-i (instanceOf s) (good s o) (linear s) (pointsAt s (order s)) _ (fullBudget s) _ (gather js (order s)) empty-long empty-apart (t .0) (t .1) (t .2) (t .3) in
-        let w = word-low s o js in
-        let f : total (instanceOf s) (replicate (length (s .slots)) 0) (pointsAt s (order s)) (gather js (order s)) ≡ wordOf s (countOf s js) (lengthOf s js)
+        let w = layout-low s o js in
+        let f : total (instanceOf s) (replicate (length (s .slots)) 0) (pointsAt s (order s)) (gather js (order s)) ≡ layoutCost s js
         = ap₂ (wordOf s) (count-is s o one js long (t .0)) (ap₂ _+_ (lead-is s o one js long (t .0)) (shares-drops s o js long)) in
         omega arith
 
@@ -179,31 +142,6 @@ module _ (s : Sheet) (o : Sound s) (one : s .isTwoSided ≡ false) where
     cost-obeys h =
         let t = run-e (instanceOf s) (good s o) (pointsAt s (order s)) _ (fullBudget s) _ (gather js (order s)) empty-long empty-apart h in
         steps-obey (t .0) (t .1) (t .2) (t .3)
-
--- ---- the packed cost compares as the pair does
-
-word-less : (b : Bool) (c l d k : ℕ) → c < 64 → l < 33554432 → d < 64 → k < 33554432
-    → (cond b l c < cond b k d) ⊎ ((cond b l c ≡ cond b k d) × (cond b c l < cond b d k)) → cond b (l * 64 + c) (c * 33554432 + l) < cond b (k * 64 + d) (d * 33554432 + k)
-word-less true c l d k p q r t (inl h) = omega arith
-word-less true c l d k p q r t (inr h) = omega (arith, h .0, h .1)
-word-less false c l d k p q r t (inl h) = omega arith
-word-less false c l d k p q r t (inr h) = omega (arith, h .0, h .1)
-
-word-same : (b : Bool) (c l d k : ℕ) → cond b l c ≡ cond b k d → cond b c l ≡ cond b d k → cond b (l * 64 + c) (c * 33554432 + l) ≡ cond b (k * 64 + d) (d * 33554432 + k)
-word-same true c l d k p q = omega arith
-word-same false c l d k p q = omega arith
-
-pub cost-less : (s : Sheet) → Sound s → (js ks : List ℕ) → (firstNumber s js < firstNumber s ks) ⊎ ((firstNumber s js ≡ firstNumber s ks) × (secondNumber s js < secondNumber s ks))
-    → wordOf s (countOf s js) (lengthOf s js) < wordOf s (countOf s ks) (lengthOf s ks)
-unfolding wordOf
-cost-less s o js ks h =
-    word-less (s .isShortest) (countOf s js) (lengthOf s js) (countOf s ks) (lengthOf s ks) (omega (arith, count-low s o js)) (omega (arith, length-low s o js))
-    (omega (arith, count-low s o ks)) (omega (arith, length-low s o ks)) h
-
-pub cost-same : (s : Sheet) → (js ks : List ℕ) → firstNumber s js ≡ firstNumber s ks → secondNumber s js ≡ secondNumber s ks
-    → wordOf s (countOf s js) (lengthOf s js) ≡ wordOf s (countOf s ks) (lengthOf s ks)
-unfolding wordOf
-cost-same s js ks p q = word-same (s .isShortest) (countOf s js) (lengthOf s js) (countOf s ks) (lengthOf s ks) p q
 
 -- ---- the slots by rising x that come first are those of the ties that come first
 
@@ -229,10 +167,10 @@ steps-long P [] L (k ∷ ks) h = absurd h
 steps-long P (s ∷ ss) L [] h = absurd h
 steps-long P (s ∷ ss) L (k ∷ ks) h = ap suc (steps-long P ss (set L k (suc (s .c))) ks (h .1))
 
-spots-long : (s : Sheet) (is : List ℕ) → length (pointsAt s is) ≡ length is
+points-long : (s : Sheet) (is : List ℕ) → length (pointsAt s is) ≡ length is
 unfolding pointsAt
-spots-long s [] = refl
-spots-long s (i ∷ is) = ap suc (spots-long s is)
+points-long s [] = refl
+points-long s (i ∷ is) = ap suc (points-long s is)
 
 -- what the walk finds, put back in sheet order
 abbrev pub putBack : Sheet → List ℕ → List ℕ
@@ -249,7 +187,7 @@ module _ (s : Sheet) (o : Sound s) (one : s .isTwoSided ≡ false) where
   found-long ks c =
       steps-long (instanceOf s) (pointsAt s (order s)) (replicate (length (s .slots)) 0) ks
       (run-e (instanceOf s) (good s o) (pointsAt s (order s)) _ (fullBudget s) _ ks (empty-long s o one) (empty-apart s o one) (c .lawful) .0)
-      ∙ spots-long s (order s) ∙ ordered s o .long
+      ∙ points-long s (order s) ∙ ordered s o .long
 
   pub back-is : (ks : List ℕ) → Found ks → gather (putBack s ks) (order s) ≡ ks
   back-is ks c =
@@ -262,23 +200,20 @@ module _ (s : Sheet) (o : Sound s) (one : s .isTwoSided ≡ false) where
   pub found-obeys : (ks : List ℕ) → Found ks → Obeys s (putBack s ks)
   found-obeys ks c = cost-obeys s o one (putBack s ks) (back-long ks) (omega (arith, cost-back ks c, c .lawful))
 
-  -- its packed cost is the word of its count and length
-  pub found-cost : (ks : List ℕ) → Found ks → costs s o one ks ≡ wordOf s (countOf s (putBack s ks)) (lengthOf s (putBack s ks))
+  -- its cost is the word of its count and length
+  pub found-cost : (ks : List ℕ) → Found ks → costs s o one ks ≡ layoutCost s (putBack s ks)
   found-cost ks c = sym (cost-back ks c) ∙ obeys-cost s o one (putBack s ks) (back-long ks) (found-obeys ks c)
 
   -- it is first
   pub found-first : (ks : List ℕ) → Found ks → First s (putBack s ks)
-  found-first ks c = record { obeys = found-obeys ks c; least = λ ls b. is-false (isBetter s ls (putBack s ks)) (λ e. worse ls b (better-e s o ls (putBack s ks) (b .long) (back-long ks) e)) }
+  found-first ks c = record { obeys = found-obeys ks c; least = λ ls b. is-false (isBetter s ls (putBack s ks)) (λ e. worse ls b (better-costs s o ls (putBack s ks) (better-e s o ls (putBack s ks) (b .long) (back-long ks) e))) }
     where
-      worse : (ls : List ℕ) → Obeys s ls → Better s ls (putBack s ks) → ⊥
-      worse ls b (inl h) =
-          omega (arith, obeys-cost s o one ls (b .long) b, found-cost ks c, c .lowest (gather ls (order s)), cost-less s o ls (putBack s ks) (inl h))
-      worse ls b (inr (p, inl h)) =
-          omega (arith, obeys-cost s o one ls (b .long) b, found-cost ks c, c .lowest (gather ls (order s)), cost-less s o ls (putBack s ks) (inr (p, h)))
-      worse ls b (inr (p, inr (q, e))) =
+      worse : (ls : List ℕ) → Obeys s ls → (layoutCost s ls < layoutCost s (putBack s ks)) ⊎ ((layoutCost s ls ≡ layoutCost s (putBack s ks)) × Earlier s ls (putBack s ks)) → ⊥
+      worse ls b (inl h) = omega (arith, obeys-cost s o one ls (b .long) b, found-cost ks c, c .lowest (gather ls (order s)))
+      worse ls b (inr (h, e)) =
           not-earlier s o (putBack s ks) ls (order s) (ordered s o .rise) (λ i u. ordered s o .low i u .0) e (ordered s o .whole (e .place) (e .inside) (omega arith))
           (subst⁻¹ (λ (z : List ℕ). Before z (gather ls (order s))) (back-is ks c)
-          (c .ahead (gather ls (order s)) (obeys-cost s o one ls (b .long) b ∙ cost-same s ls (putBack s ks) p q ∙ sym (found-cost ks c))))
+          (c .ahead (gather ls (order s)) (obeys-cost s o one ls (b .long) b ∙ h ∙ sym (found-cost ks c))))
 
   -- THE ONE-SIDED SHEET: document 03's best is what the walk over the table finds
   pub one-sided-best : best s ≡ oneSided s
@@ -288,12 +223,9 @@ module _ (s : Sheet) (o : Sound s) (one : s .isTwoSided ≡ false) where
       go : (w : Option (List ℕ)) → walked (instanceOf s) (fullBudget s) (pointsAt s (order s)) ≡ w → best s ≡ tiesOf s w
       go none e =
           best-none-iff s .1 (λ js b.
-          omega (arith, obeys-cost s o one js (b .long) b, walked-none (instanceOf s) (good s o .rising) (fullBudget s) (pointsAt s (order s)) e (gather js (order s)), word-low s o js))
+          omega (arith, obeys-cost s o one js (b .long) b, walked-none (instanceOf s) (good s o .rising) (fullBudget s) (pointsAt s (order s)) e (gather js (order s)), layout-low s o js))
       go (some ks) e = best-some-iff s o _ .1 (found-first ks (walked-first (instanceOf s) (good s o .rising) (fullBudget s) (pointsAt s (order s)) ks e))
 
--- as it is said from outside
-abbrev pub OneSidedBest : Type 0
-OneSidedBest = (s : Sheet) → Sound s → s .isTwoSided ≡ false → best s ≡ oneSided s
-
-pub one-sided : OneSidedBest
-one-sided = one-sided-best
+-- for accepted words
+pub one-sided-made : (ws : List ℕ) → sheetFault ws ≡ 0 → (sheetIn ws) .isTwoSided ≡ false → best (sheetIn ws) ≡ oneSided (sheetIn ws)
+one-sided-made ws h one = one-sided-best (sheetIn ws) (sound ws h) one

@@ -1,12 +1,14 @@
--- Sheets that tell the answer from what a misreading of document 01 gives. Assumes nothing: these are definitions.
+-- The models on document 01's starred examples, and on sheets that tell the answer from what a misreading gives.
 use mathlib.Core.Path.{_≡_}
-use mathlib.Core.Bool.{Bool, true}
+use mathlib.Core.Bool.{true}
 use mathlib.Core.List.{List, [], _∷_}
-use mathlib.Core.Option.{Option, some}
+use mathlib.Core.Option.{none, some}
 use Prim.Native.Nat.{ℕ}
-use Rattle.sheet.specs.Sheet.{Sheet, sheetIn}
+use Rattle.sheet.specs.Sheet.{sheetIn}
 use Rattle.labelling.specs.Layout.{brokenIn, isBetter}
+use Rattle.labelling.specs.Promise.{a, shortest, gapThree, gapFour, boundZero, headAlone, twoSided as twoSidedA}
 use Rattle.optimum.specs.OneSided.{oneSided}
+use Rattle.optimum.specs.TwoSided.{twoSided}
 
 -- the answer, and a layout that a misreading gives and rule r forbids
 abbrev pub Forbidden : (words right wrong : List ℕ) → (rule : ℕ) → Type 0
@@ -50,3 +52,12 @@ abbrev pub Telling : Type 0
 Telling =
     Worse roundedAtCuts (0 ∷ 0 ∷ []) (1 ∷ 0 ∷ []) × Forbidden otherColoursOnly (1 ∷ 1 ∷ []) (1 ∷ 0 ∷ []) 5 × Forbidden throughASite (1 ∷ 0 ∷ []) (0 ∷ 1 ∷ []) 4 ×
     Worse restToNearest (0 ∷ 0 ∷ []) (1 ∷ 0 ∷ []) × Worse upperPartFirst (1 ∷ 3 ∷ 1 ∷ []) (1 ∷ 1 ∷ 0 ∷ []) × Found equalsOnBothSides (1 ∷ 1 ∷ 1 ∷ 0 ∷ [])
+
+-- document 01's starred examples for the maker
+abbrev pub Starred : Type 0
+Starred =
+    (oneSided (sheetIn a) ≡ some (0 ∷ 0 ∷ 2 ∷ [])) × (oneSided (sheetIn shortest) ≡ some (0 ∷ 1 ∷ 2 ∷ [])) × (oneSided (sheetIn gapThree) ≡ some (2 ∷ 2 ∷ 0 ∷ [])) ×
+    (oneSided (sheetIn gapFour) ≡ none) × (oneSided (sheetIn boundZero) ≡ none) × (oneSided (sheetIn headAlone) ≡ some [])
+
+abbrev pub StarredTwoSided : Type 0
+StarredTwoSided = twoSided (sheetIn twoSidedA) ≡ some (0 ∷ 0 ∷ 2 ∷ [])

@@ -1,50 +1,18 @@
--- Sums over the slots 0 .. n-1; the sum over the sites that open a label, slot by slot. Assumes nothing.
-use mathlib.Core.Path.{_≡_, refl, sym, ap, ap₂, _∙_, subst, subst⁻¹}
-use mathlib.Core.Logic.{_⊎_, inl, inr, _↔_}
-use mathlib.Core.Bool.{Bool, true, false, cond, _&&_, _||_, not}
-use mathlib.Core.List.{List, [], _∷_, _++_}
-use Prim.Native.Nat.{ℕ, zero, suc, _+_, _-_, _*_, _/_, _%_, _≤_, _<_, min}
+-- The sum over the sites that open a label is a sum over the slots: each slot's first site opens it.
+use mathlib.Core.Path.{_≡_, refl, sym, ap₂, _∙_}
+use mathlib.Core.Bool.{false, cond}
+use mathlib.Core.List.{List, [], _∷_}
+use Prim.Native.Nat.{ℕ, suc, _+_, _<_}
 use native.Mathlib.Omega.{arith}
-use lib.Dec.{eqb, leb, ltb}
-use lib.ListN.{length, getD, set, replicate, length-set, length-replicate}
-use borrow.Author.Tests.{leb-true, leb-false, ltb-true, ltb-false, le-leb, lt-leb, lt-ltb, le-ltb, eqb-true, eqb-false, eq-eqb, ne-eqb}
-use Rattle.lists.proofs.Tests.{by-test, by-order, by-equal, by-either, and-both, and-of, clash, tests}
+use lib.Dec.{eqb}
+use lib.ListN.{length, set, length-set}
+use borrow.Author.Tests.{eq-eqb, ne-eqb}
+use Rattle.lists.proofs.Tests.{by-test, by-equal}
+use Rattle.search.specs.Sums.{sum}
+use Rattle.search.proofs.Sums.{sum-cong, sum-add, sum-zero, sum-point}
 use Rattle.optimum.specs.Strips.{Point, Instance}
 use Rattle.optimum.proofs.StripsHeld.{set-same, set-other}
-use Rattle.optimum.proofs.Near.{Step}
 use Rattle.optimum.proofs.Steps.{Steps, isFree, opened}
-
-unfoldable pub sum : ℕ → (ℕ → ℕ) → ℕ
-sum zero f = 0
-sum (suc n) f = sum n f + f n
-
-pub sum-cong : (n : ℕ) (f g : ℕ → ℕ) → ((k : ℕ) → k < n → f k ≡ g k) → sum n f ≡ sum n g
-unfolding sum
-sum-cong zero f g h = refl
-sum-cong (suc n) f g h = ap₂ _+_ (sum-cong n f g (λ k l. h k (omega arith))) (h n (omega arith))
-
-pub sum-add : (n : ℕ) (f g : ℕ → ℕ) → sum n (λ k. f k + g k) ≡ sum n f + sum n g
-unfolding sum
-sum-add zero f g = omega arith
-sum-add (suc n) f g = omega (arith, sum-add n f g)
-
-pub sum-zero : (n : ℕ) → sum n (λ k. 0) ≡ 0
-unfolding sum
-sum-zero zero = refl
-sum-zero (suc n) = omega (arith, sum-zero n)
-
-sum-none : (n j a : ℕ) → n ≤ j → sum n (λ k. cond (eqb k j) a 0) ≡ 0
-unfolding sum
-sum-none zero j a h = refl
-sum-none (suc n) j a h = rw (ne-eqb n j (λ (e : n ≡ j). omega arith)) (omega (arith, sum-none n j a (omega arith)))
-
-pub sum-point : (n j a : ℕ) → j < n → sum n (λ k. cond (eqb k j) a 0) ≡ a
-unfolding sum
-sum-point zero j a h = absurd (omega arith)
-sum-point (suc n) j a h =
-    by-equal n j
-    (λ e. rw (eq-eqb n j e) (omega (arith, sum-none n j a (omega arith))))
-    (λ e. rw (ne-eqb n j e) (omega (arith, sum-point n j a (omega arith))))
 
 -- g of the first site at slot k
 unfoldable pub firstOf : (Point → ℕ) → ℕ → List Point → List ℕ → ℕ
