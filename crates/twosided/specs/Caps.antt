@@ -3,13 +3,14 @@ use mathlib.Core.Bool.{Bool, true, false, cond, _&&_, _||_}
 use mathlib.Core.List.{List, [], _∷_, _++_}
 use Prim.Native.Nat.{ℕ, zero, suc, _+_, _*_, _-_, _/_, _%_, _≤_, _<_}
 use lib.Dec.{ltb, leb, eqb}
-use lib.ListN.{length, getD, set}
-use Rattle.labelling.specs.Layout.{tieWords}
+use mathlib.Core.Path.{_≡_}
+use lib.ListN.{length, getD, set, drop, replicate}
+use Rattle.labelling.specs.Layout.{tieWords, layoutWords}
 use Rattle.optimum.specs.Sums.{listing}
-use Rattle.optimum.specs.UsedSlots.{Instance, put, value, leftmost}
+use Rattle.optimum.specs.UsedSlots.{Instance, put, value, leftmost, ties}
 use Rattle.optimum.proofs.Halve.{halve}
 use Rattle.arrays.specs.declared.Measures.{Measures}
-use Rattle.usedslots.specs.Table.{tableBy, capsIn}
+use Rattle.usedslots.specs.Table.{none, tableBy, capsIn}
 use Rattle.twosided.specs.declared.Range.{Range}
 
 -- the leftmost site without a cap among the first so many, of n in all, or n
@@ -47,6 +48,21 @@ lengthBy q w = cond (q .shortest) (w / 64) (w % 33554432)
 -- a layout's words: the first, and a tie from each cap
 abbrev pub wordsBy : (head : ℕ) → (caps : List ℕ) → List ℕ
 wordsBy h caps = h ∷ tieWords (listing (λ i. getD caps i 0 - 1) 0 (length caps))
+
+-- before the walk no site has a cap
+abbrev pub uncapped : ℕ → ℕ
+uncapped i = 0
+
+-- the layout of the least cost that comes first
+abbrev pub laidBy : Measures → Instance → List ℕ
+laidBy q G =
+    layoutWords (countBy q (value G uncapped)) (lengthBy q (value G uncapped)) (ties G (capHalved G (value G uncapped) (G .n) uncapped))
+
+-- what a call on the arrays of a sheet answers and leaves
+pub record Laid (q : Measures) (G : Instance) (words : ℕ) (work out : List ℕ) (fault : ℕ) (works outs : List ℕ) : Type 0 where
+  pub fault-is : fault ≡ cond (ltb (value G uncapped) none) 0 10
+  pub out-is : outs ≡ cond (ltb (value G uncapped) none) (laidBy q G ++ drop (G .n + 1) out) out
+  pub work-is : works ≡ replicate words 0 ++ drop words work
 
 -- no cap is past the last slot's
 abbrev pub Low : List ℕ → Type 0

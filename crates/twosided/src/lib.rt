@@ -1,17 +1,36 @@
 // Layouts of two-sided sheets: the least cost from the table, a cap for each site by rising rank, and the layout's words.
 ghost use mathlib.Core.Path.{_≡_};
-ghost use mathlib.Core.Bool.{cond, _&&_, _||_};
+ghost use mathlib.Core.Bool.{true, cond, _&&_, _||_};
 ghost use mathlib.Core.List.{_++_};
 ghost use Prim.Native.Nat.{ℕ, suc, _+_, _-_, _*_, _/_, _%_, _<_, _≤_};
 ghost use lib.Dec.{eqb, leb, ltb};
 ghost use lib.ListN.{length, getD, set, drop, replicate};
+ghost use Rattle.sheet.specs.Sheet.{sheetIn, productOf};
+ghost use Rattle.labelling.specs.Entry.{makeFault, makeWork, makeAnswer};
+ghost use Rattle.labelling.specs.Promise.{takesSheet};
 ghost use Rattle.optimum.specs.UsedSlots.{value};
 ghost use Rattle.optimum.proofs.Halve.{halve};
 ghost use Rattle.usedslots.specs.Table.{instanceBy, tableBy, capsIn, Fits, tableWords};
-ghost use Rattle.twosided.specs.Caps.{leftmostBy, keepsCost, halfOf, capHalved, countBy, lengthBy, wordsBy, Low};
+ghost use Rattle.twosided.specs.Caps.{leftmostBy, keepsCost, halfOf, capHalved, countBy, lengthBy, wordsBy, Low, Laid};
 use arrays::Measures;
+use arrays::bounds_of;
+use arrays::colours_of;
+use arrays::draws_of;
+use arrays::heights_of;
+use arrays::measures_of;
+use arrays::radices_of;
+use arrays::xs_of;
+use arrays::ys_of;
 use usedslots::value_of;
-use words::{at_most, both, choose, either, get, less, monus, same, NONE};
+use words::NONE;
+use words::at_most;
+use words::both;
+use words::choose;
+use words::either;
+use words::get;
+use words::less;
+use words::monus;
+use words::same;
 
 // Slots from low to high.
 pub struct Range {
@@ -24,7 +43,14 @@ pub struct Range {
 fn leftmost_after(best: u32, site: u32, cap: u32, sites: u32, rank: u32, bound: u32) -> u32
     ensures { λ r. ⌜ r ≡ cond (eqb cap 0 && (leb sites best || ltb rank bound)) site best ⌝ }
 {
-    choose(both(same(cap, 0), either(at_most(sites, best), less(rank, bound))), site, best)
+    choose(
+        both(
+            same(cap, 0),
+            either(at_most(sites, best), less(rank, bound)),
+        ),
+        site,
+        best,
+    )
 }
 
 fn leftmost(ranks: &[u32], caps: &[u32]) -> u32
@@ -95,10 +121,29 @@ fn halved(
         return range;
     }
     let middle = (low + high) / 2;
-    if keeps_cost(q, heights, bounds, radices, draws, ys, colours, caps, work, least, site, middle) {
-        return Range { low: low, high: middle };
+    if keeps_cost(
+        q,
+        heights,
+        bounds,
+        radices,
+        draws,
+        ys,
+        colours,
+        caps,
+        work,
+        least,
+        site,
+        middle,
+    ) {
+        return Range {
+            low: low,
+            high: middle,
+        };
     }
-    Range { low: middle + 1, high: high }
+    Range {
+        low: middle + 1,
+        high: high,
+    }
 }
 
 // The least cap that keeps the cost.
@@ -121,10 +166,26 @@ fn cap_site(
     ensures { λ _. ⌜ (Low (now (caps .entry)) → Low (now (caps .exit))) ⌝ }
     ensures { λ _. ⌜ drop (tableWords q (now (heights .entry))) (now (work .exit)) ≡ drop (tableWords q (now (heights .entry))) (now (work .entry)) ⌝ }
 {
-    let mut range = Range { low: 0, high: monus(heights.len() as u32, 1) };
+    let mut range = Range {
+        low: 0,
+        high: monus(heights.len() as u32, 1),
+    };
     let mut steps: u32 = 6;
     while steps > 0 {
-        range = halved(q, heights, bounds, radices, draws, ys, colours, caps, work, least, site, range);
+        range = halved(
+            q,
+            heights,
+            bounds,
+            radices,
+            draws,
+            ys,
+            colours,
+            caps,
+            work,
+            least,
+            site,
+            range,
+        );
         steps -= 1;
     }
     caps[site] = range.low + 1;
@@ -156,7 +217,19 @@ fn cap_all(
         if caps.len() <= site {
             return;
         }
-        cap_site(q, heights, bounds, radices, draws, ys, colours, caps, work, least, site);
+        cap_site(
+            q,
+            heights,
+            bounds,
+            radices,
+            draws,
+            ys,
+            colours,
+            caps,
+            work,
+            least,
+            site,
+        );
         left -= 1;
     }
 }
@@ -195,4 +268,99 @@ fn clear(work: &mut [u32], count: usize)
         work[i] = 0;
         i += 1;
     }
+}
+
+// ---- the layout
+
+// The words of the table.
+fn table_words(q: Measures, slots: usize) -> usize
+    requires { ⌜ (slots ≤ 48) × (q .colours ≤ 8) × (q .budgets ≤ 64) ⌝ }
+    ensures { λ r. ⌜ r ≡ (slots + 2) * (q .colours + 1) * q .budgets ⌝ }
+{
+    let codes = q.colours as usize + 1;
+    (slots + 2) * codes * (q.budgets as usize)
+}
+
+fn lay_capped(
+    q: Measures,
+    heights: &[u32],
+    bounds: &[u32],
+    radices: &[u32],
+    draws: &[u32],
+    ys: &[u32],
+    colours: &[u32],
+    ranks: &[u32],
+    caps: &mut [u32],
+    work: &mut [u32],
+    out: &mut [u32],
+) -> u8
+    requires { ⌜ Fits q (now heights) (now bounds) (now radices) (now draws) (now ys) (now colours) (now caps) ⌝ }
+    requires { ⌜ ((i : ℕ) → getD (now caps) i 0 ≡ 0) ⌝ }
+    requires { ⌜ (tableWords q (now heights) ≤ length (now work)) × (length (now ys) + 1 ≤ length (now out)) ⌝ }
+    ensures { λ r. ⌜ Laid q (instanceBy q (now (heights .entry)) (now (bounds .entry)) (now (radices .entry)) (now (ys .entry)) (now (colours .entry)) (now (ranks .entry))) (tableWords q (now (heights .entry))) (now (work .entry)) (now (out .entry)) r (now (work .exit)) (now (out .exit)) ⌝ }
+{
+    let cells = table_words(q, heights.len());
+    let least = value_of(q, heights, bounds, radices, draws, ys, colours, caps, work);
+    if least == NONE {
+        clear(work, cells);
+        return 10;
+    }
+    cap_all(
+        q,
+        heights,
+        bounds,
+        radices,
+        draws,
+        ys,
+        colours,
+        ranks,
+        caps,
+        work,
+        least,
+    );
+    write_layout(head_word(q, least), caps, out);
+    clear(work, cells);
+    0
+}
+
+// What the layout maker does with an accepted two-sided sheet of these sizes, its areas long enough.
+pub fn lay_two_sided(
+    sheet: &[u32],
+    slots: usize,
+    colours: u32,
+    sites: usize,
+    budgets: u32,
+    work: &mut [u32],
+    out: &mut [u32],
+) -> u8
+    requires { ⌜ takesSheet (now sheet) (now work) (now out) ⌝ }
+    requires { ⌜ sheetIn (now sheet) .isTwoSided ≡ true ⌝ }
+    requires { ⌜ (slots ≡ length (sheetIn (now sheet) .slots)) × (colours ≡ length (sheetIn (now sheet) .colours)) × (sites ≡ length (sheetIn (now sheet) .sites)) × (budgets ≡ productOf (sheetIn (now sheet) .colours)) ⌝ }
+    ensures { λ r. ⌜ r ≡ makeFault (now (sheet .entry)) (now (work .entry)) (now (out .entry)) ⌝ }
+    ensures { λ _. ⌜ now (work .exit) ≡ makeWork (now (sheet .entry)) (now (work .entry)) (now (out .entry)) ⌝ }
+    ensures { λ _. ⌜ now (out .exit) ≡ makeAnswer (now (sheet .entry)) (now (work .entry)) (now (out .entry)) ⌝ }
+{
+    let q = measures_of(sheet, colours, budgets);
+    let heights = heights_of(sheet);
+    let bounds = bounds_of(sheet);
+    let kinds = colours as usize;
+    let radices = radices_of(&bounds[..kinds]);
+    let draws = draws_of(&bounds[..kinds]);
+    let xs = xs_of(sheet);
+    let ys = ys_of(sheet);
+    let codes = colours_of(sheet);
+    let mut caps = [0u32; 32];
+    lay_capped(
+        q,
+        &heights[..slots],
+        &bounds[..kinds],
+        &radices[..kinds],
+        &draws[..kinds],
+        &ys[..sites],
+        &codes[..sites],
+        &xs[..sites],
+        &mut caps[..sites],
+        work,
+        out,
+    )
 }

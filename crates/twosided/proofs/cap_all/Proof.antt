@@ -71,11 +71,14 @@ loop-less c = search needs
 loop-again : tie.Need-loop-again Inv-loop μ-loop
 loop-again c =
     let a = c .before .before .before .before .before .before .before .before .before .before .before .before .before .before .before .before .before .before .before .before .before .args in let l = c .before .before .before .before .before .before .before .before .before .before .before .loop in let k = c .before .before .before .before .cap-site in
-    let z : l .left ≡ suc (l .left - 1) = omega arith in
-    (k .kept .1 .1 .1 .1 .1 .1 .1 .0 ∙ l .inv .0, k .kept .1 .1 .1 .1 .1 .1 .1 .1 .0 ∙ l .inv .1,
-    l .inv .2 ∙ ap (λ (f : ℕ). capHalved (instanceBy (a .q) (a .heights .now) (a .bounds .now) (a .radices .now) (a .ys .now) (a .colours .now) (a .ranks .now)) (a .least) f (capsIn (l .caps))) z ∙
-    caps-step (a .q) (a .heights .now) (a .bounds .now) (a .radices .now) (a .ys .now) (a .colours .now) (a .ranks .now) (a .least) (l .caps) (k .last .1 .1 .1 .1 .1 .1 .1 .0) (l .left - 1) (c .before .before .before .before .before .before .before .before .leftmost .result) (c .before .before .before .before .before .before .before .before .leftmost .ensures) (l .inv .0 ∙ c .before .before .before .before .before .before .before .before .before .before .before .before .before .before .before .before .before .before .before .before .before .pre .0 .caps-long) (c .before .before .before .before .before .before .before .if1 .left) (k .ensures .0),
-    (λ h. k .ensures .1 .0 (l .inv .3 h)), k .ensures .1 .1 ∙ l .inv .4)
+    let z : l .left ≡ suc (l .left - 1) = omega arith in (
+      k .kept .1 .1 .1 .1 .1 .1 .1 .0 ∙ l .inv .0,
+      k .kept .1 .1 .1 .1 .1 .1 .1 .1 .0 ∙ l .inv .1,
+      l .inv .2 ∙ ap (λ (f : ℕ). capHalved (instanceBy (a .q) (a .heights .now) (a .bounds .now) (a .radices .now) (a .ys .now) (a .colours .now) (a .ranks .now)) (a .least) f (capsIn (l .caps))) z ∙
+          caps-step (a .q) (a .heights .now) (a .bounds .now) (a .radices .now) (a .ys .now) (a .colours .now) (a .ranks .now) (a .least) (l .caps) (k .last .1 .1 .1 .1 .1 .1 .1 .0) (l .left - 1) (c .before .before .before .before .before .before .before .before .leftmost .result) (c .before .before .before .before .before .before .before .before .leftmost .ensures) (l .inv .0 ∙ c .before .before .before .before .before .before .before .before .before .before .before .before .before .before .before .before .before .before .before .before .before .pre .0 .caps-long) (c .before .before .before .before .before .before .before .if1 .left) (k .ensures .0),
+      (λ h. k .ensures .1 .0 (l .inv .3 h)),
+      k .ensures .1 .1 ∙ l .inv .4,
+    )
 
 -- src/lib.rt:134:1
 same-length-3 : tie.Need-same-length-3 Inv-loop μ-loop

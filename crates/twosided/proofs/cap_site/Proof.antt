@@ -55,10 +55,12 @@ loop-less c = search needs
 -- src/lib.rt:126:5
 loop-again : tie.Need-loop-again Inv-loop μ-loop
 loop-again c =
-    let a = c .before .before .before .before .before .before .before .before .before .before .before .before .before .before .before .before .before .before .args in let l = c .before .before .before .before .before .before .before .before .loop in let k = c .before .before .before .before .halved in
-    (k .kept .1 .1 .1 .1 .1 .1 .1 .0 ∙ l .inv .0, k .kept .1 .1 .1 .1 .1 .1 .1 .1 .0 ∙ l .inv .1,
-    halving-step (tableBy (a .q) (a .heights .now) (a .bounds .now) (a .radices .now) (a .ys .now) (a .colours .now)) (a .caps .now) (l .caps) (k .last .1 .1 .1 .1 .1 .1 .1 .0) (a .least) (a .site) (l .steps) (length (a .heights .now) - 1) (l .range) (k .result) (omega arith) (k .ensures .0) (k .ensures .1 .0) (l .inv .2),
-    k .ensures .1 .1 ∙ l .inv .3)
+    let a = c .before .before .before .before .before .before .before .before .before .before .before .before .before .before .before .before .before .before .args in let l = c .before .before .before .before .before .before .before .before .loop in let k = c .before .before .before .before .halved in (
+      k .kept .1 .1 .1 .1 .1 .1 .1 .0 ∙ l .inv .0,
+      k .kept .1 .1 .1 .1 .1 .1 .1 .1 .0 ∙ l .inv .1,
+      halving-step (tableBy (a .q) (a .heights .now) (a .bounds .now) (a .radices .now) (a .ys .now) (a .colours .now)) (a .caps .now) (l .caps) (k .last .1 .1 .1 .1 .1 .1 .1 .0) (a .least) (a .site) (l .steps) (length (a .heights .now) - 1) (l .range) (k .result) (omega arith) (k .ensures .0) (k .ensures .1 .0) (l .inv .2),
+      k .ensures .1 .1 ∙ l .inv .3,
+    )
 
 -- src/lib.rt:130:18
 add-caps : tie.Need-add-caps Inv-loop μ-loop
@@ -87,9 +89,10 @@ same-length-2 c =
 -- src/lib.rt:105:1
 returns : tie.Need-returns Inv-loop μ-loop
 returns c =
-    let a = c .before .before .before .before .before .before .before .before .before .before .before .before .args in let l = c .before .before .loop in
-    (halving-end (tableBy (a .q) (a .heights .now) (a .bounds .now) (a .radices .now) (a .ys .now) (a .colours .now)) (a .caps .now) (l .caps) (a .least) (a .site) (l .steps) (length (a .heights .now) - 1) (l .range) (omega arith) (l .inv .2),
-    ((λ low. rw (l .inv .2 .others (l .range .low + 1)) (low-set (a .caps .now) (a .site) (l .range .low + 1) (c .before .before .before .before .before .before .before .before .before .before .before .before .pre .1 .1) (omega (arith, l .inv .2 .low)) low)), l .inv .3))
+    let a = c .before .before .before .before .before .before .before .before .before .before .before .before .args in let l = c .before .before .loop in (
+      halving-end (tableBy (a .q) (a .heights .now) (a .bounds .now) (a .radices .now) (a .ys .now) (a .colours .now)) (a .caps .now) (l .caps) (a .least) (a .site) (l .steps) (length (a .heights .now) - 1) (l .range) (omega arith) (l .inv .2),
+      ((λ low. rw (l .inv .2 .others (l .range .low + 1)) (low-set (a .caps .now) (a .site) (l .range .low + 1) (c .before .before .before .before .before .before .before .before .before .before .before .before .pre .1 .1) (omega (arith, l .inv .2 .low)) low)), l .inv .3),
+    )
 
 pub cap-site-spec : {M : Type 1} → statement M
 cap-site-spec =

@@ -45,9 +45,10 @@ same-length-2 c = search needs
 -- src/lib.rt:99:9
 returns-2 : tie.Need-returns-2
 returns-2 c =
-    let a = c .before .before .before .before .before .before .before .before .before .before .before .before .before .before .before .before .before .args in let k = c .before .before .before .before .before .keeps-cost in
-    (half-lower (keepsCost (tableBy (a .q) (a .heights .now) (a .bounds .now) (a .radices .now) (a .ys .now) (a .colours .now)) (a .caps .now) (a .least) (a .site)) (a .range) (c .before .before .before .before .before .before .before .before .if1 .left) (sym (k .ensures .0) ∙ c .if2 .taken),
-    ((λ p. rw (k .ensures .1 .0) (set-set (a .caps .now) (a .site) _ p)), k .ensures .1 .1))
+    let a = c .before .before .before .before .before .before .before .before .before .before .before .before .before .before .before .before .before .args in let k = c .before .before .before .before .before .keeps-cost in (
+      half-lower (keepsCost (tableBy (a .q) (a .heights .now) (a .bounds .now) (a .radices .now) (a .ys .now) (a .colours .now)) (a .caps .now) (a .least) (a .site)) (a .range) (c .before .before .before .before .before .before .before .before .if1 .left) (sym (k .ensures .0) ∙ c .if2 .taken),
+      ((λ p. rw (k .ensures .1 .0) (set-set (a .caps .now) (a .site) _ p)), k .ensures .1 .1),
+    )
 
 -- src/lib.rt:101:18
 add-t17 : tie.Need-add-t17
@@ -64,9 +65,10 @@ same-length-4 c = search needs
 -- src/lib.rt:72:1
 returns-3 : tie.Need-returns-3
 returns-3 c =
-    let a = c .before .before .before .before .before .before .before .before .before .before .before .before .before .before .before .before .before .args in let k = c .before .before .before .before .before .keeps-cost in
-    (half-upper (keepsCost (tableBy (a .q) (a .heights .now) (a .bounds .now) (a .radices .now) (a .ys .now) (a .colours .now)) (a .caps .now) (a .least) (a .site)) (a .range) (c .before .before .before .before .before .before .before .before .if1 .left) (sym (k .ensures .0) ∙ c .if2 .left),
-    ((λ p. rw (k .ensures .1 .0) (set-set (a .caps .now) (a .site) _ p)), k .ensures .1 .1))
+    let a = c .before .before .before .before .before .before .before .before .before .before .before .before .before .before .before .before .before .args in let k = c .before .before .before .before .before .keeps-cost in (
+      half-upper (keepsCost (tableBy (a .q) (a .heights .now) (a .bounds .now) (a .radices .now) (a .ys .now) (a .colours .now)) (a .caps .now) (a .least) (a .site)) (a .range) (c .before .before .before .before .before .before .before .before .if1 .left) (sym (k .ensures .0) ∙ c .if2 .left),
+      ((λ p. rw (k .ensures .1 .0) (set-set (a .caps .now) (a .site) _ p)), k .ensures .1 .1),
+    )
 
 pub halved-spec : {M : Type 1} → statement M
 halved-spec =

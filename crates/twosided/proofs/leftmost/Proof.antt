@@ -59,9 +59,11 @@ loop-less c = search needs
 -- src/lib.rt:37:5
 loop-again : tie.Need-loop-again Inv-loop μ-loop
 loop-again c =
-    let a = c .before .before .before .before .before .before .before .before .args in let l = c .before .before .before .before .before .loop in
-    (omega arith, leftmost-more (length (a .caps .now)) (a .ranks .now) (a .caps .now) (l .c) (l .best) (c .leftmost-after .result) (l .inv .1)
-    (rw (c .before .before .before .get .ensures, c .before .before .get2 .ensures, c .before .get3 .ensures) at (c .leftmost-after .ensures)))
+    let a = c .before .before .before .before .before .before .before .before .args in let l = c .before .before .before .before .before .loop in (
+      omega arith,
+      leftmost-more (length (a .caps .now)) (a .ranks .now) (a .caps .now) (l .c) (l .best) (c .leftmost-after .result) (l .inv .1)
+          (rw (c .before .before .before .get .ensures, c .before .before .get2 .ensures, c .before .get3 .ensures) at (c .leftmost-after .ensures)),
+    )
 
 -- src/lib.rt:30:1
 returns : tie.Need-returns Inv-loop μ-loop

@@ -74,11 +74,13 @@ loop-less c = search needs
 loop-again : tie.Need-loop-again Inv-loop μ-loop
 loop-again c =
     let a = c .before .before .before .before .before .before .args in let l = c .before .before .before .loop in
-    let r = wordsBy (a .head) (a .caps .now) in
-    (length-set (l .out) (l .i + 1) (2415919104 + c .monus .result) ∙ l .inv .0, omega arith,
-    ap (λ (w : List ℕ). set w (l .i + 1) (2415919104 + c .monus .result)) (l .inv .2) ∙
-    front-more (set (a .out .now) 0 (a .head)) r (l .i + 1) (2415919104 + c .monus .result) (omega (arith, length-set (a .out .now) 0 (a .head), c .before .before .before .before .before .before .pre)) (omega (arith, words-long (a .head) (a .caps .now)))
-    (ap (λ (z : ℕ). 2415919104 + z) (c .monus .ensures) ∙ sym (word-at (a .head) (a .caps .now) (l .i) (c .before .before .loop-test .taken))))
+    let r = wordsBy (a .head) (a .caps .now) in (
+      length-set (l .out) (l .i + 1) (2415919104 + c .monus .result) ∙ l .inv .0,
+      omega arith,
+      ap (λ (w : List ℕ). set w (l .i + 1) (2415919104 + c .monus .result)) (l .inv .2) ∙
+          front-more (set (a .out .now) 0 (a .head)) r (l .i + 1) (2415919104 + c .monus .result) (omega (arith, length-set (a .out .now) 0 (a .head), c .before .before .before .before .before .before .pre)) (omega (arith, words-long (a .head) (a .caps .now)))
+          (ap (λ (z : ℕ). 2415919104 + z) (c .monus .ensures) ∙ sym (word-at (a .head) (a .caps .now) (l .i) (c .before .before .loop-test .taken))),
+    )
 
 -- src/lib.rt:176:1
 same-length : tie.Need-same-length Inv-loop μ-loop
