@@ -1,0 +1,155 @@
+// The one-sided walk: ties the sites one after the other by rising rank, each to the lowest slot that keeps the least cost.
+ghost use mathlib.Core.Path.{_≡_};
+ghost use mathlib.Core.Bool.{Bool, true, false, cond};
+ghost use mathlib.Core.List.{List};
+ghost use Prim.Native.Nat.{ℕ, suc, _+_, _-_, _*_, _<_, _≤_, min};
+ghost use lib.Dec.{eqb};
+ghost use lib.ListN.{length, getD};
+ghost use Rattle.search.specs.Cost.{plus, least};
+ghost use Rattle.search.specs.Share.{just};
+ghost use Rattle.optimum.specs.OneSided.{topWord};
+ghost use Rattle.optimum.specs.Cells.{build};
+ghost use Rattle.walk.specs.Rest.{shareRow, rowOf, levelSize, StripIn, LevelIn, joinRow, foldRows, restRows};
+use arrays::Measures;
+
+// The lesser of a cost and, if the share may be taken, the sum of two.
+fn lesser_if(best: u32, may: bool, a: u32, b: u32) -> u32
+    ensures { λ r. ⌜ r ≡ min best (cond may (plus topWord a b) topWord) ⌝ }
+{
+    if may {
+        return words::lesser(best, words::plus_of(a, b));
+    }
+    best
+}
+
+// The least cost at the budget v of all shares w that the mask lets acc take.
+fn share_row(mask: u64, acc: &[u32], work: &[u32], row: usize, v: usize) -> u32
+    requires { ⌜ (v < length (now acc)) × (row + v < length (now work)) × (v < 64) ⌝ }
+    ensures { λ r. ⌜ r ≡ least topWord (suc v) (shareRow mask (now (acc .entry)) (now (work .entry)) row v) ⌝ }
+{
+    let mut best = words::NONE;
+    let mut bits = mask;
+    let mut w: usize = 0;
+    while w <= v {
+        let at = row + (v - w);
+        best = lesser_if(best, bits % 2 == 1, acc[w], work[at]);
+        bits = bits / 2;
+        w += 1;
+    }
+    best
+}
+
+// One strip more takes its share, from the highest budget down: what a lower one needs is still there.
+fn join_row(masks: &[u64], acc: &mut [u32], work: &[u32], row: usize)
+    requires { ⌜ (length (now acc) ≤ 64) × (length (now acc) ≤ length (now masks)) × (row + length (now acc) ≤ length (now work)) ⌝ }
+    ensures { λ _. ⌜ now (acc .exit) ≡ joinRow (now (masks .entry)) (now (acc .entry)) (now (work .entry)) row ⌝ }
+{
+    let mut v = acc.len();
+    while v > 0 {
+        v -= 1;
+        acc[v] = share_row(masks[v], acc, work, row, v);
+    }
+}
+
+// Where the entries of a strip begin in its level, of m slots.
+fn row_of(q: Measures, m: usize, a: u32, ca: u32, b: u32, cb: u32) -> usize
+    requires { ⌜ StripIn m (q .colours) (q .budgets) a ca b cb ⌝ }
+    ensures { λ r. ⌜ r ≡ rowOf m (q .colours) (q .budgets) a ca b cb ⌝ }
+{
+    let c = q.colours as usize + 1;
+    let r = q.budgets as usize;
+    let h = m + 2;
+    let up = a as usize * c + ca as usize;
+    let down = up * h + b as usize;
+    (down * c + cb as usize) * r
+}
+
+// The strip from the label a to the slot before the place b takes its share, if that slot has a label.
+fn fold_at(
+    masks: &[u64],
+    work: &[u32],
+    base: usize,
+    q: Measures,
+    m: usize,
+    a: u32,
+    ca: u32,
+    b: u32,
+    cb: u32,
+    acc: &mut [u32],
+)
+    requires { ⌜ StripIn m (q .colours) (q .budgets) a ca b cb ⌝ }
+    requires { ⌜ (length (now acc) ≡ q .budgets) × (q .budgets ≤ length (now masks)) × (base + levelSize m (q .colours) (q .budgets) ≤ length (now work)) ⌝ }
+    ensures { λ _. ⌜ now (acc .exit) ≡ cond (eqb cb 0) (now (acc .entry)) (joinRow (now (masks .entry)) (now (acc .entry)) (now (work .entry)) (base + rowOf m (q .colours) (q .budgets) a ca b cb)) ⌝ }
+{
+    if cb == 0 {
+        return;
+    }
+    let row = base + row_of(q, m, a, ca, b, cb);
+    join_row(masks, acc, work, row);
+}
+
+// All strips of the open labels take their shares, by rising slot.
+fn fold_rows(masks: &[u64], work: &[u32], base: usize, q: Measures, labels: &[u32], acc: &mut [u32])
+    requires { ⌜ LevelIn (now masks) (now work) base (q .colours) (q .budgets) (now labels) ⌝ }
+    requires { ⌜ length (now acc) ≡ q .budgets ⌝ }
+    ensures { λ _. ⌜ now (acc .exit) ≡ foldRows (now (masks .entry)) (now (work .entry)) base (length (now (labels .entry))) (q .colours) (q .budgets) (length (now (labels .entry))) 0 0 0 (now (labels .entry)) (now (acc .entry)) ⌝ }
+{
+    let m = labels.len();
+    let mut a: u32 = 0;
+    let mut ca: u32 = 0;
+    let mut i: usize = 0;
+    while i < m {
+        let e = labels[i];
+        let b = i as u32 + 1;
+        fold_at(masks, work, base, q, m, a, ca, b, e, acc);
+        let none = e == 0;
+        a = words::choose(none, a, b);
+        ca = words::choose(none, ca, e);
+        i += 1;
+    }
+    let end = m as u32 + 1;
+    let row = base + row_of(q, m, a, ca, end, 0);
+    join_row(masks, acc, work, row);
+}
+
+// A row that takes nothing and costs nothing.
+fn start_row(acc: &mut [u32])
+    ensures { λ _. ⌜ now (acc .exit) ≡ build (length (now (acc .entry))) (just topWord 0 0) ⌝ }
+{
+    let mut i: usize = 0;
+    while i < acc.len() {
+        acc[i] = words::choose(i == 0, 0, words::NONE);
+        i += 1;
+    }
+}
+
+// REST by way of a row for all budgets, whatever it held.
+fn rest_in(
+    masks: &[u64],
+    work: &[u32],
+    base: usize,
+    q: Measures,
+    labels: &[u32],
+    v: u32,
+    acc: &mut [u32],
+) -> u32
+    requires { ⌜ LevelIn (now masks) (now work) base (q .colours) (q .budgets) (now labels) ⌝ }
+    requires { ⌜ (length (now acc) ≡ q .budgets) × (v < q .budgets) ⌝ }
+    ensures { λ r. ⌜ r ≡ restRows (now (masks .entry)) (now (work .entry)) base (length (now (labels .entry))) (q .colours) (q .budgets) (now (labels .entry)) v ⌝ }
+{
+    start_row(acc);
+    fold_rows(masks, work, base, q, labels, acc);
+    let at = v as usize;
+    acc[at]
+}
+
+// REST: the least cost of tying the sites of a level in the strips of the open labels, which share the budget v.
+pub fn rest_of(masks: &[u64], work: &[u32], base: usize, q: Measures, labels: &[u32], v: u32) -> u32
+    requires { ⌜ LevelIn (now masks) (now work) base (q .colours) (q .budgets) (now labels) ⌝ }
+    requires { ⌜ v < q .budgets ⌝ }
+    ensures { λ r. ⌜ r ≡ restRows (now (masks .entry)) (now (work .entry)) base (length (now (labels .entry))) (q .colours) (q .budgets) (now (labels .entry)) v ⌝ }
+{
+    let r = q.budgets as usize;
+    let mut acc = [0u32; 64];
+    rest_in(masks, work, base, q, labels, v, &mut acc[..r])
+}
