@@ -21,19 +21,10 @@ use Rattle.lists.proofs.Tests.{or-l, or-r, is-false}
 use Rattle.labelling.proofs.Members.{used-head, used-tail}
 use Rattle.sheet.proofs.Accepted.{Sound, sound}
 use Rattle.optimum.proofs.StripsHeld.{set-same, set-other}
-use Rattle.optimum.specs.OneSided.{topWord, order, scatter}
+use Rattle.optimum.specs.OneSided.{topWord, order, scatter, tieWord, writeTies}
 use Rattle.optimum.proofs.OneSidedAnswer.{countIn, lengthIn, firstCell, slotsWalked, walk-long, call-made}
 use Rattle.optimum.proofs.Order.{Rise, Ordered, ordered}
 use Rattle.optimum.proofs.Join.{putBack}
-
--- a tie as a word; the ties written in turn, the tie of site i to place i + 1 of the area
-abbrev pub tieWord : ℕ → ℕ
-tieWord k = 9 * 268435456 + k
-
-unfoldable pub writeTies : (out is ks : List ℕ) → List ℕ
-writeTies out [] ks = out
-writeTies out (i ∷ is) [] = out
-writeTies out (i ∷ is) (k ∷ ks) = writeTies (set out (suc i) (tieWord k)) is ks
 
 list-ext : (l k : List ℕ) → length l ≡ length k → ((i : ℕ) → i < length l → getD l i 0 ≡ getD k i 0) → l ≡ k
 list-ext [] [] e h = refl

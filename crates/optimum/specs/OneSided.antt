@@ -121,6 +121,15 @@ scatter out [] ks = out
 scatter out (i ∷ is) [] = out
 scatter out (i ∷ is) (k ∷ ks) = scatter (set out i k) is ks
 
+-- a tie as a word; the ties written in turn, that of site i to place i + 1 of the area
+abbrev pub tieWord : ℕ → ℕ
+tieWord k = 9 * 268435456 + k
+
+unfoldable pub writeTies : (out is ks : List ℕ) → List ℕ
+writeTies out [] ks = out
+writeTies out (i ∷ is) [] = out
+writeTies out (i ∷ is) (k ∷ ks) = writeTies (set out (suc i) (tieWord k)) is ks
+
 abbrev pub tiesOf : Sheet → Option (List ℕ) → Option (List ℕ)
 tiesOf s none = none
 tiesOf s (some ks) = some (scatter (replicate (length (s .sites)) 0) (order s) ks)
