@@ -1,4 +1,4 @@
--- The left end of a used slot; the colours of an accepted sheet's sites; the examples in full.
+-- The left end of a used slot; the examples in full.
 -- Assumes nothing.
 use mathlib.Core.Path.{_≡_, refl, sym, _∙_, ap, ap₂, subst, subst⁻¹}
 use mathlib.Core.Logic.{_⊎_, inl, inr}
@@ -15,7 +15,7 @@ use Rattle.labelling.specs.Entry.{makeFault, makeAnswer, makeWork}
 use Rattle.labelling.specs.Promise.{sheetA, a, boundZero}
 use Rattle.lists.proofs.Tests.{clash, by-test, and-l, and-r, and-i, or-e, or-l, or-r, is-false, is-true, not-f, tests, eqb-self}
 use Rattle.labelling.proofs.Members.{noSite, all-at, at-used, leastX-width, leastX-le, leastX-is}
-use Rattle.sheet.proofs.Accepted.{Sound, Unrefused, unrefused, Step, step}
+use Rattle.sheet.proofs.Accepted.{Sound}
 use Rattle.labelling.proofs.Earlier.{xAt}
 
 -- THE LEFT END of a used slot, one-sided: its leftmost site's x
@@ -48,31 +48,6 @@ left-end s o js l t k u = subst⁻¹ (λ (b : Bool). LeftEnd s js k (cond b 0 (l
           there = omega (arith, ltb-false e (s .width) p, low i (omega arith) q, leb-true (xAt s i) (s .width) (all-at (insideBy (s .width)) noSite (s .sites) (o .inside) i (omega arith)));
           least = low;
         }
-
--- COLOURS of sites
-abbrev pub colourLow : (count : ℕ) → Site → Bool
-colourLow c s = ltb (s .colour) c
-
-coloured : (z c : ℕ) (ws : List ℕ) → inOrder z ws ≡ true → (z ≡ 1 → 0 < c) → all (colourLow (c + length (coloursIn ws))) (sitesIn c ws) ≡ true
-unfolding inOrder all coloursIn sitesIn
-coloured z c [] h f = refl
-coloured z c (w ∷ ws) h f = go (step z w ws h .1) (λ y d i g. coloured y d ws i g)
-  where
-    go : Step z w ws → ((y d : ℕ) → inOrder y ws ≡ true → (y ≡ 1 → 0 < d) → all (colourLow (d + length (coloursIn ws))) (sitesIn d ws) ≡ true) →
-        all (colourLow (c + length (coloursIn (w ∷ ws)))) (sitesIn c (w ∷ ws)) ≡ true
-    go (Step.slot e q i) ih =
-        rw (ne-eqb (kindOf w) 3 (λ q. omega arith), ne-eqb (kindOf w) 4 (λ q. omega arith)) (ih 0 c i λ q. absurd (omega arith))
-    go (Step.colour e i) ih =
-        rw (eq-eqb (kindOf w) 3 e)
-        (subst (λ (n : ℕ). all (colourLow n) (sitesIn (suc c) ws) ≡ true) (omega arith) (ih 1 (suc c) i λ q. omega arith))
-    go (Step.site e q i) ih =
-        rw (ne-eqb (kindOf w) 3 (λ q. omega arith), eq-eqb (kindOf w) 4 e)
-        (and-i (lt-ltb (c - 1) (c + length (coloursIn ws)) (omega (arith, f q))) (ih 1 c i λ r. f q))
-
-pub sites-coloured : (ws : List ℕ) → sheetFault ws ≡ 0 → all (colourLow (length (sheetIn ws .colours))) (sheetIn ws .sites) ≡ true
-sites-coloured ws h =
-    subst (λ (n : ℕ). all (colourLow n) (sitesIn 0 (drop 1 ws)) ≡ true) (omega arith)
-    (coloured 0 0 (drop 1 ws) (unrefused ws h .order) λ q. absurd (omega arith))
 
 -- THE STARRED EXAMPLES, as calls: with 900 work words (or 12) and 4 answer words (or 1)
 abbrev pub MoreExamples : Type 0
