@@ -1,1 +1,2 @@
 mod Rows
+mod Value
