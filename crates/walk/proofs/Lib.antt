@@ -1,2 +1,4 @@
 mod Rows
 mod Value
+mod Holding
+mod Prices

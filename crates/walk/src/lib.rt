@@ -10,7 +10,16 @@ ghost use Rattle.search.specs.Share.{just};
 ghost use Rattle.optimum.specs.OneSided.{topWord};
 ghost use Rattle.optimum.specs.Cells.{build};
 ghost use Rattle.walk.specs.Rest.{shareRow, rowOf, levelSize, StripIn, LevelIn, joinRow, foldRows, restRows};
+ghost use Prim.Native.Nat.{_/_, _%_};
+ghost use lib.ListN.{replicate, set};
+ghost use Rattle.optimum.specs.Strips as model;
+ghost use Rattle.arrays.specs.Arrays.{instanceBy};
+ghost use Rattle.arrays.specs.declared.Measures as measured;
+ghost use Rattle.strips.specs.Strips.{stripOf, pointOf, Small};
+ghost use Rattle.walk.specs.Rest.{bitOf};
+ghost use Rattle.walk.specs.Walk.{priceIn, labelled, budgetLeft, keepsCost, SheetArrays, SiteIn};
 use arrays::Measures;
+use strips::{Site, Strip};
 
 // The lesser of a cost and, if the share may be taken, the sum of two.
 fn lesser_if(best: u32, may: bool, a: u32, b: u32) -> u32
@@ -152,4 +161,78 @@ pub fn rest_of(masks: &[u64], work: &[u32], base: usize, q: Measures, labels: &[
     let r = q.budgets as usize;
     let mut acc = [0u32; 64];
     rest_in(masks, work, base, q, labels, v, &mut acc[..r])
+}
+
+// The strip that holds the height y.
+fn hold_of(heights: &[u32], labels: &[u32], y: u32) -> Strip
+    requires { ⌜ (length (now labels) ≡ length (now heights)) × (length (now heights) ≤ 48) ⌝ }
+    ensures { λ r. ⌜ ((q : measured.Measures) (bs rs ds : List ℕ) → stripOf r ≡ model.hold (instanceBy q (now (heights .entry)) bs rs ds) (now (labels .entry)) (replicate (suc (length (now (heights .entry)))) 0) y) ⌝ }
+{
+    let m = labels.len();
+    let mut a: u32 = 0;
+    let mut ca: u32 = 0;
+    let mut i: usize = 0;
+    while i < m {
+        let e = labels[i];
+        let none = e == 0;
+        let b = i as u32 + 1;
+        if words::both(!none, y < heights[i]) {
+            return Strip { a: a, ca: ca, b: b, cb: e };
+        }
+        a = words::choose(none, a, b);
+        ca = words::choose(none, ca, e);
+        i += 1;
+    }
+    let end = m as u32 + 1;
+    Strip { a: a, ca: ca, b: end, cb: 0 }
+}
+
+// A mask lets the share w be taken.
+fn may_take(mask: u64, w: u32) -> bool
+    requires { ⌜ w < 64 ⌝ }
+    ensures { λ r. ⌜ r ≡ bitOf mask w ⌝ }
+{
+    (mask >> w) % 2 == 1
+}
+
+// What it takes from the budget to tie the site to slot k.
+fn draw_of(q: Measures, heights: &[u32], bounds: &[u32], radices: &[u32], draws: &[u32], p: Strip, s: Site, k: u32) -> u32
+    requires { ⌜ Small (now bounds) (s .c) k ⌝ }
+    requires { ⌜ s .c < length (now draws) ⌝ }
+    ensures { λ r. ⌜ r ≡ model.draw (instanceBy q (now (heights .entry)) (now (bounds .entry)) (now (radices .entry)) (now (draws .entry))) (stripOf p) (pointOf s) k ⌝ }
+{
+    if strips::opens(q, heights, bounds, p, s, k) {
+        let c = s.c as usize;
+        return draws[c];
+    }
+    0
+}
+
+// What it costs to tie the site to slot k with the budget v, NONE if that is not lawful.
+fn price_of(masks: &[u64], q: Measures, heights: &[u32], bounds: &[u32], radices: &[u32], draws: &[u32], p: Strip, s: Site, v: u32, k: u32) -> u32
+    requires { ⌜ SheetArrays q (now heights) (now bounds) (now radices) (now draws) (now masks) ⌝ }
+    requires { ⌜ SiteIn q (pointOf s) × (v < q .budgets) × (k < 48) ⌝ }
+    ensures { λ r. ⌜ r ≡ priceIn (instanceBy q (now (heights .entry)) (now (bounds .entry)) (now (radices .entry)) (now (draws .entry))) (stripOf p) (pointOf s) v k ⌝ }
+{
+    let d = draw_of(q, heights, bounds, radices, draws, p, s, k);
+    let at = v as usize;
+    if may_take(masks[at], d) {
+        return strips::step_cost(q, heights, bounds, p, s, k);
+    }
+    words::NONE
+}
+
+// REST where slot k has a label of colour c - 1 besides.
+fn rest_after(masks: &[u64], work: &[u32], base: usize, q: Measures, labels: &mut [u32], k: u32, c: u32, v: u32) -> u32
+    requires { ⌜ LevelIn (now masks) (now work) base (q .colours) (q .budgets) (now labels) ⌝ }
+    requires { ⌜ (k < length (now labels)) × (c < q .colours + 1) × (v < q .budgets) ⌝ }
+    ensures { λ r. ⌜ r ≡ restRows (now (masks .entry)) (now (work .entry)) base (length (now (labels .entry))) (q .colours) (q .budgets) (set (now (labels .entry)) k c) v ⌝ }
+    ensures { λ r. ⌜ now (labels .exit) ≡ now (labels .entry) ⌝ }
+{
+    let at = k as usize;
+    let old = labels[at];
+    labels[at] = c;
+    let r = rest_of(masks, work, base, q, labels, v);
+    labels[at] = old;
+    r
 }
