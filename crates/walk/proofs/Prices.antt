@@ -9,7 +9,10 @@ use lib.Dec.{eqb}
 use lib.ListN.{length, getD, set, length-set}
 use lib.Seq.{getD-set-same, getD-set-other}
 use Rattle.lists.proofs.Tests.{by-test, by-equal}
+use borrow.Author.Tests.{ne-eqb}
+use Rattle.search.specs.Cost.{plus, first}
 use Rattle.search.specs.Radix.{below}
+use Rattle.optimum.proofs.Loops.{first-at, first-none}
 use Rattle.arrays.specs.declared.Measures.{Measures}
 use Rattle.arrays.specs.Arrays.{instanceBy}
 use Rattle.optimum.specs.Strips.{Point, Strip, Instance, opens, cost, draw}
@@ -60,3 +63,25 @@ level-set masks work base C R L k c i l h =
       within = rw (length-set L k c) (i .within);
       coloured = λ j. by-equal j k (λ e. rw (e, getD-set-same L k c 0 l) h) (λ e. rw (getD-set-other L k j c 0 e) (i .coloured j));
     }
+
+-- a step that is not lawful keeps no cost below none
+pub never-keeps : (c z here : ℕ) → c ≡ topWord → here < topWord → eqb (plus topWord c z) here ≡ false
+unfolding plus
+never-keeps c z here e l = ne-eqb _ _ (λ (h : plus topWord c z ≡ here). omega arith)
+
+-- the slot that the loop finds
+pub record Tried (t : ℕ → Bool) (m k : ℕ) : Type 0 where
+  pub within : k ≤ m
+  pub none : (j : ℕ) → j < k → t j ≡ false
+
+pub tried-none : (t : ℕ → Bool) (m : ℕ) → Tried t m 0
+tried-none t m = record { within = omega arith; none = λ j h. absurd (omega arith) }
+
+pub tried-more : (t : ℕ → Bool) (m k : ℕ) → Tried t m k → k < m → t k ≡ false → Tried t m (k + 1)
+tried-more t m k r l e = record { within = omega arith; none = λ j h. by-equal j k (λ q. ap t q ∙ e) (λ q. r .none j (omega arith)) }
+
+pub tried-found : (t : ℕ → Bool) (m k : ℕ) → Tried t m k → k < m → t k ≡ true → k ≡ first m t
+tried-found t m k r l e = sym (first-at m t k l (r .none) e)
+
+pub tried-all : (t : ℕ → Bool) (m k : ℕ) → Tried t m k → m ≤ k → k ≡ first m t
+tried-all t m k r l = let z : k ≡ m = omega (arith, r .within) in z ∙ sym (first-none m t (λ j h. r .none j (omega arith)))

@@ -5,7 +5,7 @@ ghost use mathlib.Core.List.{List};
 ghost use Prim.Native.Nat.{ℕ, suc, _+_, _-_, _*_, _<_, _≤_, min};
 ghost use lib.Dec.{eqb};
 ghost use lib.ListN.{length, getD};
-ghost use Rattle.search.specs.Cost.{plus, least};
+ghost use Rattle.search.specs.Cost.{plus, least, first};
 ghost use Rattle.search.specs.Share.{just};
 ghost use Rattle.optimum.specs.OneSided.{topWord};
 ghost use Rattle.optimum.specs.Cells.{build};
@@ -20,6 +20,12 @@ ghost use Rattle.walk.specs.Rest.{bitOf};
 ghost use Rattle.walk.specs.Walk.{priceIn, labelled, budgetLeft, keepsCost, SheetArrays, SiteIn};
 use arrays::Measures;
 use strips::{Site, Strip};
+
+// What is left for the sites that are not tied yet: the budget, and what they are to cost.
+pub struct Left {
+    pub budget: u32,
+    pub cost: u32,
+}
 
 // The lesser of a cost and, if the share may be taken, the sum of two.
 fn lesser_if(best: u32, may: bool, a: u32, b: u32) -> u32
@@ -235,4 +241,52 @@ fn rest_after(masks: &[u64], work: &[u32], base: usize, q: Measures, labels: &mu
     let r = rest_of(masks, work, base, q, labels, v);
     labels[at] = old;
     r
+}
+
+// Slot k keeps the least cost. A step that is not lawful keeps none, so REST is not asked for.
+fn keeps_cost(masks: &[u64], work: &[u32], base: usize, q: Measures, heights: &[u32], bounds: &[u32], radices: &[u32], draws: &[u32], labels: &mut [u32], p: Strip, s: Site, left: Left, k: u32) -> bool
+    requires { ⌜ SheetArrays q (now heights) (now bounds) (now radices) (now draws) (now masks) ⌝ }
+    requires { ⌜ LevelIn (now masks) (now work) base (q .colours) (q .budgets) (now labels) ⌝ }
+    requires { ⌜ SiteIn q (pointOf s) × (left .budget < q .budgets) × (left .cost < topWord) × (length (now labels) ≡ length (now heights)) × (k < length (now heights)) ⌝ }
+    ensures { λ r. ⌜ r ≡ keepsCost (instanceBy q (now (heights .entry)) (now (bounds .entry)) (now (radices .entry)) (now (draws .entry))) (now (masks .entry)) (now (work .entry)) base (q .colours) (q .budgets) (stripOf p) (pointOf s) (now (labels .entry)) (left .budget) (left .cost) k ⌝ }
+    ensures { λ r. ⌜ now (labels .exit) ≡ now (labels .entry) ⌝ }
+{
+    let price = price_of(masks, q, heights, bounds, radices, draws, p, s, left.budget, k);
+    if price == words::NONE {
+        return false;
+    }
+    let v = words::monus(left.budget, draw_of(q, heights, bounds, radices, draws, p, s, k));
+    let rest = rest_after(masks, work, base, q, labels, k, s.c + 1, v);
+    words::same(words::plus_of(price, rest), left.cost)
+}
+
+// The lowest slot that keeps the least cost.
+fn choose_slot(masks: &[u64], work: &[u32], base: usize, q: Measures, heights: &[u32], bounds: &[u32], radices: &[u32], draws: &[u32], labels: &mut [u32], p: Strip, s: Site, left: Left) -> u32
+    requires { ⌜ SheetArrays q (now heights) (now bounds) (now radices) (now draws) (now masks) ⌝ }
+    requires { ⌜ LevelIn (now masks) (now work) base (q .colours) (q .budgets) (now labels) ⌝ }
+    requires { ⌜ SiteIn q (pointOf s) × (left .budget < q .budgets) × (left .cost < topWord) × (length (now labels) ≡ length (now heights)) ⌝ }
+    ensures { λ r. ⌜ r ≡ first (length (now (heights .entry))) (keepsCost (instanceBy q (now (heights .entry)) (now (bounds .entry)) (now (radices .entry)) (now (draws .entry))) (now (masks .entry)) (now (work .entry)) base (q .colours) (q .budgets) (stripOf p) (pointOf s) (now (labels .entry)) (left .budget) (left .cost)) ⌝ }
+    ensures { λ r. ⌜ now (labels .exit) ≡ now (labels .entry) ⌝ }
+{
+    let m = heights.len() as u32;
+    let mut k: u32 = 0;
+    while k < m {
+        if keeps_cost(masks, work, base, q, heights, bounds, radices, draws, labels, p, s, left, k) {
+            return k;
+        }
+        k += 1;
+    }
+    k
+}
+
+// What is left after the step.
+fn left_after(masks: &[u64], q: Measures, heights: &[u32], bounds: &[u32], radices: &[u32], draws: &[u32], p: Strip, s: Site, left: Left, k: u32) -> Left
+    requires { ⌜ SheetArrays q (now heights) (now bounds) (now radices) (now draws) (now masks) ⌝ }
+    requires { ⌜ SiteIn q (pointOf s) × (left .budget < q .budgets) × (k < 48) ⌝ }
+    ensures { λ r. ⌜ r .budget ≡ budgetLeft (instanceBy q (now (heights .entry)) (now (bounds .entry)) (now (radices .entry)) (now (draws .entry))) (stripOf p) (pointOf s) (left .budget) k ⌝ }
+    ensures { λ r. ⌜ r .cost ≡ left .cost - priceIn (instanceBy q (now (heights .entry)) (now (bounds .entry)) (now (radices .entry)) (now (draws .entry))) (stripOf p) (pointOf s) (left .budget) k ⌝ }
+{
+    let v = words::monus(left.budget, draw_of(q, heights, bounds, radices, draws, p, s, k));
+    let here = words::monus(left.cost, price_of(masks, q, heights, bounds, radices, draws, p, s, left.budget, k));
+    Left { budget: v, cost: here }
 }
