@@ -1,4 +1,5 @@
 mod Rows
-mod Value
+pub mod Value
 mod Holding
 mod Prices
+mod Tying

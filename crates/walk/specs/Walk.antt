@@ -4,11 +4,11 @@ use mathlib.Core.Bool.{Bool, true, false, cond}
 use mathlib.Core.List.{List, [], _∷_}
 use Prim.Native.Nat.{ℕ, zero, suc, _+_, _-_, _*_, _≤_, _<_}
 use lib.Dec.{eqb}
-use lib.ListN.{length, getD, set, replicate}
+use lib.ListN.{length, getD, set, drop, replicate}
 use Rattle.search.specs.Cost.{plus}
 use Rattle.search.specs.Radix.{below}
 use Rattle.search.specs.Walk.{Process, chooseBy}
-use Rattle.optimum.specs.Strips.{Point, Strip, Instance, State, cost, draw}
+use Rattle.optimum.specs.Strips.{Point, Strip, Instance, State, cost, draw, labels as process}
 use Rattle.optimum.specs.OneSided.{topWord}
 use Rattle.arrays.specs.declared.Measures.{Measures}
 use Rattle.walk.specs.Rest.{MasksOf, levelSize, restRows}
@@ -57,3 +57,25 @@ pub record SheetArrays (q : Measures) (heights bounds radices draws masks : List
 pub record SiteIn (q : Measures) (s : Point) : Type 0 where
   pub yLow : s .y < 16384
   pub colourLow : s .c < q .colours
+
+-- ---- what is asked of the lent arrays, of a table in the work area, and of the sites by rising rank
+pub record WalkArrays (q : Measures) (heights bounds radices draws masks work xs ys colours order : List ℕ) : Type 0 where
+  pub sheet : SheetArrays q heights bounds radices draws masks
+  pub xsLong : length xs ≡ length order
+  pub ysLong : length ys ≡ length order
+  pub coloursLong : length colours ≡ length order
+  pub siteIn : (i : ℕ) → i < length order → SiteIn q (record { x = getD xs i 0; y = getD ys i 0; c = getD colours i 0 })
+  pub orderLow : (i : ℕ) → i < length order → getD order i 0 < length order
+  pub whole : (length order + 1) * levelSize (length heights) (q .colours) (q .budgets) ≤ length work
+
+-- where the walk stands with the first j sites tied: the open labels, the budget v, and the least cost `here` of the sites left,
+-- which the words hold and which is not none; and every step finds its slot
+pub record Standing (P : Instance) (q : Measures) (masks work : List ℕ) (points : List Point) (labels out : List ℕ) (j v here : ℕ) : Type 0 where
+  pub tied : j ≤ length points
+  pub room : length points < length out
+  pub labelsLong : length labels ≡ P .m
+  pub coloured : (i : ℕ) → getD labels i 0 < q .colours + 1
+  pub budget : v < q .budgets
+  pub low : here < topWord
+  pub worth : here ≡ valueIn P masks work (q .colours) (q .budgets) (length points) (labels, v, replicate (suc (P .m)) 0) (drop j points)
+  pub found : Found (process P) (valueIn P masks work (q .colours) (q .budgets) (length points)) (labels, v, replicate (suc (P .m)) 0) (drop j points)
