@@ -102,6 +102,22 @@ row m C R a ca b cb i =
         let e : X ≡ suc x + (X - suc x) = omega arith in
         omega (arith, ap (λ (z : ℕ). z * B) e)
 
+-- the words of a level, factor by factor
+pub record Size (m C R : ℕ) : Type 0 where
+  pub first : (m + 2) * (C + 1) ≤ 450
+  pub second : (m + 2) * (C + 1) * (m + 2) ≤ 22500
+  pub third : (m + 2) * (C + 1) * (m + 2) * (C + 1) ≤ 202500
+  pub fourth : levelSize m C R ≤ 12960000
+
+pub size : (m C R : ℕ) → m ≤ 48 → C ≤ 8 → R ≤ 64 → Size m C R
+size m C R a b c =
+    let h : m + 2 ≤ 50 = omega arith in
+    let k : C + 1 ≤ 9 = omega arith in
+    let f₁ = mul-le-mul {n₂ = 50} {m₂ = 9} h k in
+    let f₂ = mul-le-mul {n₂ = 450} {m₂ = 50} f₁ h in
+    let f₃ = mul-le-mul {n₂ = 22500} {m₂ = 9} f₂ k in
+    record { first = f₁; second = f₂; third = f₃; fourth = mul-le-mul {n₂ = 202500} {m₂ = 64} f₃ c }
+
 -- ---- the fold over the open labels
 
 -- what is left to fold from slot i on is what was to fold at the start

@@ -3,11 +3,11 @@ use mathlib.Core.Path.{_≡_, refl, sym, ap, ap₂, _∙_, subst, subst⁻¹}
 use mathlib.Core.Bool.{Bool, true, false, cond}
 use mathlib.Core.List.{List, [], _∷_}
 use Prim.Native.Nat.{ℕ, zero, suc, _+_, _-_, _*_, _≤_, _<_}
-use native.Mathlib.Nat.{mul-le-mul-right}
+use native.Mathlib.Nat.{mul-le-mul, mul-le-mul-right}
 use native.Mathlib.Numerals.{add-one}
 use native.Mathlib.Omega.{arith}
 use lib.Dec.{eqb}
-use lib.ListN.{length, getD, set, drop, replicate, length-set, length-drop}
+use lib.ListN.{length, getD, set, drop, replicate, length-set, length-drop, drop-of-length-le}
 use lib.Seq.{drop-cons, getD-set-same, getD-set-other}
 use borrow.Author.Tests.{eqb-true}
 use Rattle.lists.proofs.Tests.{by-equal}
@@ -19,7 +19,8 @@ use Rattle.optimum.specs.Strips.{Point, Strip, Instance, State, hold, draw, pri
 use Rattle.optimum.specs.OneSided.{topWord, tieWord, writeTies}
 use Rattle.optimum.specs.Reached.{noPoint}
 use Rattle.walk.specs.Rest.{MasksOf, LevelIn, levelSize, restRows}
-use Rattle.walk.specs.Walk.{Found, valueIn, priceIn, labelled, budgetLeft, keepsCost, SheetArrays, SiteIn, WalkArrays, Standing}
+use Rattle.walk.specs.Walk.{Found, valueIn, priceIn, labelled, budgetLeft, keepsCost, SheetArrays, SiteIn, WalkArrays, Standing, tiedFrom}
+use Rattle.walk.proofs.Rows.{size, Size}
 use Rattle.walk.proofs.Value.{first-under, next-is}
 
 -- ---- the sites by their numbers
@@ -81,6 +82,11 @@ module _ (q : Measures) (hs bs rs ds masks work xs ys cs order : List ℕ) (a : 
     where
       later : j + 1 + 1 ≤ length order + 1
       later = omega arith
+
+  pub base-low : (j : ℕ) → j < length order → (j + 1) * levelSize (length hs) (q .colours) (q .budgets) ≤ 414720000
+  base-low j l =
+      let h : j + 1 ≤ 32 = omega (arith, a .fewSites) in
+      mul-le-mul {n₂ = 32} {m₂ = 12960000} h (size (length hs) (q .colours) (q .budgets) (a .sheet .fewSlots) (a .sheet .fewColours) (a .sheet .fewBudgets) .fourth)
 
   -- one step, to the slot that the loop finds
   module _ (j : ℕ) (L out : List ℕ) (v here k : ℕ) (l : j < length order) (w : Standing P q masks work points L out j v here)
@@ -163,3 +169,25 @@ module _ (q : Measures) (hs bs rs ds masks work xs ys cs order : List ℕ) (a : 
     unfolding writeTies walkBy
     written =
         rw (add-one j, add-one (getD cs j 0), add-one (getD order j 0), drop-cons order j 0 l, sites-left j l, ← chosen, next-after k) refl
+
+  -- THE STEP, as the code makes it
+  pub record Tied (j : ℕ) (L out : List ℕ) (v here : ℕ) (t : Point) (p : Strip) (k : ℕ) : Type 0 where
+    pub slotLow : k < length hs
+    pub stands : Standing P q masks work points (set L k (t .c + 1)) (set out (getD order j 0 + 1) (2415919104 + k)) (j + 1) (budgetLeft P p t v k) (here - priceIn P p t v k)
+    pub ties : tiedFrom P q masks work points order L out j v ≡ tiedFrom P q masks work points order (set L k (t .c + 1)) (set out (getD order j 0 + 1) (2415919104 + k)) (j + 1) (budgetLeft P p t v k)
+
+  pub tied : (j : ℕ) (L out : List ℕ) (v here k : ℕ) → j < length order → Standing P q masks work points L out j v here
+      → (t : Point) → t ≡ site j → (p : Strip) → p ≡ hold P L none (t .y)
+      → (base : ℕ) → base ≡ (j + 1) * levelSize (length hs) (q .colours) (q .budgets)
+      → k ≡ first (length hs) (keepsCost P masks work base (q .colours) (q .budgets) p t L v here)
+      → Tied j L out v here t p k
+  tied j L out v here k l w t e p held base eb tried =
+      subst⁻¹ (λ (z : Point). p ≡ hold P L none (z .y) → k ≡ first (length hs) (keepsCost P masks work base (q .colours) (q .budgets) p z L v here) → Tied j L out v here z p k) e
+      (λ h f. let g = subst (λ (b : ℕ). k ≡ first (length hs) (keepsCost P masks work b (q .colours) (q .budgets) p (site j) L v here)) eb f in
+      record { slotLow = slot-low j L out v here k l w p h g; stands = standing j L out v here k l w p h g; ties = written j L out v here k l w p h g })
+      held tried
+
+  -- with all sites tied nothing is written
+  pub ended : (j : ℕ) (L out : List ℕ) (v : ℕ) → j ≡ length order → out ≡ tiedFrom P q masks work points order L out j v
+  unfolding writeTies
+  ended j L out v e = rw (drop-of-length-le order {i = j} (omega arith))

@@ -7,9 +7,9 @@ use lib.Dec.{eqb}
 use lib.ListN.{length, getD, set, drop, replicate}
 use Rattle.search.specs.Cost.{plus}
 use Rattle.search.specs.Radix.{below}
-use Rattle.search.specs.Walk.{Process, chooseBy}
+use Rattle.search.specs.Walk.{Process, chooseBy, walkBy}
 use Rattle.optimum.specs.Strips.{Point, Strip, Instance, State, cost, draw, labels as process}
-use Rattle.optimum.specs.OneSided.{topWord}
+use Rattle.optimum.specs.OneSided.{topWord, writeTies}
 use Rattle.arrays.specs.declared.Measures.{Measures}
 use Rattle.walk.specs.Rest.{MasksOf, levelSize, restRows}
 
@@ -61,6 +61,7 @@ pub record SiteIn (q : Measures) (s : Point) : Type 0 where
 -- ---- what is asked of the lent arrays, of a table in the work area, and of the sites by rising rank
 pub record WalkArrays (q : Measures) (heights bounds radices draws masks work xs ys colours order : List ℕ) : Type 0 where
   pub sheet : SheetArrays q heights bounds radices draws masks
+  pub fewSites : length order ≤ 32
   pub xsLong : length xs ≡ length order
   pub ysLong : length ys ≡ length order
   pub coloursLong : length colours ≡ length order
@@ -79,3 +80,9 @@ pub record Standing (P : Instance) (q : Measures) (masks work : List ℕ) (point
   pub low : here < topWord
   pub worth : here ≡ valueIn P masks work (q .colours) (q .budgets) (length points) (labels, v, replicate (suc (P .m)) 0) (drop j points)
   pub found : Found (process P) (valueIn P masks work (q .colours) (q .budgets) (length points)) (labels, v, replicate (suc (P .m)) 0) (drop j points)
+
+-- the answer area with the ties of the walk from there on
+abbrev pub tiedFrom : (P : Instance) (q : Measures) (masks work : List ℕ) (points : List Point) (order labels out : List ℕ) (j v : ℕ) → List ℕ
+tiedFrom P q masks work points order L out j v =
+    writeTies out (drop j order)
+    (walkBy (process P) (valueIn P masks work (q .colours) (q .budgets) (length points)) (L, v, replicate (suc (P .m)) 0) (drop j points))

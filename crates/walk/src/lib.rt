@@ -11,15 +11,16 @@ ghost use Rattle.optimum.specs.OneSided.{topWord};
 ghost use Rattle.optimum.specs.Cells.{build};
 ghost use Rattle.walk.specs.Rest.{shareRow, rowOf, levelSize, StripIn, LevelIn, joinRow, foldRows, restRows};
 ghost use Prim.Native.Nat.{_/_, _%_};
-ghost use lib.ListN.{replicate, set};
+ghost use lib.ListN.{replicate, set, drop};
 ghost use Rattle.optimum.specs.Strips as model;
-ghost use Rattle.arrays.specs.Arrays.{instanceBy};
+ghost use Rattle.arrays.specs.Arrays.{instanceBy, pointsBy};
 ghost use Rattle.arrays.specs.declared.Measures as measured;
 ghost use Rattle.strips.specs.Strips.{stripOf, pointOf, Small};
 ghost use Rattle.walk.specs.Rest.{bitOf};
-ghost use Rattle.walk.specs.Walk.{priceIn, labelled, budgetLeft, keepsCost, SheetArrays, SiteIn};
+ghost use Rattle.walk.specs.Walk.{priceIn, labelled, budgetLeft, keepsCost, SheetArrays, SiteIn, WalkArrays, Standing, tiedFrom};
 use arrays::Measures;
-use strips::{Site, Strip};
+use strips::Site;
+use strips::Strip;
 
 // What is left for the sites that are not tied yet: the budget, and what they are to cost.
 pub struct Left {
@@ -183,14 +184,24 @@ fn hold_of(heights: &[u32], labels: &[u32], y: u32) -> Strip
         let none = e == 0;
         let b = i as u32 + 1;
         if words::both(!none, y < heights[i]) {
-            return Strip { a: a, ca: ca, b: b, cb: e };
+            return Strip {
+                a: a,
+                ca: ca,
+                b: b,
+                cb: e,
+            };
         }
         a = words::choose(none, a, b);
         ca = words::choose(none, ca, e);
         i += 1;
     }
     let end = m as u32 + 1;
-    Strip { a: a, ca: ca, b: end, cb: 0 }
+    Strip {
+        a: a,
+        ca: ca,
+        b: end,
+        cb: 0,
+    }
 }
 
 // A mask lets the share w be taken.
@@ -202,7 +213,16 @@ fn may_take(mask: u64, w: u32) -> bool
 }
 
 // What it takes from the budget to tie the site to slot k.
-fn draw_of(q: Measures, heights: &[u32], bounds: &[u32], radices: &[u32], draws: &[u32], p: Strip, s: Site, k: u32) -> u32
+fn draw_of(
+    q: Measures,
+    heights: &[u32],
+    bounds: &[u32],
+    radices: &[u32],
+    draws: &[u32],
+    p: Strip,
+    s: Site,
+    k: u32,
+) -> u32
     requires { ⌜ Small (now bounds) (s .c) k ⌝ }
     requires { ⌜ s .c < length (now draws) ⌝ }
     ensures { λ r. ⌜ r ≡ model.draw (instanceBy q (now (heights .entry)) (now (bounds .entry)) (now (radices .entry)) (now (draws .entry))) (stripOf p) (pointOf s) k ⌝ }
@@ -215,7 +235,18 @@ fn draw_of(q: Measures, heights: &[u32], bounds: &[u32], radices: &[u32], draws:
 }
 
 // What it costs to tie the site to slot k with the budget v, NONE if that is not lawful.
-fn price_of(masks: &[u64], q: Measures, heights: &[u32], bounds: &[u32], radices: &[u32], draws: &[u32], p: Strip, s: Site, v: u32, k: u32) -> u32
+fn price_of(
+    masks: &[u64],
+    q: Measures,
+    heights: &[u32],
+    bounds: &[u32],
+    radices: &[u32],
+    draws: &[u32],
+    p: Strip,
+    s: Site,
+    v: u32,
+    k: u32,
+) -> u32
     requires { ⌜ SheetArrays q (now heights) (now bounds) (now radices) (now draws) (now masks) ⌝ }
     requires { ⌜ SiteIn q (pointOf s) × (v < q .budgets) × (k < 48) ⌝ }
     ensures { λ r. ⌜ r ≡ priceIn (instanceBy q (now (heights .entry)) (now (bounds .entry)) (now (radices .entry)) (now (draws .entry))) (stripOf p) (pointOf s) v k ⌝ }
@@ -229,7 +260,16 @@ fn price_of(masks: &[u64], q: Measures, heights: &[u32], bounds: &[u32], radices
 }
 
 // REST where slot k has a label of colour c - 1 besides.
-fn rest_after(masks: &[u64], work: &[u32], base: usize, q: Measures, labels: &mut [u32], k: u32, c: u32, v: u32) -> u32
+fn rest_after(
+    masks: &[u64],
+    work: &[u32],
+    base: usize,
+    q: Measures,
+    labels: &mut [u32],
+    k: u32,
+    c: u32,
+    v: u32,
+) -> u32
     requires { ⌜ LevelIn (now masks) (now work) base (q .colours) (q .budgets) (now labels) ⌝ }
     requires { ⌜ (k < length (now labels)) × (c < q .colours + 1) × (v < q .budgets) ⌝ }
     ensures { λ r. ⌜ r ≡ restRows (now (masks .entry)) (now (work .entry)) base (length (now (labels .entry))) (q .colours) (q .budgets) (set (now (labels .entry)) k c) v ⌝ }
@@ -244,24 +284,65 @@ fn rest_after(masks: &[u64], work: &[u32], base: usize, q: Measures, labels: &mu
 }
 
 // Slot k keeps the least cost. A step that is not lawful keeps none, so REST is not asked for.
-fn keeps_cost(masks: &[u64], work: &[u32], base: usize, q: Measures, heights: &[u32], bounds: &[u32], radices: &[u32], draws: &[u32], labels: &mut [u32], p: Strip, s: Site, left: Left, k: u32) -> bool
+fn keeps_cost(
+    masks: &[u64],
+    work: &[u32],
+    base: usize,
+    q: Measures,
+    heights: &[u32],
+    bounds: &[u32],
+    radices: &[u32],
+    draws: &[u32],
+    labels: &mut [u32],
+    p: Strip,
+    s: Site,
+    left: Left,
+    k: u32,
+) -> bool
     requires { ⌜ SheetArrays q (now heights) (now bounds) (now radices) (now draws) (now masks) ⌝ }
     requires { ⌜ LevelIn (now masks) (now work) base (q .colours) (q .budgets) (now labels) ⌝ }
     requires { ⌜ SiteIn q (pointOf s) × (left .budget < q .budgets) × (left .cost < topWord) × (length (now labels) ≡ length (now heights)) × (k < length (now heights)) ⌝ }
     ensures { λ r. ⌜ r ≡ keepsCost (instanceBy q (now (heights .entry)) (now (bounds .entry)) (now (radices .entry)) (now (draws .entry))) (now (masks .entry)) (now (work .entry)) base (q .colours) (q .budgets) (stripOf p) (pointOf s) (now (labels .entry)) (left .budget) (left .cost) k ⌝ }
     ensures { λ r. ⌜ now (labels .exit) ≡ now (labels .entry) ⌝ }
 {
-    let price = price_of(masks, q, heights, bounds, radices, draws, p, s, left.budget, k);
+    let price = price_of(
+        masks,
+        q,
+        heights,
+        bounds,
+        radices,
+        draws,
+        p,
+        s,
+        left.budget,
+        k,
+    );
     if price == words::NONE {
         return false;
     }
-    let v = words::monus(left.budget, draw_of(q, heights, bounds, radices, draws, p, s, k));
+    let v = words::monus(
+        left.budget,
+        draw_of(q, heights, bounds, radices, draws, p, s, k),
+    );
     let rest = rest_after(masks, work, base, q, labels, k, s.c + 1, v);
     words::same(words::plus_of(price, rest), left.cost)
 }
 
 // The lowest slot that keeps the least cost.
-fn choose_slot(masks: &[u64], work: &[u32], base: usize, q: Measures, heights: &[u32], bounds: &[u32], radices: &[u32], draws: &[u32], labels: &mut [u32], p: Strip, s: Site, left: Left) -> u32
+fn choose_slot(
+    masks: &[u64],
+    work: &[u32],
+    base: usize,
+    q: Measures,
+    heights: &[u32],
+    bounds: &[u32],
+    radices: &[u32],
+    draws: &[u32],
+    labels: &mut [u32],
+    p: Strip,
+    s: Site,
+    left: Left,
+) -> u32
     requires { ⌜ SheetArrays q (now heights) (now bounds) (now radices) (now draws) (now masks) ⌝ }
     requires { ⌜ LevelIn (now masks) (now work) base (q .colours) (q .budgets) (now labels) ⌝ }
     requires { ⌜ SiteIn q (pointOf s) × (left .budget < q .budgets) × (left .cost < topWord) × (length (now labels) ≡ length (now heights)) ⌝ }
@@ -271,7 +352,21 @@ fn choose_slot(masks: &[u64], work: &[u32], base: usize, q: Measures, heights: &
     let m = heights.len() as u32;
     let mut k: u32 = 0;
     while k < m {
-        if keeps_cost(masks, work, base, q, heights, bounds, radices, draws, labels, p, s, left, k) {
+        if keeps_cost(
+            masks,
+            work,
+            base,
+            q,
+            heights,
+            bounds,
+            radices,
+            draws,
+            labels,
+            p,
+            s,
+            left,
+            k,
+        ) {
             return k;
         }
         k += 1;
@@ -280,13 +375,177 @@ fn choose_slot(masks: &[u64], work: &[u32], base: usize, q: Measures, heights: &
 }
 
 // What is left after the step.
-fn left_after(masks: &[u64], q: Measures, heights: &[u32], bounds: &[u32], radices: &[u32], draws: &[u32], p: Strip, s: Site, left: Left, k: u32) -> Left
+fn left_after(
+    masks: &[u64],
+    q: Measures,
+    heights: &[u32],
+    bounds: &[u32],
+    radices: &[u32],
+    draws: &[u32],
+    p: Strip,
+    s: Site,
+    left: Left,
+    k: u32,
+) -> Left
     requires { ⌜ SheetArrays q (now heights) (now bounds) (now radices) (now draws) (now masks) ⌝ }
     requires { ⌜ SiteIn q (pointOf s) × (left .budget < q .budgets) × (k < 48) ⌝ }
     ensures { λ r. ⌜ r .budget ≡ budgetLeft (instanceBy q (now (heights .entry)) (now (bounds .entry)) (now (radices .entry)) (now (draws .entry))) (stripOf p) (pointOf s) (left .budget) k ⌝ }
     ensures { λ r. ⌜ r .cost ≡ left .cost - priceIn (instanceBy q (now (heights .entry)) (now (bounds .entry)) (now (radices .entry)) (now (draws .entry))) (stripOf p) (pointOf s) (left .budget) k ⌝ }
 {
-    let v = words::monus(left.budget, draw_of(q, heights, bounds, radices, draws, p, s, k));
-    let here = words::monus(left.cost, price_of(masks, q, heights, bounds, radices, draws, p, s, left.budget, k));
-    Left { budget: v, cost: here }
+    let v = words::monus(
+        left.budget,
+        draw_of(q, heights, bounds, radices, draws, p, s, k),
+    );
+    let here = words::monus(
+        left.cost,
+        price_of(
+            masks,
+            q,
+            heights,
+            bounds,
+            radices,
+            draws,
+            p,
+            s,
+            left.budget,
+            k,
+        ),
+    );
+    Left {
+        budget: v,
+        cost: here,
+    }
+}
+
+// The words of a level of m slots.
+fn level_size(q: Measures, m: usize) -> usize
+    requires { ⌜ (m ≤ 48) × (q .colours ≤ 8) × (q .budgets ≤ 64) ⌝ }
+    ensures { λ r. ⌜ r ≡ levelSize m (q .colours) (q .budgets) ⌝ }
+{
+    let c = q.colours as usize + 1;
+    let h = m + 2;
+    h * c * h * c * (q.budgets as usize)
+}
+
+// The site of rank j.
+fn site_at(xs: &[u32], ys: &[u32], colours: &[u32], j: usize) -> Site
+    requires { ⌜ (j < length (now xs)) × (j < length (now ys)) × (j < length (now colours)) ⌝ }
+    ensures { λ r. ⌜ pointOf r ≡ record { x = getD (now (xs .entry)) j 0; y = getD (now (ys .entry)) j 0; c = getD (now (colours .entry)) j 0 } ⌝ }
+{
+    Site {
+        x: xs[j],
+        y: ys[j],
+        c: colours[j],
+    }
+}
+
+// Ties the site of rank j, and says what is left.
+fn tie_site(
+    masks: &[u64],
+    work: &[u32],
+    q: Measures,
+    heights: &[u32],
+    bounds: &[u32],
+    radices: &[u32],
+    draws: &[u32],
+    xs: &[u32],
+    ys: &[u32],
+    colours: &[u32],
+    order: &[u32],
+    labels: &mut [u32],
+    out: &mut [u32],
+    j: usize,
+    left: Left,
+) -> Left
+    requires { ⌜ WalkArrays q (now heights) (now bounds) (now radices) (now draws) (now masks) (now work) (now xs) (now ys) (now colours) (now order) ⌝ }
+    requires { ⌜ Standing (instanceBy q (now heights) (now bounds) (now radices) (now draws)) q (now masks) (now work) (pointsBy (now xs) (now ys) (now colours)) (now labels) (now out) j (left .budget) (left .cost) ⌝ }
+    requires { ⌜ j < length (now order) ⌝ }
+    ensures { λ r. ⌜ Standing (instanceBy q (now (heights .entry)) (now (bounds .entry)) (now (radices .entry)) (now (draws .entry))) q (now (masks .entry)) (now (work .entry)) (pointsBy (now (xs .entry)) (now (ys .entry)) (now (colours .entry))) (now (labels .exit)) (now (out .exit)) (j + 1) (r .budget) (r .cost) ⌝ }
+    ensures { λ r. ⌜ tiedFrom (instanceBy q (now (heights .entry)) (now (bounds .entry)) (now (radices .entry)) (now (draws .entry))) q (now (masks .entry)) (now (work .entry)) (pointsBy (now (xs .entry)) (now (ys .entry)) (now (colours .entry))) (now (order .entry)) (now (labels .entry)) (now (out .entry)) j (left .budget) ≡ tiedFrom (instanceBy q (now (heights .entry)) (now (bounds .entry)) (now (radices .entry)) (now (draws .entry))) q (now (masks .entry)) (now (work .entry)) (pointsBy (now (xs .entry)) (now (ys .entry)) (now (colours .entry))) (now (order .entry)) (now (labels .exit)) (now (out .exit)) (j + 1) (r .budget) ⌝ }
+{
+    let s = site_at(xs, ys, colours, j);
+    let p = hold_of(heights, labels, s.y);
+    let size = level_size(q, heights.len());
+    let base = (j + 1) * size;
+    let k = choose_slot(
+        masks,
+        work,
+        base,
+        q,
+        heights,
+        bounds,
+        radices,
+        draws,
+        labels,
+        p,
+        s,
+        left,
+    );
+    let after = left_after(masks, q, heights, bounds, radices, draws, p, s, left, k);
+    let place = order[j] as usize + 1;
+    out[place] = 2415919104 + k;
+    let slot = k as usize;
+    labels[slot] = s.c + 1;
+    after
+}
+
+// THE WALK: ties the sites from rank j on, one a call, so that the number of untied sites falls.
+pub fn walk(
+    masks: &[u64],
+    work: &[u32],
+    q: Measures,
+    heights: &[u32],
+    bounds: &[u32],
+    radices: &[u32],
+    draws: &[u32],
+    xs: &[u32],
+    ys: &[u32],
+    colours: &[u32],
+    order: &[u32],
+    labels: &mut [u32],
+    out: &mut [u32],
+    j: usize,
+    left: Left,
+)
+    requires { ⌜ WalkArrays q (now heights) (now bounds) (now radices) (now draws) (now masks) (now work) (now xs) (now ys) (now colours) (now order) ⌝ }
+    requires { ⌜ Standing (instanceBy q (now heights) (now bounds) (now radices) (now draws)) q (now masks) (now work) (pointsBy (now xs) (now ys) (now colours)) (now labels) (now out) j (left .budget) (left .cost) ⌝ }
+    ensures { λ _. ⌜ now (out .exit) ≡ tiedFrom (instanceBy q (now (heights .entry)) (now (bounds .entry)) (now (radices .entry)) (now (draws .entry))) q (now (masks .entry)) (now (work .entry)) (pointsBy (now (xs .entry)) (now (ys .entry)) (now (colours .entry))) (now (order .entry)) (now (labels .entry)) (now (out .entry)) j (left .budget) ⌝ }
+{
+    if j == order.len() {
+        return;
+    }
+    let after = tie_site(
+        masks,
+        work,
+        q,
+        heights,
+        bounds,
+        radices,
+        draws,
+        xs,
+        ys,
+        colours,
+        order,
+        labels,
+        out,
+        j,
+        left,
+    );
+    walk(
+        masks,
+        work,
+        q,
+        heights,
+        bounds,
+        radices,
+        draws,
+        xs,
+        ys,
+        colours,
+        order,
+        labels,
+        out,
+        j + 1,
+        after,
+    );
 }
