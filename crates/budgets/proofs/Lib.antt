@@ -1,0 +1,2 @@
+pub mod Sharing
+mod Lists
