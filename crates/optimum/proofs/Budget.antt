@@ -9,7 +9,7 @@ use lib.Dec.{eqb, leb, ltb}
 use lib.ListN.{length, getD, set, replicate, length-set, length-replicate}
 use borrow.Author.Tests.{leb-true, leb-false, ltb-true, ltb-false, le-leb, lt-leb, lt-ltb, le-ltb, eqb-true, eqb-false, eq-eqb, ne-eqb}
 use Rattle.lists.proofs.Tests.{by-test, by-order, by-equal, by-either, and-both, and-of, clash, tests}
-use native.Mathlib.Nat.{mod-one, zero-mod, zero-div, mod-eq-of-lt, div-eq-of-lt, add-zero}
+use native.Mathlib.Nat.{mod-lt, div-lt-iff-lt-mul, mod-one, zero-mod, zero-div, mod-eq-of-lt, div-eq-of-lt, add-zero}
 use lib.Arith.{digits-div, digits-mod}
 use Rattle.search.specs.Radix.{below, digitOf, place, digit-le, digit-sub, sharing}
 use Rattle.optimum.specs.Strips.{Point, Instance}
@@ -81,7 +81,17 @@ digit-full [] c w h = absurd (omega arith)
 digit-full (r ∷ rs) zero w h = full r (product rs) (w .0) (product-pos rs (w .1)) .1
 digit-full (r ∷ rs) (suc c) w h = rw (full r (product rs) (w .0) (product-pos rs (w .1)) .2) (digit-full rs c (w .1) (omega arith))
 
--- ---- what a page's steps draw
+-- every budget may be taken from the greatest
+pub below-full : (rs : List ℕ) → Positive rs → (v : ℕ) → v < product rs → below rs v (product rs - 1) ≡ true
+unfolding product Positive below
+below-full [] w v h = le-leb v 0 (omega arith)
+below-full (r ∷ rs) w v h =
+    let f = full r (product rs) (w .0) (product-pos rs (w .1)) in
+    let d : v % r < r = mod-lt v (w .0) in
+    let q : v / r < product rs = div-lt-iff-lt-mul (w .0) .1 (omega arith) in
+    and-of _ _ (le-leb (v % r) ((r * product rs - 1) % r) (omega arith)) (rw (f .2) (below-full rs (w .1) (v / r) q))
+
+-- ---- what an instance's steps draw
 
 -- the digit of each colour that is bounded, and which are not
 pub record Budgeted (P : Instance) (digit : ℕ → ℕ → ℕ) (unbounded : ℕ → Bool) : Type 0 where

@@ -23,6 +23,7 @@ use Rattle.search.specs.Walk.{answerBy, walkBy, chooseBy}
 use Rattle.optimum.specs.Strips.{Point, Strip, Instance, inside, marked, opens, joinsUp, joinsDown, cost, draw, children, rulesOf, stripsFrom, strips, State, next, labels, value}
 use Rattle.optimum.proofs.StripsHeld.{Rising, laws, set-other, set-same}
 use Rattle.optimum.proofs.Pairs.{zeros}
+use Rattle.optimum.specs.Reached.{In, steps, Asks}
 use Rattle.optimum.specs.Cells.{build, cells, cellOf, stripAt, shareAt, shareCells, stepCell, entryOf, level, joinCells, foldCells, startCells, valueCells}
 
 pub build-at : (n : ℕ) (f : ℕ → ℕ) (i : ℕ) → i < n → getD (build n f) i 0 ≡ f i
@@ -85,31 +86,74 @@ module _ (P : Instance) (C R : ℕ) where
       let d₃ = digits-div (p .a * (C + 1) + p .ca) (r .rb) in
       rw (d₀, d₁, d₂, d₃, digits-div (p .a) (r .rca), digits-mod (p .a) (r .rca), digits-mod (p .a * (C + 1) + p .ca) (r .rb), digits-mod ((p .a * (C + 1) + p .ca) * (m + 2) + p .b) (r .rcb), digits-mod (((p .a * (C + 1) + p .ca) * (m + 2) + p .b) * (C + 1) + p .cb) (r .rd))
 
-  -- the level holds the table of the sites ss
+  -- one row, and the level, hold the table of the sites ss
+  abbrev pub Row : List ℕ → List Point → Strip → Type 0
+  Row low ss p = (v : ℕ) → v < R → getD low (cellOf P C R p v) 0 ≡ T (rulesOf P) ss p v
+
   abbrev pub Level : List ℕ → List Point → Type 0
   Level low ss = (p : Strip) (v : ℕ) → InRange p → v < R → getD low (cellOf P C R p v) 0 ≡ T (rulesOf P) ss p v
 
-  module _ (rising : Rising P) (turn-low : (s : Point) (k : ℕ) → turn s k < kinds) where
-    pub share-two : (low : List ℕ) (ss : List Point) → Level low ss → (p q : Strip) (u : ℕ) → InRange p → InRange q → u < R
+  module _ (rising : Rising P) where
+    pub share-two : (low : List ℕ) (ss : List Point) (p q : Strip) (u : ℕ) → Row low ss p → Row low ss q → u < R
         → shareCells P C R low p q u ≡ Rest (rulesOf P) ss (p ∷ q ∷ []) u
     unfolding shareCells conv
-    share-two low ss h p q u rp rq l =
-        least-cong top (suc u) _ _ (λ w lw. ap₂ (λ (a b : ℕ). cond (below radices w u) (plus top a b) top) (h p w rp (omega arith)) (h q (u - w) rq (omega arith)))
+    share-two low ss p q u f g l =
+        least-cong top (suc u) _ _ (λ w lw. ap₂ (λ (a b : ℕ). cond (below radices w u) (plus top a b) top) (f w (omega arith)) (g (u - w) (omega arith)))
         ∙ sym (Rest-two (rulesOf P) (laws P rising) ss p q u)
 
-    pub step-cell : (low : List ℕ) (ss : List Point) → Level low ss → (p : Strip) (s : Point) (k v : ℕ) → InRange p → s .c < C → k < m → v < R
+    -- a step from the rows of the strips that it leads to
+    pub step-cell : (low : List ℕ) (ss : List Point) (p : Strip) (s : Point) (k v : ℕ) → (steps P p s k ≡ true → (q : Strip) → In q (children P p s k) → Row low ss q) → v < R
         → stepCell P C R low p s k v ≡ cond (below radices (draw P p s k) v) (plus top (cost P p s k) (Rest (rulesOf P) ss (children P p s k) (v - draw P p s k))) top
-    unfolding stepCell draw cost children
-    step-cell low ss h p s k v r c l lv =
+    unfolding stepCell draw cost children In
+    step-cell low ss p s k v rows lv =
         by-test (opens P p s k)
-        (λ e. rw e (ap (λ (z : ℕ). cond (below radices (drawOf (s .c)) v) (plus top (word 1 (lead (s .x) + share k (s .y))) z) top)
-        (share-two low ss h _ _ (v - drawOf (s .c))
-        (record { ra = r .ra; rca = r .rca; rb = omega arith; rcb = omega arith; rd = turn-low s k }) (record { ra = omega arith; rca = omega arith; rb = r .rb; rcb = r .rcb; rd = omega (arith, turn-low s k) }) (omega arith))))
+        (λ e. let f = rows (rw e) in
+        rw e (ap (λ (z : ℕ). cond (below radices (drawOf (s .c)) v) (plus top (word 1 (lead (s .x) + share k (s .y))) z) top)
+        (share-two low ss _ _ (v - drawOf (s .c)) (f _ (rw e (inl refl))) (f _ (rw e (inr (inl refl)))) (omega arith))))
         (λ e. rw (e, sharing radices .nothing v)
-        (let q : Strip = record { a = p .a; ca = p .ca; b = p .b; cb = p .cb; d = turn s k } in
-        let one : Rest (rulesOf P) ss (q ∷ []) (v - 0) ≡ getD low (cellOf P C R q v) 0 = ap (Rest (rulesOf P) ss (q ∷ [])) (omega arith) ∙ Rest-one (rulesOf P) (laws P rising) ss q v
-        ∙ sym (h q v (record { ra = r .ra; rca = r .rca; rb = r .rb; rcb = r .rcb; rd = turn-low s k }) lv) in
-        rw one (by-test (joinsUp P p s k || joinsDown P p s k) (λ j. rw j) (λ j. rw j (sym (top-plus top _))))))
+        (by-test (joinsUp P p s k || joinsDown P p s k)
+        (λ j. let one = ap (Rest (rulesOf P) ss (part ∷ [])) sub ∙ Rest-one (rulesOf P) (laws P rising) ss part v ∙ sym (rows (rw (e, j)) part (rw e (inl refl)) v lv) in rw (j, one))
+        (λ j. rw j (sym (top-plus top _)))))
+      where
+        part : Strip
+        part = record { a = p .a; ca = p .ca; b = p .b; cb = p .cb; d = turn s k }
+
+        sub : v - 0 ≡ v
+        sub = omega arith
+
+    -- an entry from the rows of the strips that it asks for
+    pub entry-asked : (low : List ℕ) (s : Point) (ss : List Point) (p : Strip) (v : ℕ) → ((q : Strip) → Asks P p s q → Row low ss q) → v < R
+        → cond (inside P p s) (least top m (λ k. stepCell P C R low p s k v)) (getD low (cellOf P C R p v) 0) ≡ T (rulesOf P) (s ∷ ss) p v
+    entry-asked low s ss p v rows lv =
+        by-test (inside P p s)
+        (λ e. rw e (least-cong top m _ _ (λ k l. step-cell low ss p s k v (λ t q i. rows q (inr (e, (k, l, t, i)))) lv) ∙ sym (T-in (rulesOf P) (laws P rising) s ss p v e)))
+        (λ e. rw e (rows p (inl (e, refl)) v lv ∙ sym (T-out (rulesOf P) (laws P rising) s ss p v e)))
+
+  module _ (rising : Rising P) (turn-low : (s : Point) (k : ℕ) → turn s k < kinds) where
+    -- what a strip in range asks for is in range
+    pub asked-range : (p : Strip) (s : Point) (q : Strip) → s .c < C → InRange p → Asks P p s q → InRange q
+    unfolding children In
+    asked-range p s q c r (inl (e, i)) = subst InRange (sym i) r
+    asked-range p s q c r (inr (e, (k, l, t, i))) =
+        by-test (opens P p s k)
+        (λ o. two (rw o at i))
+        (λ o. one (rw o at i))
+      where
+        upper : Strip
+        upper = record { a = p .a; ca = p .ca; b = suc k; cb = suc (s .c); d = turn s k }
+
+        lower : Strip
+        lower = record { a = suc k; ca = suc (s .c); b = p .b; cb = p .cb; d = 0 }
+
+        same : Strip
+        same = record { a = p .a; ca = p .ca; b = p .b; cb = p .cb; d = turn s k }
+
+        two : (q ≡ upper) ⊎ ((q ≡ lower) ⊎ ⊥) → InRange q
+        two (inl z) = subst InRange (sym z) (record { ra = r .ra; rca = r .rca; rb = omega arith; rcb = omega arith; rd = turn-low s k })
+        two (inr (inl z)) = subst InRange (sym z) (record { ra = omega arith; rca = omega arith; rb = r .rb; rcb = r .rcb; rd = omega (arith, turn-low s k) })
+
+        one : (q ≡ same) ⊎ ⊥ → InRange q
+        one (inl z) = subst InRange (sym z) (record { ra = r .ra; rca = r .rca; rb = r .rb; rcb = r .rcb; rd = turn-low s k })
 
     -- a level from the one below it
     pub level-cons : (low high : List ℕ) (s : Point) (ss : List Point) → s .c < C → Level low ss → ((i : ℕ) → i < cells P C R → getD high i 0 ≡ entryOf P C R low s i) → Level high (s ∷ ss)
@@ -117,9 +161,7 @@ module _ (P : Instance) (C R : ℕ) where
     level-cons low high s ss c h g p v r lv =
         g _ (cell-low p v r lv)
         ∙ ap₂ (λ (q : Strip) (w : ℕ). cond (inside P q s) (least top m (λ k. stepCell P C R low q s k w)) (getD low (cellOf P C R p v) 0)) (strip-cell p v r lv) (share-cell p v lv)
-        ∙ by-test (inside P p s)
-        (λ e. rw e (least-cong top m _ _ (λ k l. step-cell low ss h p s k v r c l lv) ∙ sym (T-in (rulesOf P) (laws P rising) s ss p v e)))
-        (λ e. rw e (h p v r lv ∙ sym (T-out (rulesOf P) (laws P rising) s ss p v e)))
+        ∙ entry-asked rising low s ss p v (λ q i u lu. h q u (asked-range p s q c r i) lu) lv
 
     pub level-nil : Level (replicate (cells P C R) 0) []
     level-nil p v r lv = zeros (cells P C R) (cellOf P C R p v) ∙ sym (T-nil (rulesOf P) (laws P rising) p v)
@@ -134,23 +176,37 @@ module _ (P : Instance) (C R : ℕ) where
     abbrev pub Holds : List ℕ → (ℕ → ℕ) → Type 0
     Holds acc f = (v : ℕ) → v < R → getD acc v 0 ≡ f v
 
-    pub join-cells : (low : List ℕ) (ss : List Point) → Level low ss → (acc : List ℕ) (f : ℕ → ℕ) → Holds acc f → (p : Strip) → InRange p
+    pub join-cells : (low : List ℕ) (ss : List Point) (acc : List ℕ) (f : ℕ → ℕ) → Holds acc f → (p : Strip) → Row low ss p
         → Holds (joinCells P C R low acc p) (conv top (below radices) f (T (rulesOf P) ss p))
     unfolding joinCells conv
-    join-cells low ss h acc f a p r v l =
+    join-cells low ss acc f a p h v l =
         build-at R _ v l
-        ∙ least-cong top (suc v) _ _ (λ w lw. ap₂ (λ (x y : ℕ). cond (below radices w v) (plus top x y) top) (a w (omega arith)) (h p (v - w) r (omega arith)))
+        ∙ least-cong top (suc v) _ _ (λ w lw. ap₂ (λ (x y : ℕ). cond (below radices w v) (plus top x y) top) (a w (omega arith)) (h (v - w) (omega arith)))
 
-    pub fold-cells : (low : List ℕ) (ss : List Point) → Level low ss → (L M : List ℕ) → ((j : ℕ) → getD L j 0 < C + 1) → ((j : ℕ) → getD M j 0 < kinds) → (r i a ca : ℕ) (acc : List ℕ) (f : ℕ → ℕ)
-        → r + i ≡ m → a ≤ i → ca < C + 1 → Holds acc f
+    pub fold-cells : (low : List ℕ) (ss : List Point) (L M : List ℕ) (r i a ca : ℕ) (acc : List ℕ) (f : ℕ → ℕ)
+        → ((p : Strip) → In p (stripsFrom P r i a ca L M) → Row low ss p) → Holds acc f
         → Holds (foldCells P C R low r i a ca L M acc) (fold (conv top (below radices)) (T (rulesOf P) ss) f (stripsFrom P r i a ca L M))
-    unfolding foldCells stripsFrom fold
-    fold-cells low ss h L M c k zero i a ca acc f e ai ac q = join-cells low ss h acc f q _ (record { ra = omega arith; rca = ac; rb = omega arith; rcb = omega arith; rd = k a })
-    fold-cells low ss h L M c k (suc r) i a ca acc f e ai ac q =
+    unfolding foldCells stripsFrom fold In
+    fold-cells low ss L M zero i a ca acc f rows q = join-cells low ss acc f q _ (rows _ (inl refl))
+    fold-cells low ss L M (suc r) i a ca acc f rows q =
         by-test (eqb (getD L i 0) 0)
-        (λ t. rw t (fold-cells low ss h L M c k r (suc i) a ca acc f (omega arith) (omega arith) ac q))
-        (λ t. rw t (fold-cells low ss h L M c k r (suc i) (suc i) (getD L i 0) _ _ (omega arith) (omega arith) (c i)
-        (join-cells low ss h acc f q _ (record { ra = omega arith; rca = ac; rb = omega arith; rcb = c i; rd = k a }))))
+        (λ t. rw t (fold-cells low ss L M r (suc i) a ca acc f (λ p u. rows p (rw t u)) q))
+        (λ t. rw t (fold-cells low ss L M r (suc i) (suc i) (getD L i 0) _ _ (λ p u. rows p (rw t (inr u)))
+        (join-cells low ss acc f q _ (rows _ (rw t (inl refl))))))
+
+    -- the strips of a state are in range
+    strips-range : (L M : List ℕ) → ((j : ℕ) → getD L j 0 < C + 1) → ((j : ℕ) → getD M j 0 < kinds) → (r i a ca : ℕ) → r + i ≡ m → a ≤ i → ca < C + 1
+        → (p : Strip) → In p (stripsFrom P r i a ca L M) → InRange p
+    unfolding stripsFrom In
+    strips-range L M c k zero i a ca e ai ac p (inl z) = subst InRange (sym z) (record { ra = omega arith; rca = ac; rb = omega arith; rcb = omega arith; rd = k a })
+    strips-range L M c k zero i a ca e ai ac p (inr z) = absurd z
+    strips-range L M c k (suc r) i a ca e ai ac p h =
+        by-test (eqb (getD L i 0) 0)
+        (λ t. strips-range L M c k r (suc i) a ca (omega arith) (omega arith) ac p (rw t at h))
+        (λ t. let g : (p ≡ record { a = a; ca = ca; b = suc i; cb = getD L i 0; d = getD M a 0 }) ⊎ In p (stripsFrom P r (suc i) (suc i) (getD L i 0) L M) = rw t at h in
+        by-either g
+        (λ z. subst InRange (sym z) (record { ra = omega arith; rca = ac; rb = omega arith; rcb = c i; rd = k a }))
+        (λ u. strips-range L M c k r (suc i) (suc i) (getD L i 0) (omega arith) (omega arith) (c i) p u))
 
     rest-fold : (ss : List Point) (L : List Strip) → Rest (rulesOf P) ss L ≡ fold (conv top (below radices)) (T (rulesOf P) ss) (just top 0 0) L
     unfolding Rest T
@@ -158,17 +214,18 @@ module _ (P : Instance) (C R : ℕ) where
         let S = semiring top (below radices) (sharing radices) in
         sym (fold-prod S (T (rulesOf P) ss) L (just top 0 0) (S .one-one) ∙ one-prod S (T (rulesOf P) ss) L)
 
-    -- THE VALUE of a state is read off any level that holds the table of the sites that are left
-    pub value-level : (low : List ℕ) (ss : List Point) → Level low ss → (x : State P) → ((j : ℕ) → getD (x .0) j 0 < C + 1) → x .1 < R → ((j : ℕ) → getD (x .2) j 0 < kinds)
+    -- THE VALUE of a state is read off the rows of its strips
+    pub value-rows : (low : List ℕ) (ss : List Point) (x : State P) → x .1 < R → ((p : Strip) → In p (strips P (x .0) (x .2)) → Row low ss p)
         → getD (foldCells P C R low m 0 0 0 (x .0) (x .2) (startCells P C R)) (x .1) 0 ≡ value P x ss
     unfolding value startCells strips
-    value-level low ss h x c l k =
-        fold-cells low ss h (x .0) (x .2) c k m 0 0 0 _ (just top 0 0) (omega arith) (omega arith) (omega arith) (λ v lv. build-at R (just top 0 0) v lv) (x .1) l
+    value-rows low ss x l rows =
+        fold-cells low ss (x .0) (x .2) m 0 0 0 _ (just top 0 0) rows (λ v lv. build-at R (just top 0 0) v lv) (x .1) l
         ∙ ap (λ (f : ℕ → ℕ). f (x .1)) (sym (rest-fold ss (stripsFrom P m 0 0 0 (x .0) (x .2))))
 
     pub value-cells : (ss : List Point) → Coloured C ss → (x : State P) → ((j : ℕ) → getD (x .0) j 0 < C + 1) → x .1 < R → ((j : ℕ) → getD (x .2) j 0 < kinds) → valueCells P C R x ss ≡ value P x ss
-    unfolding valueCells
-    value-cells ss h x c l k = value-level (level P C R ss) ss (level-holds ss h) x c l k
+    unfolding valueCells strips
+    value-cells ss h x c l k =
+        value-rows (level P C R ss) ss x l (λ p i v lv. level-holds ss h p v (strips-range (x .0) (x .2) c k m 0 0 0 (omega arith) (omega arith) (omega arith) p i) lv)
 
     -- ---- the walk by cells
 

@@ -28,3 +28,4 @@ pub mod Least
 pub mod Rows
 pub mod TwoSidedExamples
 pub mod Ties
+pub mod Reached

@@ -97,47 +97,43 @@ module _ (P : Instance) (C R : ℕ) where
 
   -- ---- each step of the walk finds its slot, and the value stays below the sentinel
 
-  module _ (rising : Rising P) (turn-low : (s : Point) (k : ℕ) → P .turn s k < P .kinds) where
-    pub walk-step : (s : Point) (ss : List Point) → Coloured C (s ∷ ss) → (x : State P) → Kept P C R rising turn-low x → Fit P rising x → valueCells P C R x (s ∷ ss) < top
-        → (chooseBy (labels P) (valueCells P C R) x s ss < m) × (price P x s (chooseBy (labels P) (valueCells P C R) x s ss) < top)
-        × (valueCells P C R (next P x s (chooseBy (labels P) (valueCells P C R) x s ss)) ss < top)
-    unfolding chooseBy Coloured
-    walk-step s ss c x q l h = go (least-is top m f)
+  module _ (rising : Rising P) where
+    pub walk-step : (s : Point) (ss : List Point) (x : State P) → Fit P rising x → value P x (s ∷ ss) < top
+        → (chooseBy (labels P) (value P) x s ss < m) × (price P x s (chooseBy (labels P) (value P) x s ss) < top)
+        × (value P (next P x s (chooseBy (labels P) (value P) x s ss)) ss < top)
+    unfolding chooseBy
+    walk-step s ss x l h = go (least-is top m f)
       where
         f : ℕ → ℕ
         f k = plus top (price P x s k) (best (labels P) (next P x s k) ss)
 
-        worth : State P → List Point → ℕ
-        worth = valueCells P C R
-
         t : ℕ → Bool
-        t k = eqb (plus top (price P x s k) (worth (next P x s k) ss)) (worth x (s ∷ ss))
+        t k = eqb (plus top (price P x s k) (value P (next P x s k) ss)) (value P x (s ∷ ss))
 
-        here : worth x (s ∷ ss) ≡ least top m f
-        here = value-cells P C R rising turn-low (s ∷ ss) c x (q .0) (q .1) (q .2) ∙ value-best P rising x (s ∷ ss) l ∙ (unfold best in refl)
+        here : value P x (s ∷ ss) ≡ least top m f
+        here = value-best P rising x (s ∷ ss) l ∙ (unfold best in refl)
 
-        there : (k : ℕ) → worth (next P x s k) ss ≡ best (labels P) (next P x s k) ss
-        there k =
-            let w = keeps P C R rising turn-low x s k (c .0) q in
-            value-cells P C R rising turn-low ss (c .1) (next P x s k) (w .0) (w .1) (w .2) ∙ value-best P rising (next P x s k) ss (next-fit P rising x s k l)
+        there : (k : ℕ) → value P (next P x s k) ss ≡ best (labels P) (next P x s k) ss
+        there k = value-best P rising (next P x s k) ss (next-fit P rising x s k l)
 
-        found : (k : ℕ) → k < m → f k ≡ least top m f → (first m t < m) × (price P x s (first m t) < top) × (worth (next P x s (first m t)) ss < top)
+        found : (k : ℕ) → k < m → f k ≡ least top m f → (first m t < m) × (price P x s (first m t) < top) × (value P (next P x s (first m t)) ss < top)
         found k lk e =
             let tk : t k ≡ true = eq-eqb _ _ (ap (plus top (price P x s k)) (there k) ∙ e ∙ sym here) in
             let lf : first m t < m = omega (arith, first-le m t k tk) in
-            let e′ : plus top (price P x s (first m t)) (worth (next P x s (first m t)) ss) ≡ worth x (s ∷ ss) = eqb-true _ _ (first-is m t lf) in
-            let b = plus-below top (price P x s (first m t)) (worth (next P x s (first m t)) ss) (omega arith) in
+            let e′ : plus top (price P x s (first m t)) (value P (next P x s (first m t)) ss) ≡ value P x (s ∷ ss) = eqb-true _ _ (first-is m t lf) in
+            let b = plus-below top (price P x s (first m t)) (value P (next P x s (first m t)) ss) (omega arith) in
             (lf, b .0, b .1)
 
-        go : (least top m f ≡ top) ⊎ ((k : ℕ) × (k < m) × (f k ≡ least top m f)) → (first m t < m) × (price P x s (first m t) < top) × (worth (next P x s (first m t)) ss < top)
+        go : (least top m f ≡ top) ⊎ ((k : ℕ) × (k < m) × (f k ≡ least top m f)) → (first m t < m) × (price P x s (first m t) < top) × (value P (next P x s (first m t)) ss < top)
         go (inl e) = absurd (omega (arith, here))
         go (inr (k, lk, e)) = found k lk e
 
-    -- a slot whose step is not lawful is not taken: the loop need not look at its value
-    pub skip-step : (s : Point) (ss : List Point) (x : State P) (k z : ℕ) → top ≤ price P x s k → valueCells P C R x (s ∷ ss) < top → eqb (plus top (price P x s k) z) (valueCells P C R x (s ∷ ss)) ≡ false
-    unfolding plus
-    skip-step s ss x k z h l = ne-eqb _ _ (λ (e : plus top (price P x s k) z ≡ valueCells P C R x (s ∷ ss)). omega arith)
+  -- a slot whose step is not lawful is not taken: the loop need not look at its value
+  pub skip-step : (c z here : ℕ) → top ≤ c → here < top → eqb (plus top c z) here ≡ false
+  unfolding plus
+  skip-step c z here h l = ne-eqb _ _ (λ (e : plus top c z ≡ here). omega arith)
 
+  module _ (rising : Rising P) (turn-low : (s : Point) (k : ℕ) → P .turn s k < P .kinds) where
     -- ---- levels in one work area: the one for the sites ss stands from place d on
 
     pub level-at : (work : List ℕ) (d e : ℕ) (s : Point) (ss : List Point) → s .c < C → Level P C R (drop e work) ss

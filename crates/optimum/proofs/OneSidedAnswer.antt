@@ -22,8 +22,7 @@ use Rattle.labelling.specs.Promise.{takesSheet}
 use Rattle.lists.proofs.Tests.{is-false}
 use Rattle.labelling.specs.Layout.{isUsed}
 use Rattle.labelling.proofs.Members.{noSite, all-at, used-head, used-tail}
-use Rattle.sheet.proofs.Accepted.{Sound, sound}
-use Rattle.labelling.proofs.More.{colourLow, sites-coloured}
+use Rattle.sheet.proofs.Accepted.{Sound, sound, colourLow, sites-coloured}
 use Rattle.labelling.proofs.Words.{count-low, length-low}
 use Rattle.labelling.proofs.Maker.{First, best-some-iff, best-none-iff, Result, made, unmade, cleared}
 use Rattle.optimum.specs.Strips.{Point, Strip, Instance, rulesOf, stripsFrom, strips, labels, value, walked}
@@ -84,7 +83,7 @@ abbrev pub tiesWalked : Sheet → List ℕ
 tiesWalked s = putBack s (slotsWalked s)
 
 -- the empty sheet has one strip
-empty-strips : (P : Instance) (L M : List ℕ) → ((j : ℕ) → getD L j 0 ≡ 0) → getD M 0 0 ≡ 0 → (r i : ℕ) → stripsFrom P r i 0 0 L M ≡ record { a = 0; ca = 0; b = suc (r + i); cb = 0; d = 0 } ∷ []
+pub empty-strips : (P : Instance) (L M : List ℕ) → ((j : ℕ) → getD L j 0 ≡ 0) → getD M 0 0 ≡ 0 → (r i : ℕ) → stripsFrom P r i 0 0 L M ≡ record { a = 0; ca = 0; b = suc (r + i); cb = 0; d = 0 } ∷ []
 unfolding stripsFrom
 empty-strips P L M h g zero i = rw g (ap (λ (b : ℕ). record { a = 0; ca = 0; b = suc b; cb = 0; d = 0 } ∷ []) (omega arith))
 empty-strips P L M h g (suc r) i =
@@ -113,12 +112,22 @@ module _ (s : Sheet) (o : Sound s) (one : s .isTwoSided ≡ false) (low : all (c
       one-sided-best s o one
       ∙ (unfold oneSided walked in ap (tiesOf s) (sym (answer-cells (instanceOf s) (length (s .colours)) (productOf (s .colours)) (good s o .rising) (turn-low s) (pointsAt s (order s)) coloured _ start-kept)))
 
+  -- the first cell is the table at the whole sheet with the full budget, and the slots are those of the walk by the table
+  pub first-cell : firstCell s ≡ T (rulesOf (instanceOf s)) (pointsAt s (order s)) (wholeStrip s) (fullBudget s)
+  unfolding firstCell
+  first-cell =
+      level-holds (instanceOf s) (length (s .colours)) (productOf (s .colours)) (good s o .rising) (turn-low s) (pointsAt s (order s)) coloured (wholeStrip s) (fullBudget s)
+      (record { ra = omega arith; rca = omega arith; rb = omega arith; rcb = omega arith; rd = omega arith }) full-low
+
+  pub slots-walked : slotsWalked s ≡ walkBy (labels (instanceOf s)) (value (instanceOf s)) (replicate (length (s .slots)) 0, fullBudget s, replicate (suc (length (s .slots))) 0) (pointsAt s (order s))
+  unfolding slotsWalked
+  slots-walked = walk-cells (instanceOf s) (length (s .colours)) (productOf (s .colours)) (good s o .rising) (turn-low s) (pointsAt s (order s)) coloured _ start-kept
+
   -- the first cell is the value of the empty sheet
   cell-value : firstCell s ≡ value (instanceOf s) (replicate (length (s .slots)) 0, fullBudget s, replicate (suc (length (s .slots))) 0) (pointsAt s (order s))
   unfolding firstCell value strips
   cell-value =
-      level-holds (instanceOf s) (length (s .colours)) (productOf (s .colours)) (good s o .rising) (turn-low s) (pointsAt s (order s)) coloured (wholeStrip s) (fullBudget s)
-      (record { ra = omega arith; rca = omega arith; rb = omega arith; rcb = omega arith; rd = omega arith }) full-low
+      first-cell
       ∙ sym (Rest-one (rulesOf (instanceOf s)) (laws (instanceOf s) (good s o .rising)) (pointsAt s (order s)) (wholeStrip s) (fullBudget s))
       ∙ ap (λ (L : List Strip). Rest (rulesOf (instanceOf s)) (pointsAt s (order s)) L (fullBudget s))
       (sym (empty-strips (instanceOf s) (replicate (length (s .slots)) 0) (replicate (suc (length (s .slots))) 0) (zeros (length (s .slots))) refl (length (s .slots)) 0
@@ -129,7 +138,7 @@ module _ (s : Sheet) (o : Sound s) (one : s .isTwoSided ≡ false) (low : all (c
   walked-some h =
       let v : value (instanceOf s) (replicate (length (s .slots)) 0, fullBudget s, replicate (suc (length (s .slots))) 0) (pointsAt s (order s)) < topWord = omega (arith, cell-value) in
       rw (lt-ltb _ topWord v)
-      (ap some (sym (walk-cells (instanceOf s) (length (s .colours)) (productOf (s .colours)) (good s o .rising) (turn-low s) (pointsAt s (order s)) coloured _ start-kept)))
+      (ap some (sym slots-walked))
 
   walked-nothing : topWord ≤ firstCell s → walked (instanceOf s) (fullBudget s) (pointsAt s (order s)) ≡ none
   unfolding walked answerBy

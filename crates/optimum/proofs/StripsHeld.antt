@@ -386,7 +386,7 @@ module _ (P : Instance) where
     join-read L M s k lm z e =
         after-same m 0 0 0 L M (marked P L M s k) s k (omega arith) (omega arith) (unfold over in refl) (marked-here L M s k lm) (λ j u. sym (marked-same L M s k (s .c) z j u)) e
 
-    next-read : (x : State P) (s : Point) (k : ℕ) → Fit x → price P x s k < top → read (next P x s k) ≡ stripNext (rulesOf P) (read x) s k
+    pub next-read : (x : State P) (s : Point) (k : ℕ) → Fit x → price P x s k < top → read (next P x s k) ≡ stripNext (rulesOf P) (read x) s k
     next-read x s k l h =
         by-test (opens P (hold P (x .0) (x .2) (s .y)) s k)
         (λ e. same (sym (open-read (x .0) (x .2) s k (l .0) (l .1) e)))

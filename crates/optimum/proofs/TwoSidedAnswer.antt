@@ -16,10 +16,9 @@ use Rattle.lists.proofs.Tests.{is-false, and-l, and-r, not-f}
 use Rattle.labelling.proofs.Members.{noSite}
 use Rattle.labelling.proofs.Best.{Obeys}
 use Rattle.labelling.proofs.Rules.{siteAt}
-use Rattle.sheet.proofs.Accepted.{Sound, sound}
+use Rattle.sheet.proofs.Accepted.{Sound, sound, colourLow, sites-coloured}
 use Rattle.labelling.proofs.Words.{count-low, length-low}
 use Rattle.labelling.proofs.Earlier.{Earlier, Better, better-e, slot-at}
-use Rattle.labelling.proofs.More.{colourLow, sites-coloured}
 use Rattle.labelling.proofs.Maker.{First, best-some-iff, best-none-iff}
 use Rattle.lists.proofs.Tests.{by-test, by-order, by-either, by-equal}
 use Rattle.search.specs.Cost.{first}

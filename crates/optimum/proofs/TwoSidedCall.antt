@@ -9,8 +9,7 @@ use lib.ListN.{length, getD, drop}
 use Rattle.sheet.specs.Sheet.{Sheet, sheetIn, sheetFault}
 use Rattle.labelling.specs.Layout.{countOf, lengthOf, layoutWords, answerOf, best}
 use Rattle.labelling.specs.Promise.{takesSheet}
-use Rattle.sheet.proofs.Accepted.{sound}
-use Rattle.labelling.proofs.More.{sites-coloured}
+use Rattle.sheet.proofs.Accepted.{sound, sites-coloured}
 use Rattle.labelling.proofs.Maker.{First, Result, cleared, best-some-iff, best-none-iff, made, unmade}
 use Rattle.optimum.specs.UsedSlots.{Instance, value, capAll, ties}
 use Rattle.optimum.specs.TwoSided.{instanceOf}

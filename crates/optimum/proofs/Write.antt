@@ -15,11 +15,10 @@ use mathlib.Core.Bool.{false≢true}
 use Rattle.sheet.specs.Sheet.{Sheet, sheetIn}
 use Rattle.labelling.specs.Promise.{takesSheet}
 use Rattle.labelling.proofs.Maker.{Result, cleared}
-use Rattle.labelling.proofs.More.{sites-coloured}
 use Rattle.labelling.specs.Layout.{isUsed, tieWords, layoutWords}
 use Rattle.lists.proofs.Tests.{or-l, or-r, is-false}
 use Rattle.labelling.proofs.Members.{used-head, used-tail}
-use Rattle.sheet.proofs.Accepted.{Sound, sound}
+use Rattle.sheet.proofs.Accepted.{Sound, sound, sites-coloured}
 use Rattle.optimum.proofs.StripsHeld.{set-same, set-other}
 use Rattle.optimum.specs.OneSided.{topWord, order, scatter}
 use Rattle.optimum.proofs.OneSidedAnswer.{countIn, lengthIn, firstCell, slotsWalked, walk-long, call-made}

@@ -15,6 +15,10 @@ unfoldable pub In : Strip → List Strip → Type 0
 In q [] = ⊥
 In q (p ∷ L) = (q ≡ p) ⊎ In q L
 
+-- past the last site
+abbrev pub noPoint : Point
+noPoint = record { x = 0; y = 0; c = 0 }
+
 module _ (P : Instance) where
   open Instance P using (m)
 
@@ -33,7 +37,7 @@ module _ (P : Instance) where
   -- q is asked for at the level where the first j of the sites are tied
   unfoldable pub Reached : List Point → (j : ℕ) → Strip → Type 0
   Reached ss zero q = q ≡ wholeSheet
-  Reached ss (suc j) q = (p : Strip) × Reached ss j p × Asks p (getD ss j (record { x = 0; y = 0; c = 0 })) q
+  Reached ss (suc j) q = (p : Strip) × Reached ss j p × Asks p (getD ss j noPoint) q
 
   -- THE TABLE IS RIGHT wherever it is asked: level j stands from word j * cells on; C colours, budgets below R
   unfoldable pub TableOf : (C R : ℕ) → List Point → (work : List ℕ) → Type 0

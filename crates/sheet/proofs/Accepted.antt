@@ -9,7 +9,7 @@ use native.Mathlib.Omega.{arith}
 use lib.Dec.{ltb, leb, eqb}
 use lib.ListN.{length, getD, take, drop}
 use borrow.Author.Tests.{ltb-true, ltb-false, leb-true, leb-false, eqb-true, eqb-false, lt-ltb, le-ltb, le-leb, lt-leb, eq-eqb, ne-eqb}
-use Rattle.sheet.specs.Sheet.{all, kindOf, bits, hasSpare, inOrder, Site, Colour, Sheet, slotsIn, sitesIn, coloursIn, siteIn, headIn, sheetIn, productOf, rising, rankOf, rankTop, hasRank, ranksDiffer, isHead, countsFit, insideBy, sheetFault}
+use Rattle.sheet.specs.Sheet.{all, kindOf, bits, hasSpare, inOrder, Site, Colour, Sheet, slotsIn, sitesIn, coloursIn, siteIn, headIn, bodyOf, sheetIn, productOf, rising, rankOf, rankTop, hasRank, ranksDiffer, isHead, countsFit, insideBy, sheetFault}
 use Rattle.lists.proofs.Tests.{clash, by-test, and-l, and-r, and-i, or-e, or-l, or-r, is-false, is-true, not-f, not-e, tests, cond-t, cond-f, eqb-self}
 
 -- a chain of refusals that comes to 0
@@ -23,12 +23,12 @@ rest false n x h e = e
 
 pub record Unrefused (ws : List ℕ) : Type 0 where
   pub head : isHead ws ≡ true
-  pub order : inOrder 0 (drop 1 ws) ≡ true
+  pub order : inOrder 0 (bodyOf ws) ≡ true
   pub counts : countsFit (sheetIn ws) ≡ true
-  pub rise : rising (slotsIn (drop 1 ws)) ≡ true
-  pub inside : all (insideBy (bits (headIn ws) 0 14)) (sitesIn 0 (drop 1 ws)) ≡ true
-  pub differ : ranksDiffer (sitesIn 0 (drop 1 ws)) ≡ true
-  pub product : ltb 64 (productOf (coloursIn (drop 1 ws))) ≡ false
+  pub rise : rising (slotsIn (bodyOf ws)) ≡ true
+  pub inside : all (insideBy (bits (headIn ws) 0 14)) (sitesIn 0 (bodyOf ws)) ≡ true
+  pub differ : ranksDiffer (sitesIn 0 (bodyOf ws)) ≡ true
+  pub product : ltb 64 (productOf (coloursIn (bodyOf ws))) ≡ false
 
 chain : (a b c d e f g : Bool) →
     _≡_ {A = ℕ} (cond (not a) 1 (cond (not b) 2 (cond (not c) 3 (cond (not d) 4 (cond (not e) 5 (cond (not f) 6 (cond g 7 0))))))) 0 →
@@ -44,10 +44,27 @@ chain false b c d e f g h = absurd (omega arith)
 
 pub unrefused : (ws : List ℕ) → sheetFault ws ≡ 0 → Unrefused ws
 unrefused ws h =
-    let t = chain (isHead ws) (inOrder 0 (drop 1 ws)) (countsFit (sheetIn ws)) (rising (slotsIn (drop 1 ws)))
-    (all (insideBy (bits (headIn ws) 0 14)) (sitesIn 0 (drop 1 ws))) (ranksDiffer (sitesIn 0 (drop 1 ws)))
-    (ltb 64 (productOf (coloursIn (drop 1 ws)))) h in
+    let t = chain (isHead ws) (inOrder 0 (bodyOf ws)) (countsFit (sheetIn ws)) (rising (slotsIn (bodyOf ws)))
+    (all (insideBy (bits (headIn ws) 0 14)) (sitesIn 0 (bodyOf ws))) (ranksDiffer (sitesIn 0 (bodyOf ws)))
+    (ltb 64 (productOf (coloursIn (bodyOf ws)))) h in
     record { head = t .0; order = t .1; counts = t .2; rise = t .3; inside = t .4; differ = t .5; product = t .6 }
+
+-- a refusal's number is below 8
+small : (a b c d e f g : Bool) → cond (not a) 1 (cond (not b) 2 (cond (not c) 3 (cond (not d) 4 (cond (not e) 5 (cond (not f) 6 (cond g 7 0)))))) < 8
+small false b c d e f g = omega arith
+small true false c d e f g = omega arith
+small true true false d e f g = omega arith
+small true true true false e f g = omega arith
+small true true true true false f g = omega arith
+small true true true true true false g = omega arith
+small true true true true true true true = omega arith
+small true true true true true true false = omega arith
+
+pub fault-small : (ws : List ℕ) → sheetFault ws < 8
+fault-small ws =
+    small (isHead ws) (inOrder 0 (bodyOf ws)) (countsFit (sheetIn ws)) (rising (slotsIn (bodyOf ws)))
+    (all (insideBy (bits (headIn ws) 0 14)) (sitesIn 0 (bodyOf ws))) (ranksDiffer (sitesIn 0 (bodyOf ws)))
+    (ltb 64 (productOf (coloursIn (bodyOf ws))))
 
 -- bits are low
 pub low14 : (w : ℕ) (i : ℕ) → bits w i 14 < 16384
@@ -77,62 +94,6 @@ sites-low c (w ∷ ws) =
     (λ f. rw f
     (and-i (lt-ltb (bits w 14 14) 16384 (low14 w 14)) (sites-low c ws .0), and-i (lt-ltb (bits w 0 14) 16384 (low14 w 0)) (sites-low c ws .1)))
     λ f. rw f (sites-low c ws))
-
-pub record Sound (s : Sheet) : Type 0 where
-  pub few-slots : length (s .slots) ≤ 48
-  pub few-colours : length (s .colours) ≤ 8
-  pub few-sites : length (s .sites) ≤ 32
-  pub rise : rising (s .slots) ≡ true
-  pub inside : all (insideBy (s .width)) (s .sites) ≡ true
-  pub differ : ranksDiffer (s .sites) ≡ true
-  pub product : productOf (s .colours) ≤ 64
-  pub wide : 0 < s .width
-  pub narrow : s .width < 16384
-  pub gapped : 0 < s .gap
-  pub xs : all lowX (s .sites) ≡ true
-  pub ys : all lowY (s .sites) ≡ true
-  pub heights : all lowN (s .slots) ≡ true
-
-pub sound : (ws : List ℕ) → sheetFault ws ≡ 0 → Sound (sheetIn ws)
-sound ws h =
-    let u : Unrefused ws = unrefused ws h in
-    let s : Sheet = sheetIn ws in
-    let hw : Bool = ltb 0 (length ws) && eqb (kindOf (headIn ws)) 1 in
-    let nw : Bool = not (eqb (bits (headIn ws) 0 14) 0) in
-    let nd : Bool = not (eqb (bits (headIn ws) 14 12) 0) in
-    let cs : Bool = leb (length (s .slots)) 48 in
-    let cc : Bool = leb (length (s .colours)) 8 in
-    let cn : Bool = leb (length (s .sites)) 32 in
-    let w0 : eqb (bits (headIn ws) 0 14) 0 ≡ false = not-f (eqb (bits (headIn ws) 0 14) 0) (and-r hw nw (and-l (hw && nw) nd (u .head))) in
-    let d0 : eqb (bits (headIn ws) 14 12) 0 ≡ false = not-f (eqb (bits (headIn ws) 14 12) 0) (and-r (hw && nw) nd (u .head)) in
-    record {
-      few-slots = leb-true (length (s .slots)) 48 (and-l cs cc (and-l (cs && cc) cn (u .counts)));
-      few-colours = leb-true (length (s .colours)) 8 (and-r cs cc (and-l (cs && cc) cn (u .counts)));
-      few-sites = leb-true (length (s .sites)) 32 (and-r (cs && cc) cn (u .counts));
-      rise = u .rise;
-      inside = u .inside;
-      differ = u .differ;
-      product = ltb-false 64 (productOf (s .colours)) (u .product);
-      wide = omega (arith, eqb-false (bits (headIn ws) 0 14) 0 w0);
-      narrow = low14 (headIn ws) 0;
-      gapped = omega (arith, eqb-false (bits (headIn ws) 14 12) 0 d0);
-      xs = sites-low 0 (drop 1 ws) .0;
-      ys = sites-low 0 (drop 1 ws) .1;
-      heights = slots-low (drop 1 ws);
-    }
-
-pub rank-low : (s : Site) → s .x < 16384 → s .y < 16384 → rankOf s < rankTop
-unfolding rankOf
-rank-low s h k = omega arith
-
-pub low-x : (ss : List Site) → all lowX ss ≡ true → all lowY ss ≡ true → (x : ℕ) → hasRank x ss ≡ true → x < rankTop
-unfolding all hasRank
-low-x [] h k x e = absurd (false≢true e)
-low-x (s ∷ ss) h k x e = go (or-e (eqb (rankOf s) x) (hasRank x ss) e) (low-x ss (and-r (lowX s) (all lowX ss) h) (and-r (lowY s) (all lowY ss) k) x)
-  where
-    go : (eqb (rankOf s) x ≡ true) ⊎ (hasRank x ss ≡ true) → (hasRank x ss ≡ true → x < rankTop) → x < rankTop
-    go (inl p) ih = omega (arith, eqb-true (rankOf s) x p, rank-low s (ltb-true (s .x) 16384 (and-l (lowX s) (all lowX ss) h)) (ltb-true (s .y) 16384 (and-l (lowY s) (all lowY ss) k)))
-    go (inr p) ih = ih p
 
 -- ONE WORD after the head, in order: a slot, a colour or a site
 pub data Step (z w : ℕ) (ws : List ℕ) : Type 0 where
@@ -164,3 +125,86 @@ step z w ws h = (not-f (hasSpare w) (and-l (not (hasSpare w)) tests2 h), two (eq
     two : (t : Bool) → eqb (kindOf w) 2 ≡ t → cond t (eqb z 0 && inOrder 0 ws) tests3 ≡ true → Step z w ws
     two true e h = slot (eqb-true (kindOf w) 2 e) (eqb-true z 0 (and-l (eqb z 0) (inOrder 0 ws) h)) (and-r (eqb z 0) (inOrder 0 ws) h)
     two false e h = three (eqb (kindOf w) 3) refl h
+
+-- THE COLOUR of a site is one of the sheet's
+abbrev pub colourLow : (count : ℕ) → Site → Bool
+colourLow c s = ltb (s .colour) c
+
+coloured : (z c : ℕ) (ws : List ℕ) → inOrder z ws ≡ true → (z ≡ 1 → 0 < c) → all (colourLow (c + length (coloursIn ws))) (sitesIn c ws) ≡ true
+unfolding inOrder all coloursIn sitesIn
+coloured z c [] h f = refl
+coloured z c (w ∷ ws) h f = go (step z w ws h .1) (λ y d i g. coloured y d ws i g)
+  where
+    go : Step z w ws → ((y d : ℕ) → inOrder y ws ≡ true → (y ≡ 1 → 0 < d) → all (colourLow (d + length (coloursIn ws))) (sitesIn d ws) ≡ true) →
+        all (colourLow (c + length (coloursIn (w ∷ ws)))) (sitesIn c (w ∷ ws)) ≡ true
+    go (Step.slot e q i) ih =
+        rw (ne-eqb (kindOf w) 3 (λ q. omega arith), ne-eqb (kindOf w) 4 (λ q. omega arith)) (ih 0 c i λ q. absurd (omega arith))
+    go (Step.colour e i) ih =
+        rw (eq-eqb (kindOf w) 3 e)
+        (subst (λ (n : ℕ). all (colourLow n) (sitesIn (suc c) ws) ≡ true) (omega arith) (ih 1 (suc c) i λ q. omega arith))
+    go (Step.site e q i) ih =
+        rw (ne-eqb (kindOf w) 3 (λ q. omega arith), eq-eqb (kindOf w) 4 e)
+        (and-i (lt-ltb (c - 1) (c + length (coloursIn ws)) (omega (arith, f q))) (ih 1 c i λ r. f q))
+
+pub sites-coloured : (ws : List ℕ) → sheetFault ws ≡ 0 → all (colourLow (length (sheetIn ws .colours))) (sheetIn ws .sites) ≡ true
+sites-coloured ws h =
+    subst (λ (n : ℕ). all (colourLow n) (sitesIn 0 (bodyOf ws)) ≡ true) (omega arith)
+    (coloured 0 0 (bodyOf ws) (unrefused ws h .order) λ q. absurd (omega arith))
+
+pub record Sound (s : Sheet) : Type 0 where
+  pub few-slots : length (s .slots) ≤ 48
+  pub few-colours : length (s .colours) ≤ 8
+  pub few-sites : length (s .sites) ≤ 32
+  pub rise : rising (s .slots) ≡ true
+  pub inside : all (insideBy (s .width)) (s .sites) ≡ true
+  pub differ : ranksDiffer (s .sites) ≡ true
+  pub product : productOf (s .colours) ≤ 64
+  pub wide : 0 < s .width
+  pub narrow : s .width < 16384
+  pub gapped : 0 < s .gap
+  pub xs : all lowX (s .sites) ≡ true
+  pub ys : all lowY (s .sites) ≡ true
+  pub heights : all lowN (s .slots) ≡ true
+  pub coloured : all (colourLow (length (s .colours))) (s .sites) ≡ true
+
+pub sound : (ws : List ℕ) → sheetFault ws ≡ 0 → Sound (sheetIn ws)
+sound ws h =
+    let u : Unrefused ws = unrefused ws h in
+    let s : Sheet = sheetIn ws in
+    let hw : Bool = ltb 0 (length ws) && eqb (kindOf (headIn ws)) 1 in
+    let nw : Bool = not (eqb (bits (headIn ws) 0 14) 0) in
+    let nd : Bool = not (eqb (bits (headIn ws) 14 12) 0) in
+    let cs : Bool = leb (length (s .slots)) 48 in
+    let cc : Bool = leb (length (s .colours)) 8 in
+    let cn : Bool = leb (length (s .sites)) 32 in
+    let w0 : eqb (bits (headIn ws) 0 14) 0 ≡ false = not-f (eqb (bits (headIn ws) 0 14) 0) (and-r hw nw (and-l (hw && nw) nd (u .head))) in
+    let d0 : eqb (bits (headIn ws) 14 12) 0 ≡ false = not-f (eqb (bits (headIn ws) 14 12) 0) (and-r (hw && nw) nd (u .head)) in
+    record {
+      few-slots = leb-true (length (s .slots)) 48 (and-l cs cc (and-l (cs && cc) cn (u .counts)));
+      few-colours = leb-true (length (s .colours)) 8 (and-r cs cc (and-l (cs && cc) cn (u .counts)));
+      few-sites = leb-true (length (s .sites)) 32 (and-r (cs && cc) cn (u .counts));
+      rise = u .rise;
+      inside = u .inside;
+      differ = u .differ;
+      product = ltb-false 64 (productOf (s .colours)) (u .product);
+      wide = omega (arith, eqb-false (bits (headIn ws) 0 14) 0 w0);
+      narrow = low14 (headIn ws) 0;
+      gapped = omega (arith, eqb-false (bits (headIn ws) 14 12) 0 d0);
+      xs = sites-low 0 (bodyOf ws) .0;
+      ys = sites-low 0 (bodyOf ws) .1;
+      heights = slots-low (bodyOf ws);
+      coloured = sites-coloured ws h;
+    }
+
+pub rank-low : (s : Site) → s .x < 16384 → s .y < 16384 → rankOf s < rankTop
+unfolding rankOf
+rank-low s h k = omega arith
+
+pub low-x : (ss : List Site) → all lowX ss ≡ true → all lowY ss ≡ true → (x : ℕ) → hasRank x ss ≡ true → x < rankTop
+unfolding all hasRank
+low-x [] h k x e = absurd (false≢true e)
+low-x (s ∷ ss) h k x e = go (or-e (eqb (rankOf s) x) (hasRank x ss) e) (low-x ss (and-r (lowX s) (all lowX ss) h) (and-r (lowY s) (all lowY ss) k) x)
+  where
+    go : (eqb (rankOf s) x ≡ true) ⊎ (hasRank x ss ≡ true) → (hasRank x ss ≡ true → x < rankTop) → x < rankTop
+    go (inl p) ih = omega (arith, eqb-true (rankOf s) x p, rank-low s (ltb-true (s .x) 16384 (and-l (lowX s) (all lowX ss) h)) (ltb-true (s .y) 16384 (and-l (lowY s) (all lowY ss) k)))
+    go (inr p) ih = ih p

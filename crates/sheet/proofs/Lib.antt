@@ -1,1 +1,3 @@
 pub mod Accepted
+pub mod Places
+pub mod Counts
