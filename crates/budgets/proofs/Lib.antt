@@ -1,2 +1,3 @@
 pub mod Sharing
 mod Lists
+mod Bits

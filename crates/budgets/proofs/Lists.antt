@@ -99,3 +99,10 @@ least-more F i best x y e f = rw (add-one, ← e, f) (omega (arith, least-le-top
 pub least-none : (F : ℕ → ℕ) → topWord ≡ least topWord 0 F
 unfolding least
 least-none F = refl
+
+-- one entry more of an area that is written from the front
+pub entries-more : (Q : ℕ → ℕ → Type 0) (l : List ℕ) (v n : ℕ) → v < length l → ((x : ℕ) → x < v → Q x (getD l x 0)) → Q v n → (x : ℕ) → x < v + 1 → Q x (getD (set l v n) x 0)
+entries-more Q l v n h f q x l1 =
+    by-order v x
+    (λ k. let e : x ≡ v = omega arith in rw (e, getD-set-same l v n 0 h) q)
+    (λ k. rw (getD-set-other l v x n 0 (λ e. omega arith)) (f x k))

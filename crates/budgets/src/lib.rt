@@ -4,7 +4,7 @@ ghost use mathlib.Core.Bool.{cond};
 ghost use Prim.Native.Nat.{ℕ, suc, _+_, _-_, _*_, _<_, _≤_, min};
 ghost use lib.ListN.{length, getD};
 ghost use Rattle.search.specs.Radix.{below};
-ghost use Rattle.budgets.specs.Budgets.{Divides, Listed, Others, Splits, Within, shareBy};
+ghost use Rattle.budgets.specs.Budgets.{Divides, Listed, Others, Splits, Within, shareBy, bitOf, leftBy};
 
 // w may be taken from the budget v.
 pub fn is_below(radices: &[u32], w: u32, v: u32) -> bool
@@ -103,4 +103,65 @@ pub fn least_share(
         i += 1;
     }
     best as u32
+}
+
+fn bit_of(t: bool) -> u64
+    ensures { λ r. ⌜ r ≡ cond t 1 0 ⌝ }
+{
+    if t {
+        return 1;
+    }
+    0
+}
+
+// The budgets that may be taken from v, as bits.
+fn mask_below(radices: &[u32], v: u32) -> u64
+    requires { ⌜ Divides (now radices) ⌝ }
+    requires { ⌜ v < 64 ⌝ }
+    ensures { λ r. ⌜ ((w : ℕ) → bitOf r w ≡ below (now (radices .entry)) w v) ⌝ }
+{
+    let mut mask: u64 = 0;
+    let mut w = v + 1;
+    while 0 < w {
+        w -= 1;
+        mask = mask * 2 + bit_of(is_below(radices, w, v));
+    }
+    mask
+}
+
+// Such a mask for each budget below P.
+pub fn list_masks(radices: &[u32], budgets: usize, masks: &mut [u64])
+    requires { ⌜ Divides (now radices) ⌝ }
+    requires { ⌜ (budgets ≤ 64) × (budgets ≤ length (now masks)) ⌝ }
+    ensures { λ _. ⌜ ((v w : ℕ) → v < budgets → bitOf (getD (now (masks .exit)) v 0) w ≡ below (now (radices .entry)) w v) ⌝ }
+{
+    let mut v: usize = 0;
+    while v < budgets {
+        masks[v] = mask_below(radices, v as u32);
+        v += 1;
+    }
+}
+
+// What a draw leaves of the budget v; 255 if it may not be drawn.
+fn left_of(radices: &[u32], draw: u32, v: u8) -> u8
+    requires { ⌜ Divides (now radices) ⌝ }
+    ensures { λ r. ⌜ r ≡ leftBy (now (radices .entry)) draw v ⌝ }
+{
+    if is_below(radices, draw, v as u32) {
+        return v - draw as u8;
+    }
+    255
+}
+
+// The same for each budget below P.
+pub fn list_left(radices: &[u32], draw: u32, budgets: usize, left: &mut [u8])
+    requires { ⌜ Divides (now radices) ⌝ }
+    requires { ⌜ (budgets ≤ 64) × (budgets ≤ length (now left)) ⌝ }
+    ensures { λ _. ⌜ ((v : ℕ) → v < budgets → getD (now (left .exit)) v 0 ≡ leftBy (now (radices .entry)) draw v) ⌝ }
+{
+    let mut v: usize = 0;
+    while v < budgets {
+        left[v] = left_of(radices, draw, v as u8);
+        v += 1;
+    }
 }
