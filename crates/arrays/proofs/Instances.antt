@@ -65,19 +65,19 @@ instance-by s = λ i. record {
 }
 
 -- THE SITES BY RISING RANK, from one array of each number
-xs-at : (ss : List Site) (i : ℕ) → getD (xsOf ss) i 0 ≡ (getD ss i noSite) .x
+pub xs-at : (ss : List Site) (i : ℕ) → getD (xsOf ss) i 0 ≡ (getD ss i noSite) .x
 unfolding xsOf
 xs-at [] i = refl
 xs-at (s ∷ ss) zero = refl
 xs-at (s ∷ ss) (suc i) = xs-at ss i
 
-ys-at : (ss : List Site) (i : ℕ) → getD (ysOf ss) i 0 ≡ (getD ss i noSite) .y
+pub ys-at : (ss : List Site) (i : ℕ) → getD (ysOf ss) i 0 ≡ (getD ss i noSite) .y
 unfolding ysOf
 ys-at [] i = refl
 ys-at (s ∷ ss) zero = refl
 ys-at (s ∷ ss) (suc i) = ys-at ss i
 
-colours-at : (ss : List Site) (i : ℕ) → getD (coloursOf ss) i 0 ≡ (getD ss i noSite) .colour
+pub colours-at : (ss : List Site) (i : ℕ) → getD (coloursOf ss) i 0 ≡ (getD ss i noSite) .colour
 unfolding coloursOf
 colours-at [] i = refl
 colours-at (s ∷ ss) zero = refl

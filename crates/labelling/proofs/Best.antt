@@ -1,19 +1,19 @@
 -- `best s` is the first of all ties that obey rules 1 to 5, and `none` means that there are none. For every sheet whatsoever.
 -- Assumes nothing.
-use mathlib.Core.Path.{_≡_, refl, sym, _∙_, ap, ap₂, subst}
+use mathlib.Core.Path.{_≡_, refl, sym, _∙_, ap, subst}
 use mathlib.Core.Logic.{_⊎_, inl, inr}
-use mathlib.Core.Bool.{Bool, true, false, _&&_, _||_, not, true≢false, false≢true, cond}
+use mathlib.Core.Bool.{Bool, true, false, cond}
 use mathlib.Core.List.{List, [], _∷_, _++_, append-assoc, append-nil}
 use mathlib.Core.Option.{Option, none, some}
-use Prim.Native.Nat.{ℕ, zero, suc, _+_, _*_, _-_, _≤_, _<_}
+use Prim.Native.Nat.{ℕ, zero, suc, _+_, _≤_, _<_}
 use native.Mathlib.Omega.{arith}
-use lib.Dec.{ltb, leb, eqb}
+use lib.Dec.{ltb, eqb}
 use lib.ListN.{length}
-use borrow.Author.Tests.{ltb-true, ltb-false, leb-true, leb-false, eqb-true, eqb-false, lt-ltb, le-ltb, le-leb, lt-leb, eq-eqb, ne-eqb}
-use Rattle.sheet.specs.Sheet.{all, Site, Sheet}
-use Rattle.labelling.specs.Layout.{Tied, tied, byRank, slotsByRank, comesFirst, firstNumber, secondNumber, isBetter, brokenIn, betterOf, bestOver, bestFrom, best}
-use Rattle.lists.proofs.Tests.{clash, by-test, and-l, and-r, and-i, or-e, or-l, or-r, is-false, is-true, tests, cond-t, cond-f}
-use Rattle.labelling.proofs.Order.{before, before-trans, before-asym, before-total}
+use borrow.Author.Tests.{ltb-true, eqb-true, eqb-false, lt-ltb}
+use Rattle.sheet.specs.Sheet.{all, Sheet}
+use Rattle.labelling.specs.Layout.{Tied, tied, byRank, slotsByRank, firstNumber, secondNumber, isBetter, brokenIn, betterOf, bestOver, bestFrom, best}
+use Rattle.lists.proofs.Tests.{clash, by-test, and-l, and-r, and-i, is-false, tests}
+use Rattle.labelling.proofs.Order.{before-trans, before-asym, before-total}
 
 -- isBetter as an order
 pub length-byRank : (n a : ℕ) (ts : List Tied) → length (byRank n a ts) ≡ n

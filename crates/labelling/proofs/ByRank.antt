@@ -1,17 +1,17 @@
 -- The slots by rising x determine the ties, where the sites' x differ.
 -- Assumes nothing.
-use mathlib.Core.Path.{_≡_, refl, sym, _∙_, ap, ap₂, subst}
+use mathlib.Core.Path.{_≡_, refl, ap₂, subst}
 use mathlib.Core.Logic.{_⊎_, inl, inr}
-use mathlib.Core.Bool.{Bool, true, false, _&&_, _||_, not, true≢false, false≢true, cond}
-use mathlib.Core.List.{List, [], _∷_, _++_}
-use Prim.Native.Nat.{ℕ, zero, suc, _+_, _*_, _-_, _≤_, _<_}
+use mathlib.Core.Bool.{Bool, true, false, _&&_, _||_, not, false≢true, cond}
+use mathlib.Core.List.{List, [], _∷_}
+use Prim.Native.Nat.{ℕ, zero, suc, _+_, _≤_, _<_}
 use native.Mathlib.Omega.{arith}
 use lib.Dec.{ltb, leb, eqb}
 use lib.ListN.{length}
-use borrow.Author.Tests.{ltb-true, ltb-false, leb-true, leb-false, eqb-true, eqb-false, lt-ltb, le-ltb, le-leb, lt-leb, eq-eqb, ne-eqb}
-use Rattle.sheet.specs.Sheet.{all, Site, Sheet, rankOf, rankTop, hasRank, ranksDiffer}
-use Rattle.labelling.specs.Layout.{Tied, tiedOf, tied, nextRank, slotAt, byRank, slotsByRank}
-use Rattle.lists.proofs.Tests.{clash, by-test, and-l, and-r, and-i, or-e, or-l, or-r, is-false, is-true, not-f, tests, cond-t, cond-f, eqb-self}
+use borrow.Author.Tests.{ltb-true, ltb-false, eqb-true, lt-ltb, le-leb, lt-leb}
+use Rattle.sheet.specs.Sheet.{Site, Sheet, rankOf, rankTop, hasRank, ranksDiffer}
+use Rattle.labelling.specs.Layout.{tiedOf, nextRank, slotAt, byRank, slotsByRank}
+use Rattle.lists.proofs.Tests.{clash, by-test, and-l, and-r, and-i, or-e, is-false, not-f, tests, eqb-self}
 
 -- how many sites lie at a or right of it
 unfoldable pub from : ℕ → List Site → ℕ

@@ -1,17 +1,18 @@
 -- Which of two comes first, without lists: at the leftmost site where they differ, the lower slot.
 -- Assumes nothing.
-use mathlib.Core.Path.{_≡_, refl, sym, _∙_, ap, ap₂, subst, subst⁻¹}
+use mathlib.Core.Path.{_≡_, refl, sym, _∙_, ap₂, subst, subst⁻¹}
 use mathlib.Core.Logic.{_⊎_, inl, inr}
-use mathlib.Core.Bool.{Bool, true, false, _&&_, _||_, not, true≢false, false≢true}
-use mathlib.Core.List.{List, [], _∷_, _++_}
-use Prim.Native.Nat.{ℕ, zero, suc, _+_, _*_, _-_, _≤_, _<_}
+use mathlib.Core.Bool.{Bool, true, false, not, false≢true}
+use mathlib.Core.List.{List, [], _∷_}
+use Prim.Native.Nat.{ℕ, zero, suc, _+_, _≤_, _<_}
 use native.Mathlib.Omega.{arith}
-use lib.Dec.{ltb, leb, eqb}
+use lib.Dec.{ltb, eqb}
 use lib.ListN.{length, getD, replicate}
-use borrow.Author.Tests.{ltb-true, ltb-false, leb-true, leb-false, eqb-true, eqb-false, lt-ltb, le-ltb, le-leb, lt-leb, eq-eqb, ne-eqb}
-use Rattle.sheet.specs.Sheet.{all, Site, Sheet, rankOf, rankTop, hasRank, ranksDiffer}
-use Rattle.labelling.specs.Layout.{Tied, tiedOf, tied, nextRank, slotAt, byRank, slotsByRank, comesFirst, firstNumber, secondNumber, isBetter}
-use Rattle.lists.proofs.Tests.{clash, by-test, and-l, and-r, and-i, or-e, or-l, or-r, is-false, is-true, not-f, tests, eqb-self}
+use borrow.Author.Tests.{ltb-true, ltb-false, eqb-true}
+use Rattle.sheet.specs.Sheet.{Site, Sheet, rankOf, rankTop, hasRank, ranksDiffer}
+pub use Rattle.labelling.specs.Lawful.{rankAt, Earlier, Better}
+use Rattle.labelling.specs.Layout.{tiedOf, tied, nextRank, slotAt, byRank, slotsByRank, comesFirst, firstNumber, secondNumber, isBetter}
+use Rattle.lists.proofs.Tests.{clash, by-test, and-l, and-r, or-e, or-l, or-r, is-false, not-f, tests, eqb-self}
 use Rattle.labelling.proofs.Order.{lexb, lex-true, lex-lt, lex-eq, first-asym}
 use Rattle.labelling.proofs.ByRank.{from, from-all, from-less, nextOf, next-sites, next-le, next-least, next-found}
 use Rattle.labelling.proofs.Members.{noSite}
@@ -126,15 +127,6 @@ place-of (s ∷ ss) x h = go (or-e (eqb (rankOf s) x) (hasRank x ss) h) (place-o
 abbrev pub xAt : Sheet → ℕ → ℕ
 xAt s i = (getD (s .sites) i noSite) .x
 
-abbrev pub rankAt : Sheet → ℕ → ℕ
-rankAt s i = rankOf (getD (s .sites) i noSite)
-
-pub record Earlier (s : Sheet) (js ks : List ℕ) : Type 0 where
-  pub place : ℕ
-  pub inside : place < length (s .sites)
-  pub lower : getD js place 0 < getD ks place 0
-  pub same : (i : ℕ) → i < length (s .sites) → rankAt s i < rankAt s place → getD js i 0 ≡ getD ks i 0
-
 module _ (s : Sheet) (o : Sound s) (js ks : List ℕ) (jl : length js ≡ length (s .sites)) (kl : length ks ≡ length (s .sites)) where
   slotJ : (i : ℕ) → i < length (s .sites) → slotAt (rankAt s i) (tied s js) ≡ getD js i 0
   slotJ i u = slot-at (s .sites) js jl (o .differ) i u .1
@@ -175,11 +167,6 @@ module _ (s : Sheet) (o : Sound s) (js ks : List ℕ) (jl : length js ≡ length
           (slotJ i u ∙ e .same i u (omega arith) ∙ sym (slotK i u))
 
 -- BETTER, said without tests
-abbrev pub Better : Sheet → (js ks : List ℕ) → Type 0
-Better s js ks =
-    (firstNumber s js < firstNumber s ks) ⊎
-    ((firstNumber s js ≡ firstNumber s ks) × ((secondNumber s js < secondNumber s ks) ⊎ ((secondNumber s js ≡ secondNumber s ks) × Earlier s js ks)))
-
 module _ (s : Sheet) (o : Sound s) (js ks : List ℕ) (jl : length js ≡ length (s .sites)) (kl : length ks ≡ length (s .sites)) where
   third : Bool
   third = comesFirst (slotsByRank s js) (slotsByRank s ks)

@@ -1,8 +1,40 @@
-use mathlib.Core.Path.{_≡_, refl}
-use Rattle.sheet.specs.Sheet.{all, inOrder, slotsIn, sitesRun, coloursIn, sitesIn, productOf, rising, rankOf, hasRank, ranksDiffer}
-use Rattle.labelling.specs.Layout.{tiedOf, isUsed, usedFrom, leastX, slotsOf, boundsKept, backbones, siteShare, drops, tieWords, tiesIn, nextRank, slotAt, byRank, comesFirst, bestOver, bestFrom, sheetPart}
-use Rattle.labelling.specs.Promise.{Examples}
+-- The starred examples, computed from the definitions. Assumes nothing.
+use mathlib.Core.Path.{_≡_, refl, subst}
+use mathlib.Core.List.{List, [], _∷_}
+use mathlib.Core.Option.{none, some}
+use Prim.Native.Nat.{ℕ}
+use Rattle.sheet.specs.Sheet.{all, inOrder, slotsIn, sitesRun, coloursIn, sitesIn, productOf, rising, rankOf, hasRank, ranksDiffer, sheetIn, sheetFault}
+use Rattle.labelling.specs.Layout.{tiedOf, isUsed, usedFrom, leastX, slotsOf, boundsKept, backbones, siteShare, drops, tieWords, tiesIn, nextRank, slotAt, byRank, comesFirst, bestOver, bestFrom, sheetPart, best, answerOf}
+use Rattle.labelling.specs.Promise.{a, shortest, twoSided, gapThree, gapFour, boundZero, headAlone, laidOut, turnedDown, Examples}
+use Rattle.labelling.proofs.Maker.{Called, called}
+
+-- a call by what is best
+lays : (ws js : List ℕ) → sheetFault ws ≡ 0 → best (sheetIn ws) ≡ some js → laidOut ws (answerOf (sheetIn ws) js)
+lays ws js f e k o w n =
+    let c : Called ws k o (some js) = subst (Called ws k o) e (called ws k o (f, w, n)) in
+    (c .fault, c .answer)
+
+refuses : (ws : List ℕ) → sheetFault ws ≡ 0 → best (sheetIn ws) ≡ none → turnedDown ws
+refuses ws f e k o w n =
+    let c : Called ws k o none = subst (Called ws k o) e (called ws k o (f, w, n)) in c .fault
 
 pub examples : Examples
 unfolding all inOrder slotsIn sitesRun coloursIn sitesIn productOf rising rankOf hasRank ranksDiffer tiedOf isUsed usedFrom leastX slotsOf boundsKept backbones siteShare drops tieWords tiesIn nextRank slotAt byRank comesFirst bestOver bestFrom sheetPart
-examples = (refl, refl, refl, refl, refl, refl, refl, refl, refl, refl, refl, refl, refl)
+examples = (
+  (refl, refl, refl, refl, refl, refl, refl, refl, refl, refl, refl, refl, refl),
+  (
+    lays a (0 ∷ 0 ∷ 2 ∷ []) refl refl,
+    lays shortest (0 ∷ 1 ∷ 2 ∷ []) refl refl,
+    lays twoSided (0 ∷ 0 ∷ 2 ∷ []) refl refl,
+    lays gapThree (2 ∷ 2 ∷ 0 ∷ []) refl refl,
+    refuses gapFour refl refl,
+    refuses boundZero refl refl,
+    lays headAlone [] refl refl,
+    (refl, refl),
+    (refl, refl),
+    (refl, refl),
+    (refl, refl),
+    refl,
+    refl,
+  ),
+)

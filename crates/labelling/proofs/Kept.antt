@@ -1,99 +1,32 @@
--- The promises kept: BestOfAll, AreasKept, JudgedSo.
--- Assumes nothing.
-use mathlib.Core.Path.{_≡_, refl, sym, _∙_, ap, ap₂, subst, subst⁻¹}
-use mathlib.Core.Logic.{_⊎_, inl, inr}
-use mathlib.Core.Bool.{Bool, true, false, _&&_, _||_, not, true≢false, false≢true, cond}
-use mathlib.Core.List.{List, [], _∷_, _++_}
+-- The promises kept: BestOfAll, OneAnswer, AreasKept, JudgedSo and Examples. Assumes nothing.
+pub use Rattle.labelling.proofs.Answer.{one-answer}
+pub use Rattle.labelling.proofs.Judge.{judged-so}
+pub use Rattle.labelling.proofs.Examples.{examples}
+use mathlib.Core.Path.{_≡_, sym, _∙_, ap, subst⁻¹}
+use mathlib.Core.Bool.{true, false, cond}
+use mathlib.Core.List.{List, [], _++_}
 use mathlib.Core.Option.{Option, none, some}
-use Prim.Native.Nat.{ℕ, zero, suc, _+_, _*_, _-_, _/_, _%_, _^_, _≤_, _<_}
+use Prim.Native.Nat.{ℕ, _+_, _≤_, _<_}
 use native.Mathlib.Omega.{arith}
-use lib.Dec.{ltb, leb, eqb}
-use lib.ListN.{length, getD, take, drop, replicate, length-replicate}
-use lib.Seq.{take-at, drop-at, drop-append-seam}
-use borrow.Author.Tests.{ltb-true, ltb-false, leb-true, leb-false, eqb-true, eqb-false, lt-ltb, le-ltb, le-leb, lt-leb, eq-eqb, ne-eqb}
-use Rattle.sheet.specs.Sheet.{all, kindOf, hasSpare, inOrder, headIn, isHead, Site, Sheet, sheetIn, sheetFault, workFor}
-use Rattle.labelling.specs.Layout.{tiesIn, tieWords, slotsByRank, comesFirst, firstNumber, secondNumber, isBetter, best, answer, answerOf, answerBy, countOf, lengthOf, statedCount, statedLength, isLayout, isLawful, brokenBy, sheetPart, layoutPart, judgeFault, judged}
-use Rattle.labelling.specs.Entry.{makeFault, makeAnswer, makeWork, isNone}
-use Rattle.labelling.specs.Promise.{areWords, same, statedFirst, statedSecond, isBeaten, takesSheet, begun, BestOfAll, AreasKept, JudgedSo}
-use Rattle.lists.proofs.Tests.{clash, by-test, and-l, and-r, and-i, or-e, or-l, or-r, is-false, is-true, not-f, not-e, tests, cond-t, cond-f, eqb-self}
+use lib.Dec.{eqb}
+use lib.ListN.{length, take, drop, replicate, length-replicate}
+use lib.Seq.{length-front, length-take-le, take-at, drop-at}
+use borrow.Author.Tests.{eq-eqb}
+use Rattle.sheet.specs.Sheet.{Sheet, sheetIn, workFor}
+use Rattle.labelling.specs.Layout.{tiesIn, slotsByRank, isBetter, best, answer, answerOf, isLawful}
+use Rattle.labelling.specs.Entry.{makeFault, makeAnswer, makeWork}
+use Rattle.labelling.specs.Promise.{areWords, same, isBeaten, begun, BestOfAll, AreasKept, ContentsUnread, RefusedUnchanged}
+use Rattle.lists.proofs.Tests.{clash, is-false, is-true}
 use Rattle.labelling.proofs.Order.{before}
-use Rattle.labelling.proofs.Best.{Obeys, IsBest, best-is, best-some, best-none, better-total}
-use Rattle.labelling.proofs.ByRank.{byRank-same}
-use Rattle.sheet.proofs.Accepted.{Sound, sound, low-x, Unrefused, unrefused, Step, step}
-use Rattle.labelling.proofs.Words.{Written, lawful-obeys, obeys-lawful, answer-words, answer-ties, answer-count, answer-length, same-self, Formed, formed, length-tieWords}
-
--- ONE ANSWER: of two that obey, one is better, or they are the same
-pub obeys-same : (s : Sheet) → Sound s → (js ks : List ℕ) → Obeys s js → Obeys s ks → isBetter s js ks ≡ false → isBetter s ks js ≡ false → js ≡ ks
-obeys-same s o js ks j k p q = byRank-same s js ks (j .long) (k .long) (o .differ) (low-x (s .sites) (o .xs) (o .ys)) (better-total s js ks p q)
-
--- THE CHARACTERISATION of `best`, the other way
-pub best-unique : (s : Sheet) → Sound s → (js : List ℕ) → Obeys s js → ((ks : List ℕ) → Obeys s ks → isBetter s ks js ≡ false) → best s ≡ some js
-best-unique s o js j f = go (best s) (best-is s)
-  where
-    go : (r : Option (List ℕ)) → IsBest s (Obeys s) r → r ≡ some js
-    go none h = absurd (h js j)
-    go (some ks) h = ap some (obeys-same s o ks js (h .0) j (f ks (h .0)) (h .1 js j))
-
-pub best-empty : (s : Sheet) → ((ks : List ℕ) → Obeys s ks → ⊥) → best s ≡ none
-best-empty s f = go (best s) (best-is s)
-  where
-    go : (r : Option (List ℕ)) → IsBest s (Obeys s) r → r ≡ none
-    go none h = refl
-    go (some ks) h = absurd (f ks (h .0))
-
--- THE CALL on a sheet that it takes
-stage : (f k w o n : ℕ) (b : Bool) → f ≡ 0 → w ≤ k → n ≤ o →
-    _≡_ {A = ℕ} (cond (not (eqb f 0)) f (cond (ltb k w) 8 (cond (ltb o n) 9 (cond b 10 0)))) (cond b 10 0)
-stage f k w o n b p q r = rw (eq-eqb f 0 p, le-ltb k w q, le-ltb o n r)
-
-pub fault-is : (ws k o : List ℕ) → takesSheet ws k o → makeFault ws k o ≡ cond (isNone (best (sheetIn ws))) 10 0
-fault-is ws k o (a, f, w, n) =
-    stage (sheetFault ws) (length k) (workFor (sheetIn ws)) (length o) (length (sheetIn ws .sites) + 1) (isNone (best (sheetIn ws))) f w n
-
--- what a call does, by what is best
-pub record Called (ws k o : List ℕ) (b : Option (List ℕ)) : Type 0 where
-  pub fault : makeFault ws k o ≡ cond (isNone b) 10 0
-  pub work : makeWork ws k o ≡ replicate (workFor (sheetIn ws)) 0 ++ drop (workFor (sheetIn ws)) k
-  pub answer : makeAnswer ws k o ≡ cond (isNone b) o (answerBy (sheetIn ws) b ++ drop (length (sheetIn ws .sites) + 1) o)
-
-pub called : (ws k o : List ℕ) → takesSheet ws k o → Called ws k o (best (sheetIn ws))
-called ws k o t = go (best (sheetIn ws)) refl (fault-is ws k o t)
-  where
-    cleared : List ℕ
-    cleared = replicate (workFor (sheetIn ws)) 0 ++ drop (workFor (sheetIn ws)) k
-
-    rest : List ℕ
-    rest = drop (length (sheetIn ws .sites) + 1) o
-
-    go : (b : Option (List ℕ)) → best (sheetIn ws) ≡ b → makeFault ws k o ≡ cond (isNone b) 10 0 → Called ws k o b
-    go none e f =
-        record {
-          fault = f;
-          work = ap (λ (n : ℕ). cond (eqb n 0 || eqb n 10) cleared k) f;
-          answer = ap (λ (n : ℕ). cond (eqb n 0) (answer (sheetIn ws) ++ rest) o) f;
-        }
-    go (some js) e f =
-        record {
-          fault = f;
-          work = ap (λ (n : ℕ). cond (eqb n 0 || eqb n 10) cleared k) f;
-          answer = ap₂ (λ (n : ℕ) (b : Option (List ℕ)). cond (eqb n 0) (answerBy (sheetIn ws) b ++ rest) o) f e;
-        }
-
--- on success the answer area begins with the answer
-pub length-answer : (s : Sheet) (js : List ℕ) → Obeys s js → length (answerOf s js) ≡ length (s .sites) + 1
-length-answer s js j = more (length (tieWords js)) (length (s .sites)) (length-tieWords js ∙ j .long)
-  where
-    more : (a b : ℕ) → a ≡ b → suc a ≡ b + 1
-    more a b e = omega arith
-
-pub begun-is : (ws k o js : List ℕ) → Called ws k o (some js) → Obeys (sheetIn ws) js → begun ws k o ≡ answerOf (sheetIn ws) js
-begun-is ws k o js c j =
-    ap (take (length (sheetIn ws .sites) + 1)) (c .answer) ∙
-    take-at (answerOf (sheetIn ws) js) (drop (length (sheetIn ws .sites) + 1) o) (length (sheetIn ws .sites) + 1) (length-answer (sheetIn ws) js j)
+use Rattle.labelling.proofs.Best.{Obeys, IsBest, best-is}
+use Rattle.sheet.proofs.Accepted.{Sound, sound}
+use Rattle.labelling.proofs.Words.{Written, lawful-obeys, obeys-lawful, answer-words, answer-ties, answer-count, answer-length, same-self}
+use Rattle.labelling.proofs.Answer.{obeys-same}
+use Rattle.labelling.proofs.Maker.{Called, called, begun-is, length-answer, cleared, Outcome, outcome}
 
 -- AREAS
-pub areas-kept : AreasKept
-areas-kept ws k o l p t u = go (best (sheetIn ws)) (best-is (sheetIn ws)) (called ws k o t) (called ws l p u)
+contents-unread : ContentsUnread
+contents-unread ws k o l p t u = go (best (sheetIn ws)) (best-is (sheetIn ws)) (called ws k o (t .1, t .2, t .3)) (called ws l p (u .1, u .2, u .3))
   where
     n : ℕ
     n = length (sheetIn ws .sites) + 1
@@ -124,39 +57,35 @@ areas-kept ws k o l p t u = go (best (sheetIn ws)) (best-is (sheetIn ws)) (calle
       ap (drop w) (c .work) ∙ drop-at (replicate w 0) (drop w k) w (length-replicate w 0),
     )
 
--- THE JUDGE
-no-eight : (z : ℕ) (ws bs : List ℕ) → inOrder z ws ≡ true → kindOf (getD bs 0 0) ≡ 8 → 0 < length bs → sheetPart (ws ++ bs) ≡ ws
-unfolding sheetPart
-no-eight z [] [] h k l = refl
-no-eight z [] (b ∷ bs) h k l = rw (eq-eqb (kindOf b) 8 k)
-no-eight z (w ∷ ws) bs h k l = go (step z w ws h .1) (λ y i. no-eight y ws bs i k l)
+-- an area whose first words are written anew keeps its length
+same-length : (b o : List ℕ) (n : ℕ) → length b ≡ n → n ≤ length o → length (b ++ drop n o) ≡ length o
+same-length b o n l h = length-front o b n (l ∙ sym (length-take-le n o h))
+
+refused-unchanged : RefusedUnchanged
+refused-unchanged ws k o = go (outcome ws k o)
   where
-    go : Step z w ws → ((y : ℕ) → inOrder y ws ≡ true → sheetPart (ws ++ bs) ≡ ws) → cond (eqb (kindOf w) 8) [] (w ∷ sheetPart (ws ++ bs)) ≡ w ∷ ws
-    go (Step.slot e q i) ih = rw (ne-eqb (kindOf w) 8 (λ q. omega arith), ih 0 i)
-    go (Step.colour e i) ih = rw (ne-eqb (kindOf w) 8 (λ q. omega arith), ih 1 i)
-    go (Step.site e q i) ih = rw (ne-eqb (kindOf w) 8 (λ q. omega arith), ih 1 i)
+    w : ℕ
+    w = workFor (sheetIn ws)
 
--- an accepted sheet before a layout is the sheet part
-pub sheet-part : (ws b : List ℕ) → sheetFault ws ≡ 0 → isLayout (sheetIn ws) b ≡ true → sheetPart (ws ++ b) ≡ ws
-unfolding sheetPart
-sheet-part [] b h l = absurd (omega arith)
-sheet-part (w ∷ ws) b h l =
-    let u : Unrefused (w ∷ ws) = unrefused (w ∷ ws) h in
-    let f : Formed (sheetIn (w ∷ ws)) b = formed (sheetIn (w ∷ ws)) b l in
-    let k : kindOf w ≡ 1 = eqb-true (kindOf w) 1 (and-r (ltb 0 (length (w ∷ ws))) _ (and-l _ _ (and-l _ _ (u .head)))) in
-    rw (ne-eqb (kindOf w) 8 (λ q. omega arith), no-eight 0 ws b (u .order) (f .kind) (omega (arith, f .long)))
+    clear : w ≤ length k → length (cleared ws k) ≡ length k
+    clear h = same-length (replicate w 0) k w (length-replicate w 0) h
 
-pub judged-so : JudgedSo
-judged-so ws b aw ab h l =
-    let e : sheetPart (ws ++ b) ≡ ws = sheet-part ws b h l in
-    let d : layoutPart (ws ++ b) ≡ b = ap (λ (v : List ℕ). drop (length v) (ws ++ b)) e ∙ drop-append-seam ws b in (
-      ap₂ (λ (v c : List ℕ). cond (not (eqb (sheetFault v) 0)) (sheetFault v) (cond (isLayout (sheetIn v) c) 0 11)) e d ∙
-          fine (sheetFault ws) (isLayout (sheetIn ws) b) h l,
-      ap₂ (λ (v c : List ℕ). brokenBy (sheetIn v) c) e d,
+    go : Outcome ws k o →
+        (0 < makeFault ws k o → makeFault ws k o < 10 → (makeAnswer ws k o ≡ o) × (makeWork ws k o ≡ k)) ×
+        (makeFault ws k o ≡ 10 → makeAnswer ws k o ≡ o) ×
+        (length (makeAnswer ws k o) ≡ length o) × (length (makeWork ws k o) ≡ length k)
+    go (Outcome.refused n l u r) = ((λ p q. (r .out-is, r .work-is)), (λ e. r .out-is), ap length (r .out-is), ap length (r .work-is))
+    go (Outcome.none-lawful v e r) =
+        ((λ p q. absurd (omega (arith, r .fault-is))), (λ e. r .out-is), ap length (r .out-is), ap length (r .work-is) ∙ clear (v .1))
+    go (Outcome.laid-out js v e b r) = (
+      (λ p q. absurd (omega (arith, r .fault-is))),
+      (λ e. absurd (omega (arith, r .fault-is))),
+      ap length (r .out-is) ∙ same-length (answerOf (sheetIn ws) js) o _ (length-answer (sheetIn ws) js b) (v .2),
+      ap length (r .work-is) ∙ clear (v .1),
     )
-  where
-    fine : (f : ℕ) (t : Bool) → f ≡ 0 → t ≡ true → _≡_ {A = ℕ} (cond (not (eqb f 0)) f (cond t 0 11)) 0
-    fine f t p q = rw (eq-eqb f 0 p, q)
+
+pub areas-kept : AreasKept
+areas-kept = (contents-unread, refused-unchanged)
 
 -- BEST OF ALL
 beaten-is : (s : Sheet) → Sound s → (js ks : List ℕ) → Obeys s js → Obeys s ks →
@@ -183,7 +112,7 @@ beats s o js h b l d =
     (subst⁻¹ (λ (v : List ℕ). same b v ≡ false) (w .written ∙ ap (answerOf s) (obeys-same s o ks js (w .obeys) (h .0) (h .1 ks (w .obeys)) e)) d))
 
 pub best-of-all : BestOfAll
-best-of-all ws k o t = go (best (sheetIn ws)) (best-is (sheetIn ws)) (called ws k o t)
+best-of-all ws k o t = go (best (sheetIn ws)) (best-is (sheetIn ws)) (called ws k o (t .1, t .2, t .3))
   where
     s : Sheet
     s = sheetIn ws

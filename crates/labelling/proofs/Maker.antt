@@ -1,36 +1,79 @@
--- What a maker has to show, case by case, to meet makeFault, makeAnswer and makeWork.
+-- THE CALL: what it gives and leaves, by its outcome; what a maker has to show to meet makeFault, makeAnswer and makeWork.
 -- Assumes nothing.
-use mathlib.Core.Path.{_≡_, refl, sym, _∙_, ap, ap₂, subst, subst⁻¹}
-use mathlib.Core.Logic.{_↔_}
-use mathlib.Core.Bool.{Bool, true, false, _&&_, _||_, not, true≢false, false≢true, cond}
-use mathlib.Core.List.{List, [], _∷_, _++_}
+pub use Rattle.labelling.proofs.Answer.{First, best-some-iff, best-none-iff}
+use mathlib.Core.Path.{_≡_, refl, _∙_, ap, ap₂, subst}
+use mathlib.Core.Bool.{Bool, true, false, _||_, not, cond}
+use mathlib.Core.List.{List, [], _++_}
 use mathlib.Core.Option.{Option, none, some}
-use Prim.Native.Nat.{ℕ, zero, suc, _+_, _*_, _-_, _≤_, _<_}
+use Prim.Native.Nat.{ℕ, suc, _+_, _≤_, _<_}
 use native.Mathlib.Omega.{arith}
-use lib.Dec.{ltb, leb, eqb}
-use lib.ListN.{length, getD, take, drop, replicate}
-use borrow.Author.Tests.{ltb-true, ltb-false, leb-true, leb-false, eqb-true, eqb-false, lt-ltb, le-ltb, le-leb, lt-leb, eq-eqb, ne-eqb}
-use Rattle.sheet.specs.Sheet.{all, Sheet, sheetIn, isHead, inOrder, countsFit, rising, insideBy, ranksDiffer, productOf, sheetFault, workFor}
-use Rattle.labelling.specs.Layout.{isBetter, best, answer, answerOf, answerBy}
+use lib.Dec.{ltb, eqb}
+use lib.ListN.{length, take, drop, replicate}
+use lib.Seq.{take-at}
+use borrow.Author.Tests.{lt-ltb, le-ltb, eq-eqb, ne-eqb}
+use Rattle.sheet.specs.Sheet.{all, isHead, inOrder, countsFit, rising, insideBy, ranksDiffer, productOf, Sheet, sheetIn, sheetFault, workFor}
+use Rattle.labelling.specs.Layout.{tieWords, best, answer, answerOf, answerBy}
 use Rattle.labelling.specs.Entry.{makeFault, makeAnswer, makeWork, isNone}
-use Rattle.labelling.specs.Promise.{takesSheet}
-use Rattle.lists.proofs.Tests.{tests}
-use Rattle.labelling.proofs.Best.{Obeys, best-some, best-none}
-use Rattle.sheet.proofs.Accepted.{Sound, sound}
-use Rattle.labelling.proofs.Kept.{Called, called, best-unique, best-empty}
+use Rattle.labelling.specs.Promise.{takesSheet, begun}
+use Rattle.lists.proofs.Tests.{by-order, by-equal}
+use Rattle.labelling.proofs.Best.{Obeys, IsBest, best-is}
+use Rattle.sheet.proofs.Accepted.{sound}
+use Rattle.labelling.proofs.Words.{length-tieWords}
+use Rattle.labelling.proofs.Answer.{best-unique, best-empty}
 
--- js obeys rules 1 to 5 and none that does is better
-pub record First (s : Sheet) (js : List ℕ) : Type 0 where
-  pub obeys : Obeys s js
-  pub least : (ks : List ℕ) → Obeys s ks → isBetter s ks js ≡ false
+-- THE CALL on a sheet that it takes
+stage : (f k w o n : ℕ) (b : Bool) → f ≡ 0 → w ≤ k → n ≤ o →
+    _≡_ {A = ℕ} (cond (not (eqb f 0)) f (cond (ltb k w) 8 (cond (ltb o n) 9 (cond b 10 0)))) (cond b 10 0)
+stage f k w o n b p q r = rw (eq-eqb f 0 p, le-ltb k w q, le-ltb o n r)
 
--- THE CHARACTERISATION
-pub best-some-iff : (s : Sheet) → Sound s → (js : List ℕ) → (best s ≡ some js) ↔ First s js
-best-some-iff s o js =
-    ((λ e. let t = best-some s js e in record { obeys = t .0; least = t .1 }), λ f. best-unique s o js (f .obeys) (f .least))
+-- the sheet is accepted and the areas are long enough
+abbrev pub Serves : (sheet work out : List ℕ) → Type 0
+Serves ws k o = (sheetFault ws ≡ 0) × (workFor (sheetIn ws) ≤ length k) × (length (sheetIn ws .sites) + 1 ≤ length o)
 
-pub best-none-iff : (s : Sheet) → (best s ≡ none) ↔ ((ks : List ℕ) → Obeys s ks → ⊥)
-best-none-iff s = (best-none s, best-empty s)
+pub fault-is : (ws k o : List ℕ) → Serves ws k o → makeFault ws k o ≡ cond (isNone (best (sheetIn ws))) 10 0
+fault-is ws k o (f, w, n) =
+    stage (sheetFault ws) (length k) (workFor (sheetIn ws)) (length o) (length (sheetIn ws .sites) + 1) (isNone (best (sheetIn ws))) f w n
+
+-- what a call does, by what is best
+pub record Called (ws k o : List ℕ) (b : Option (List ℕ)) : Type 0 where
+  pub fault : makeFault ws k o ≡ cond (isNone b) 10 0
+  pub work : makeWork ws k o ≡ replicate (workFor (sheetIn ws)) 0 ++ drop (workFor (sheetIn ws)) k
+  pub answer : makeAnswer ws k o ≡ cond (isNone b) o (answerBy (sheetIn ws) b ++ drop (length (sheetIn ws .sites) + 1) o)
+
+pub called : (ws k o : List ℕ) → Serves ws k o → Called ws k o (best (sheetIn ws))
+called ws k o t = go (best (sheetIn ws)) refl (fault-is ws k o t)
+  where
+    cleared : List ℕ
+    cleared = replicate (workFor (sheetIn ws)) 0 ++ drop (workFor (sheetIn ws)) k
+
+    rest : List ℕ
+    rest = drop (length (sheetIn ws .sites) + 1) o
+
+    go : (b : Option (List ℕ)) → best (sheetIn ws) ≡ b → makeFault ws k o ≡ cond (isNone b) 10 0 → Called ws k o b
+    go none e f =
+        record {
+          fault = f;
+          work = ap (λ (n : ℕ). cond (eqb n 0 || eqb n 10) cleared k) f;
+          answer = ap (λ (n : ℕ). cond (eqb n 0) (answer (sheetIn ws) ++ rest) o) f;
+        }
+    go (some js) e f =
+        record {
+          fault = f;
+          work = ap (λ (n : ℕ). cond (eqb n 0 || eqb n 10) cleared k) f;
+          answer = ap₂ (λ (n : ℕ) (b : Option (List ℕ)). cond (eqb n 0) (answerBy (sheetIn ws) b ++ rest) o) f e;
+        }
+
+-- on success the answer area begins with the answer
+pub length-answer : (s : Sheet) (js : List ℕ) → Obeys s js → length (answerOf s js) ≡ length (s .sites) + 1
+length-answer s js j = more (length (tieWords js)) (length (s .sites)) (length-tieWords js ∙ j .long)
+  where
+    more : (a b : ℕ) → a ≡ b → suc a ≡ b + 1
+    more a b e = omega arith
+
+pub begun-is : (ws k o js : List ℕ) → Called ws k o (some js) → Obeys (sheetIn ws) js → begun ws k o ≡ answerOf (sheetIn ws) js
+begun-is ws k o js c j =
+    ap (take (length (sheetIn ws .sites) + 1)) (c .answer) ∙
+    take-at (answerOf (sheetIn ws) js) (drop (length (sheetIn ws .sites) + 1) o) (length (sheetIn ws .sites) + 1) (length-answer (sheetIn ws) js j)
 
 -- THE CALL, by its outcome
 pub record Result (ws k o : List ℕ) (fault : ℕ) (out work : List ℕ) : Type 0 where
@@ -44,12 +87,12 @@ cleared ws k = replicate (workFor (sheetIn ws)) 0 ++ drop (workFor (sheetIn ws))
 pub made : (ws k o js : List ℕ) → takesSheet ws k o → First (sheetIn ws) js →
     Result ws k o 0 (answerOf (sheetIn ws) js ++ drop (length (sheetIn ws .sites) + 1) o) (cleared ws k)
 made ws k o js t f =
-    let c : Called ws k o (some js) = subst (Called ws k o) (best-unique (sheetIn ws) (sound ws (t .1)) js (f .obeys) (f .least)) (called ws k o t) in
+    let c : Called ws k o (some js) = subst (Called ws k o) (best-unique (sheetIn ws) (sound ws (t .1)) js (f .obeys) (f .least)) (called ws k o (t .1, t .2, t .3)) in
     record { fault-is = c .fault; out-is = c .answer; work-is = c .work }
 
 pub unmade : (ws k o : List ℕ) → takesSheet ws k o → ((ks : List ℕ) → Obeys (sheetIn ws) ks → ⊥) → Result ws k o 10 o (cleared ws k)
 unmade ws k o t f =
-    let c : Called ws k o none = subst (Called ws k o) (best-empty (sheetIn ws) f) (called ws k o t) in
+    let c : Called ws k o none = subst (Called ws k o) (best-empty (sheetIn ws) f) (called ws k o (t .1, t .2, t .3)) in
     record { fault-is = c .fault; out-is = c .answer; work-is = c .work }
 
 -- a refusal 1 to 9 changes nothing
@@ -96,3 +139,24 @@ refused-out ws k o e w l =
   where
     third : (f a b c d r : ℕ) → f ≡ 0 → b ≤ a → c < d → cond (not (eqb f 0)) f (cond (ltb a b) 8 (cond (ltb c d) 9 r)) ≡ 9
     third f a b c d r e w l = rw (eq-eqb f 0 e, le-ltb a b w, lt-ltb c d l)
+
+-- EVERY CALL comes out in one of three ways
+pub data Outcome (ws k o : List ℕ) : Type 0 where
+  refused : (n : ℕ) → 0 < n → n < 10 → Result ws k o n o k → Outcome ws k o
+  none-lawful : Serves ws k o → best (sheetIn ws) ≡ none → Result ws k o 10 o (cleared ws k) → Outcome ws k o
+  laid-out : (js : List ℕ) → Serves ws k o → best (sheetIn ws) ≡ some js → Obeys (sheetIn ws) js →
+      Result ws k o 0 (answerOf (sheetIn ws) js ++ drop (length (sheetIn ws .sites) + 1) o) (cleared ws k) → Outcome ws k o
+
+pub outcome : (ws k o : List ℕ) → Outcome ws k o
+outcome ws k o =
+    by-equal (sheetFault ws) 0
+    (λ f. by-order (workFor (sheetIn ws)) (length k)
+    (λ w. by-order (length (sheetIn ws .sites) + 1) (length o)
+    (λ n. go (f, w, n) (best (sheetIn ws)) refl (best-is (sheetIn ws)) (called ws k o (f, w, n)))
+    (λ n. Outcome.refused 9 (omega arith) (omega arith) (refused-out ws k o f w n)))
+    (λ w. Outcome.refused 8 (omega arith) (omega arith) (refused-work ws k o f w)))
+    (λ f. Outcome.refused (sheetFault ws) (omega arith) (omega (arith, fault-seven ws)) (refused-sheet ws k o (omega arith)))
+  where
+    go : Serves ws k o → (b : Option (List ℕ)) → best (sheetIn ws) ≡ b → IsBest (sheetIn ws) (Obeys (sheetIn ws)) b → Called ws k o b → Outcome ws k o
+    go v none e h c = Outcome.none-lawful v e (record { fault-is = c .fault; out-is = c .answer; work-is = c .work })
+    go v (some js) e h c = Outcome.laid-out js v e (h .0) (record { fault-is = c .fault; out-is = c .answer; work-is = c .work })

@@ -1,17 +1,18 @@
 -- `all`, `isUsed` (membership of numbers) and `tiedOf` by places; the used slots; the left end.
 -- Assumes nothing.
-use mathlib.Core.Path.{_≡_, refl, sym, _∙_, ap, ap₂, subst}
+use mathlib.Core.Path.{_≡_, refl, sym, ap, subst, subst⁻¹}
 use mathlib.Core.Logic.{_⊎_, inl, inr}
-use mathlib.Core.Bool.{Bool, true, false, _&&_, _||_, not, true≢false, false≢true, cond}
-use mathlib.Core.List.{List, [], _∷_, _++_}
-use Prim.Native.Nat.{ℕ, zero, suc, _+_, _*_, _-_, _≤_, _<_}
+use mathlib.Core.Bool.{Bool, true, false, false≢true, cond}
+use mathlib.Core.List.{List, [], _∷_}
+use Prim.Native.Nat.{ℕ, zero, suc, _+_, _≤_, _<_}
 use native.Mathlib.Omega.{arith}
-use lib.Dec.{ltb, leb, eqb}
+use lib.Dec.{ltb, eqb}
 use lib.ListN.{length, getD}
-use borrow.Author.Tests.{ltb-true, ltb-false, leb-true, leb-false, eqb-true, eqb-false, lt-ltb, le-ltb, le-leb, lt-leb, eq-eqb, ne-eqb}
+use borrow.Author.Tests.{ltb-true, eqb-true, lt-ltb, eq-eqb}
 use Rattle.sheet.specs.Sheet.{all, Site, Sheet, rising}
-use Rattle.labelling.specs.Layout.{Tied, tiedOf, tied, isUsed, usedFrom, usedOf, least, leastX, leftEnd}
-use Rattle.lists.proofs.Tests.{clash, by-test, and-l, and-r, and-i, or-e, or-l, or-r, is-false, is-true, not-f, not-e, tests, eqb-self}
+pub use Rattle.labelling.specs.Layout.{noSite}
+use Rattle.labelling.specs.Layout.{Tied, tieAt, tiedOf, tied, isUsed, usedFrom, least, leastX}
+use Rattle.lists.proofs.Tests.{by-test, and-l, and-r, and-i, or-e, tests, eqb-self}
 
 -- ALL, by places
 module _ {A : Type 0} (f : A → Bool) (d : A) where
@@ -131,9 +132,6 @@ length-tied [] js l = refl
 length-tied (s ∷ ss) [] l = absurd (omega arith)
 length-tied (s ∷ ss) (j ∷ js) l = ap suc (length-tied ss js (omega arith))
 
-abbrev pub noSite : Site
-noSite = record { x = 0; y = 0; colour = 0 }
-
 abbrev pub noTied : Tied
 noTied = record { site = noSite; slot = 0 }
 
@@ -144,6 +142,15 @@ tied-at [] (j ∷ js) i l = absurd (omega arith)
 tied-at (s ∷ ss) [] i l = absurd (omega arith)
 tied-at (s ∷ ss) (j ∷ js) zero l = refl
 tied-at (s ∷ ss) (j ∷ js) (suc i) l = tied-at ss js i (omega arith)
+
+-- a test of each tied site
+pub each : (s : Sheet) (js : List ℕ) → length js ≡ length (s .sites) → (f : Tied → Bool) → all f (tied s js) ≡ true → (i : ℕ) → i < length (s .sites) → f (tieAt s js i) ≡ true
+each s js long f h i l =
+    subst (λ (t : Tied). f t ≡ true) (tied-at (s .sites) js i long) (all-at f noTied (tied s js) h i (omega (arith, length-tied (s .sites) js long)))
+
+pub every : (s : Sheet) (js : List ℕ) → length js ≡ length (s .sites) → (f : Tied → Bool) → ((i : ℕ) → i < length (s .sites) → f (tieAt s js i) ≡ true) → all f (tied s js) ≡ true
+every s js long f h =
+    at-all f noTied (tied s js) λ i l. subst⁻¹ (λ (t : Tied). f t ≡ true) (tied-at (s .sites) js i long) (h i (omega (arith, length-tied (s .sites) js long)))
 
 -- THE LEAST X of a slot: at most the width and each of its sites' x; the width, or one of them
 pub least-le : (a b : ℕ) → (least a b ≤ a) × (least a b ≤ b)

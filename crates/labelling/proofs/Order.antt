@@ -1,17 +1,16 @@
 -- The order of layouts: number, number, list. Abstract in what is compared.
 -- Assumes nothing.
-use mathlib.Core.Path.{_≡_, refl, sym, _∙_, ap, ap₂, subst}
+use mathlib.Core.Path.{_≡_, refl, sym, ap₂}
 use mathlib.Core.Logic.{_⊎_, inl, inr}
-use mathlib.Core.Bool.{Bool, true, false, _&&_, _||_, not, true≢false, false≢true}
-use mathlib.Core.List.{List, [], _∷_, _++_}
-use Prim.Native.Nat.{ℕ, zero, suc, _+_, _*_, _-_, _≤_, _<_}
+use mathlib.Core.Bool.{Bool, true, false, _&&_, _||_, false≢true}
+use mathlib.Core.List.{List, [], _∷_}
+use Prim.Native.Nat.{ℕ, _≤_, _<_}
 use native.Mathlib.Omega.{arith}
-use lib.Dec.{ltb, leb, eqb}
+use lib.Dec.{ltb, eqb}
 use lib.ListN.{length}
-use borrow.Author.Tests.{ltb-true, ltb-false, leb-true, leb-false, eqb-true, eqb-false, lt-ltb, le-ltb, le-leb, lt-leb, eq-eqb, ne-eqb}
-use Rattle.sheet.specs.Sheet.{all}
+use borrow.Author.Tests.{ltb-true, ltb-false, eqb-true, lt-ltb, le-ltb, eq-eqb}
 use Rattle.labelling.specs.Layout.{comesFirst}
-use Rattle.lists.proofs.Tests.{clash, by-test, and-l, and-r, and-i, or-e, or-l, or-r, is-false, is-true, tests}
+use Rattle.lists.proofs.Tests.{clash, and-l, and-r, and-i, or-e, or-l, or-r, is-false, tests}
 
 -- one step of a lexicographic order
 abbrev pub lexb : (one other : ℕ) → (rest : Bool) → Bool

@@ -1,61 +1,24 @@
--- Rules 1 to 5 as statements about every site and every used slot, and `brokenIn s js ≡ 0` as all of them.
+-- Each test of rules 1 to 5 is the rule as a statement, and `brokenIn s js ≡ 0` is all of them.
 -- Assumes nothing.
-use mathlib.Core.Path.{_≡_, refl, sym, _∙_, ap, ap₂, subst, subst⁻¹}
-use mathlib.Core.Logic.{_⊎_, inl, inr}
+use mathlib.Core.Path.{_≡_, refl, subst}
+use mathlib.Core.Logic.{_⊎_, inl, inr, _↔_}
 use mathlib.Core.Bool.{Bool, true, false, _&&_, _||_, not, true≢false, false≢true, cond}
-use mathlib.Core.List.{List, [], _∷_, _++_}
-use Prim.Native.Nat.{ℕ, zero, suc, _+_, _*_, _-_, _≤_, _<_, min, max}
+use mathlib.Core.List.{List, [], _∷_}
+use Prim.Native.Nat.{ℕ, zero, suc, _+_, _≤_, _<_, min, max}
 use native.Mathlib.Omega.{arith}
 use lib.Dec.{ltb, leb, eqb}
 use lib.ListN.{length, getD}
-use borrow.Author.Tests.{ltb-true, ltb-false, leb-true, leb-false, eqb-true, eqb-false, lt-ltb, le-ltb, le-leb, lt-leb, eq-eqb, ne-eqb}
-use Rattle.sheet.specs.Sheet.{all, Site, Colour, Sheet, rising}
-use Rattle.labelling.specs.Layout.{Tied, tiedOf, tied, apart, heightOf, isUsed, usedFrom, usedOf, least, leastX, leftEnd, colourKept, coloursOf, coloursKept, slotsOf, boundsKept, noColour, isFar, gapKept, gapsOf, gapsKept, isOver, verticalHas, misses, missesAll, clears, clearsAll, brokenIn}
-use Rattle.lists.proofs.Tests.{clash, by-test, and-l, and-r, and-i, or-e, or-l, or-r, is-false, is-true, not-f, not-e, tests, eqb-self}
-use Rattle.labelling.proofs.Members.{all-at, at-all, all-used, used-all, used-head, used-tail, used-from, from-used, used-at, at-used, head-rise, tail-rise, used-rise, length-tied, tied-at, noSite, noTied}
+use borrow.Author.Tests.{ltb-true, leb-true, leb-false, eqb-true, eqb-false, le-leb, lt-leb, eq-eqb, ne-eqb}
+use Rattle.sheet.specs.Sheet.{all, Colour, Sheet}
+pub use Rattle.labelling.specs.Layout.{siteAt}
+pub use Rattle.labelling.specs.Lawful.{Bounded, Rules}
+use Rattle.labelling.specs.Lawful.{RuleOne, RuleTwo, RuleThree, Miss, RuleFour, Counted, RuleFive}
+use Rattle.labelling.specs.Layout.{Tied, tieAt, tied, heightOf, isUsed, usedOf, least, leftEnd, colourKept, coloursOf, coloursKept, slotsOf, boundsKept, noColour, isFar, gapKept, gapsOf, gapsKept, verticalHas, misses, missesAll, reaches, counts, isClear, clears, clearsAll, brokenIn}
+use Rattle.lists.proofs.Tests.{by-test, and-l, and-r, and-i, or-e, is-false, not-f, not-e, tests}
+use Rattle.labelling.proofs.Members.{each, every, all-used, used-all, used-from, from-used}
 use Rattle.labelling.proofs.Best.{below, Obeys}
 
--- THE CHAIN
-chain : (a b c d e : Bool) → _≡_ {A = ℕ} (cond (not a) 1 (cond (not b) 2 (cond (not c) 3 (cond (not d) 4 (cond (not e) 5 0))))) 0 →
-    (a ≡ true) × (b ≡ true) × (c ≡ true) × (d ≡ true) × (e ≡ true)
-chain true true true true true h = (refl, refl, refl, refl, refl)
-chain true true true true false h = absurd (omega arith)
-chain true true true false e h = absurd (omega arith)
-chain true true false d e h = absurd (omega arith)
-chain true false c d e h = absurd (omega arith)
-chain false b c d e h = absurd (omega arith)
-
-unchain : (a b c d e : Bool) → a ≡ true → b ≡ true → c ≡ true → d ≡ true → e ≡ true →
-    _≡_ {A = ℕ} (cond (not a) 1 (cond (not b) 2 (cond (not c) 3 (cond (not d) 4 (cond (not e) 5 0))))) 0
-unchain a b c d e p q r s t = rw (p, q, r, s, t)
-
--- the five tests, as they stand
-pub record Kept (s : Sheet) (js : List ℕ) : Type 0 where
-  pub agree : coloursKept (tied s js) ≡ true
-  pub bounds : boundsKept s js 0 (s .colours) ≡ true
-  pub gaps : gapsKept s (tied s js) ≡ true
-  pub miss : all (missesAll s js) (tied s js) ≡ true
-  pub clear : all (clearsAll s js) (tied s js) ≡ true
-
-pub kept : (s : Sheet) (js : List ℕ) → brokenIn s js ≡ 0 → Kept s js
-kept s js h =
-    let t = chain (coloursKept (tied s js)) (boundsKept s js 0 (s .colours)) (gapsKept s (tied s js)) (all (missesAll s js) (tied s js))
-    (all (clearsAll s js) (tied s js)) h in
-    record { agree = t .0; bounds = t .1; gaps = t .2; miss = t .3; clear = t .4 }
-
-pub unbroken : (s : Sheet) (js : List ℕ) → Kept s js → brokenIn s js ≡ 0
-unbroken s js k =
-    unchain (coloursKept (tied s js)) (boundsKept s js 0 (s .colours)) (gapsKept s (tied s js)) (all (missesAll s js) (tied s js))
-    (all (clearsAll s js) (tied s js)) (k .agree) (k .bounds) (k .gaps) (k .miss) (k .clear)
-
--- 1
-abbrev pub siteAt : Sheet → ℕ → Site
-siteAt s i = getD (s .sites) i noSite
-
--- 2
-abbrev pub Bounded : Sheet → List ℕ → (colour : ℕ) → Colour → Type 0
-Bounded s js c k = (k .bound ≡ 255) ⊎ (length (usedOf s (slotsOf c (tied s js))) ≤ k .bound)
-
+-- rule 2, colour by colour
 bounds-each : (s : Sheet) (js : List ℕ) (c : ℕ) (ks : List Colour) → boundsKept s js c ks ≡ true → (i : ℕ) → i < length ks → Bounded s js (c + i) (getD ks i noColour)
 unfolding boundsKept
 bounds-each s js c [] h i l = absurd (omega arith)
@@ -86,17 +49,15 @@ each-bounds s js c (k ∷ ks) f =
     go (inl e) = rw (eq-eqb (k .bound) 255 e)
     go (inr e) = by-test (eqb (k .bound) 255) (λ f. rw f) λ f. rw (f, le-leb (length (usedOf s (slotsOf c (tied s js)))) (k .bound) e)
 
--- 4 and 5
+-- a site counts: what the test says; and it counts against a label further left too
+pub counts-e : (s : Sheet) (e x : ℕ) → counts s e x ≡ true → Counted s e x
+counts-e s e x h = leb-true e x h
 
-pub record Rules (s : Sheet) (js : List ℕ) : Type 0 where
-  pub one : (i j : ℕ) → i < length (s .sites) → j < length (s .sites) → getD js i 0 ≡ getD js j 0 → (siteAt s i) .colour ≡ (siteAt s j) .colour
-  pub two : (c : ℕ) → c < length (s .colours) → Bounded s js c (getD (s .colours) c noColour)
-  pub three : (i j : ℕ) → i < length (s .sites) → j < length (s .sites) → (getD js i 0 ≡ getD js j 0 → ⊥) →
-      isFar s (getD js i 0) ((siteAt s i) .colour) (getD js j 0) ((siteAt s j) .colour) ≡ true
-  pub four : (i k : ℕ) → i < length (s .sites) → isUsed k js ≡ true → (getD js i 0 ≡ k → ⊥) → leftEnd s js k ≤ (siteAt s i) .x →
-      (heightOf s k < (siteAt s i) .y × heightOf s k < heightOf s (getD js i 0)) ⊎ ((siteAt s i) .y < heightOf s k × heightOf s (getD js i 0) < heightOf s k)
-  pub five : (i k : ℕ) → i < length (s .sites) → isUsed k js ≡ true → (getD js i 0 ≡ k → ⊥) → leftEnd s js k ≤ (siteAt s i) .x →
-      s .gap ≤ apart (heightOf s k) ((siteAt s i) .y)
+pub counts-i : (s : Sheet) (e x : ℕ) → Counted s e x → counts s e x ≡ true
+counts-i s e x h = le-leb e x h
+
+pub counted-left : (s : Sheet) (d e x : ℕ) → d ≤ e → Counted s e x → Counted s d x
+counted-left s d e x l h = omega arith
 
 -- `least` is min
 pub least-min : (a b : ℕ) → least a b ≡ min a b
@@ -106,14 +67,14 @@ pub most-max : (a b : ℕ) → cond (ltb a b) b a ≡ max a b
 most-max a b = by-test (ltb a b) (λ e. rw e (omega (arith, tests))) (λ e. rw e (omega (arith, tests)))
 
 -- a vertical that misses a height lies on one side of it
-over-false : (y e h : ℕ) → verticalHas y e h ≡ false → (h < y × h < e) ⊎ (y < h × e < h)
+over-false : (y e h : ℕ) → verticalHas y e h ≡ false → Miss h y e
 over-false y e h f =
     by-test (leb (least y e) h)
     (λ p. let q : leb h (cond (ltb y e) e y) ≡ false = rw p at f in
     inr (omega (arith, most-max y e, leb-false h (cond (ltb y e) e y) q), omega (arith, most-max y e, leb-false h (cond (ltb y e) e y) q)))
     λ p. inl (omega (arith, least-min y e, leb-false (least y e) h p), omega (arith, least-min y e, leb-false (least y e) h p))
 
-over-none : (y e h : ℕ) → (h < y × h < e) ⊎ (y < h × e < h) → verticalHas y e h ≡ false
+over-none : (y e h : ℕ) → Miss h y e → verticalHas y e h ≡ false
 over-none y e h (inl p) = rw (lt-leb (least y e) h (omega (arith, least-min y e)))
 over-none y e h (inr p) =
     is-false (verticalHas y e h) λ q.
@@ -127,96 +88,121 @@ used-of s js k b u =
 pub of-used : (s : Sheet) (js : List ℕ) (k : ℕ) → isUsed k (usedOf s js) ≡ true → isUsed k js ≡ true
 of-used s js k u = used-from k 0 (length (s .slots)) js u .2
 
-miss-e : (p a v : Bool) → (p || not (a && v)) ≡ true → p ≡ false → a ≡ true → v ≡ false
-miss-e true a v h f l = absurd (true≢false f)
-miss-e false true v h f l = not-f v h
-miss-e false false v h f l = absurd (false≢true l)
+-- tests with `or` and `not` as implications
+or-iff : (p q : Bool) → ((p || q) ≡ true) ↔ (p ≡ false → q ≡ true)
+or-iff true q = ((λ h e. absurd (true≢false e)), λ f. refl)
+or-iff false q = ((λ h e. h), λ f. f refl)
 
-miss-i : (p a v : Bool) → (p ≡ false → a ≡ true → v ≡ false) → (p || not (a && v)) ≡ true
-miss-i true a v f = refl
-miss-i false true v f = rw (f refl refl)
-miss-i false false v f = refl
+miss-iff : (p a v : Bool) → ((p || not (a && v)) ≡ true) ↔ (p ≡ false → a ≡ true → v ≡ false)
+miss-iff true a v = ((λ h e. absurd (true≢false e)), λ f. refl)
+miss-iff false true v = ((λ h e q. not-f v h), λ f. rw (f refl refl))
+miss-iff false false v = ((λ h e q. absurd (false≢true q)), λ f. refl)
 
-gap-e : (p g : Bool) → (p || g) ≡ true → p ≡ false → g ≡ true
-gap-e true g h f = absurd (true≢false f)
-gap-e false g h f = h
+clear-iff : (p a g : Bool) → ((p || not a || g) ≡ true) ↔ (p ≡ false → a ≡ true → g ≡ true)
+clear-iff true a g = ((λ h e. absurd (true≢false e)), λ f. refl)
+clear-iff false true g = ((λ h e q. h), λ f. f refl refl)
+clear-iff false false g = ((λ h e q. absurd (false≢true q)), λ f. refl)
 
-gap-i : (p g : Bool) → (p ≡ false → g ≡ true) → (p || g) ≡ true
-gap-i true g f = refl
-gap-i false g f = f refl
+-- EACH TEST IS ITS RULE
+module _ (s : Sheet) (js : List ℕ) (long : length js ≡ length (s .sites)) where
+  pub rule-one : (coloursKept (tied s js) ≡ true) ↔ RuleOne s js
+  rule-one = (
+    (λ h i j l u e. eqb-true _ _ (or-iff (not (eqb (getD js i 0) (getD js j 0))) (eqb ((siteAt s i) .colour) ((siteAt s j) .colour)) .0
+        (each s js long (colourKept (tieAt s js i)) (each s js long (coloursOf (tied s js)) h i l) j u) (rw (eq-eqb _ _ e)))),
+    λ r. every s js long (coloursOf (tied s js)) λ i l. every s js long (colourKept (tieAt s js i)) λ j u.
+        or-iff (not (eqb (getD js i 0) (getD js j 0))) (eqb ((siteAt s i) .colour) ((siteAt s j) .colour)) .1 λ n. eq-eqb _ _ (r i j l u (eqb-true _ _ (not-e _ n))),
+  )
 
-clear-e : (p a g : Bool) → (p || not a || g) ≡ true → p ≡ false → a ≡ true → g ≡ true
-clear-e true a g h f l = absurd (true≢false f)
-clear-e false true g h f l = h
-clear-e false false g h f l = absurd (false≢true l)
+  pub rule-two : (boundsKept s js 0 (s .colours) ≡ true) ↔ RuleTwo s js
+  rule-two = (
+    (λ h c l. subst (λ (n : ℕ). Bounded s js n (getD (s .colours) c noColour)) (omega arith) (bounds-each s js 0 (s .colours) h c l)),
+    λ r. each-bounds s js 0 (s .colours) λ c l. subst (λ (n : ℕ). Bounded s js n (getD (s .colours) c noColour)) (omega arith) (r c l),
+  )
 
-clear-i : (p a g : Bool) → (p ≡ false → a ≡ true → g ≡ true) → (p || not a || g) ≡ true
-clear-i true a g f = refl
-clear-i false true g f = f refl refl
-clear-i false false g f = refl
+  pub rule-three : (gapsKept s (tied s js) ≡ true) ↔ RuleThree s js
+  rule-three = (
+    (λ h i j l u n. or-iff (eqb (getD js i 0) (getD js j 0)) (isFar s (getD js i 0) ((siteAt s i) .colour) (getD js j 0) ((siteAt s j) .colour)) .0
+        (each s js long (gapKept s (tieAt s js i)) (each s js long (gapsOf s (tied s js)) h i l) j u) (ne-eqb _ _ n)),
+    λ r. every s js long (gapsOf s (tied s js)) λ i l. every s js long (gapKept s (tieAt s js i)) λ j u.
+        or-iff (eqb (getD js i 0) (getD js j 0)) (isFar s (getD js i 0) ((siteAt s i) .colour) (getD js j 0) ((siteAt s j) .colour)) .1 λ n. r i j l u (eqb-false _ _ n),
+  )
 
-module _ (s : Sheet) (js : List ℕ) (long : length js ≡ length (s .sites)) (low : below (length (s .slots)) js ≡ true) where
-  tie : ℕ → Tied
-  tie i = record { site = siteAt s i; slot = getD js i 0 }
+  module _ (low : below (length (s .slots)) js ≡ true) where
+    -- a test of every tied site with every used slot
+    by-labels : (f : Tied → ℕ → Bool) → (all (λ t. all (f t) (usedOf s js)) (tied s js) ≡ true) ↔
+        ((i k : ℕ) → i < length (s .sites) → isUsed k js ≡ true → f (tieAt s js i) k ≡ true)
+    by-labels f = (
+      (λ h i k l u. all-used (f (tieAt s js i)) (usedOf s js) (each s js long (λ t. all (f t) (usedOf s js)) h i l) k (used-of s js k low u)),
+      λ r. every s js long (λ t. all (f t) (usedOf s js)) λ i l. used-all (f (tieAt s js i)) (usedOf s js) λ k u. r i k l (of-used s js k u),
+    )
 
-  each : (f : Tied → Bool) → all f (tied s js) ≡ true → (i : ℕ) → i < length (s .sites) → f (tie i) ≡ true
-  unfolding tie
-  each f h i l =
-      subst (λ (t : Tied). f t ≡ true) (tied-at (s .sites) js i long)
-      (all-at f noTied (tied s js) h i (omega (arith, length-tied (s .sites) js long)))
+    pub rule-four : (all (missesAll s js) (tied s js) ≡ true) ↔ RuleFour s js
+    rule-four = (
+      (λ h i k l u n e. over-false (y i) (own i) (heightOf s k)
+          (four i k .0 (by-labels (misses s js) .0 h i k l u) (ne-eqb (getD js i 0) k n) (le-leb (leftEnd s js k) (x i) e))),
+      λ r. by-labels (misses s js) .1 λ i k l u. four i k .1 λ n e. over-none (y i) (own i) (heightOf s k)
+          (r i k l u (eqb-false (getD js i 0) k n) (leb-true (leftEnd s js k) (x i) e)),
+    )
+      where
+        x : ℕ → ℕ
+        x i = (siteAt s i) .x
 
-  every : (f : Tied → Bool) → ((i : ℕ) → i < length (s .sites) → f (tie i) ≡ true) → all f (tied s js) ≡ true
-  unfolding tie
-  every f h =
-      at-all f noTied (tied s js) λ i l.
-      subst⁻¹ (λ (t : Tied). f t ≡ true) (tied-at (s .sites) js i long) (h i (omega (arith, length-tied (s .sites) js long)))
+        y : ℕ → ℕ
+        y i = (siteAt s i) .y
 
-  at : (i : ℕ) → getD (tied s js) i noTied ≡ tie i
-  unfolding tie
-  at i = tied-at (s .sites) js i long
+        own : ℕ → ℕ
+        own i = heightOf s (getD js i 0)
 
-  pub rules : 0 < s .gap → Kept s js → Rules s js
-  unfolding tie
-  rules g k =
-      record {
-        one = λ i j l u e. eqb-true _ _
-            (gap-e (not (eqb (getD js i 0) (getD js j 0))) (eqb ((siteAt s i) .colour) ((siteAt s j) .colour))
-            (each (colourKept (tie i)) (each (coloursOf (tied s js)) (k .agree) i l) j u) (rw (eq-eqb _ _ e)));
-        two = λ c l. subst (λ (n : ℕ). Bounded s js n (getD (s .colours) c noColour)) (omega arith) (bounds-each s js 0 (s .colours) (k .bounds) c l);
-        three = λ i j l u n. gap-e (eqb (getD js i 0) (getD js j 0)) (isFar s (getD js i 0) ((siteAt s i) .colour) (getD js j 0) ((siteAt s j) .colour))
-            (each (gapKept s (tie i)) (each (gapsOf s (tied s js)) (k .gaps) i l) j u) (ne-eqb _ _ n);
-        four = λ i j l u n e. over-false ((siteAt s i) .y) (heightOf s (getD js i 0)) (heightOf s j)
-            (miss-e (eqb (getD js i 0) j) (leb (leftEnd s js j) ((siteAt s i) .x)) (verticalHas ((siteAt s i) .y) (heightOf s (getD js i 0)) (heightOf s j))
-            (all-used (misses s js (tie i)) (usedOf s js) (each (missesAll s js) (k .miss) i l) j (used-of s js j low u))
-            (ne-eqb (getD js i 0) j n) (le-leb (leftEnd s js j) ((siteAt s i) .x) e));
-        five = λ i j l u n e. leb-true (s .gap) (apart (heightOf s j) ((siteAt s i) .y))
-            (clear-e (eqb (getD js i 0) j) (leb (leftEnd s js j) ((siteAt s i) .x)) (leb (s .gap) (apart (heightOf s j) ((siteAt s i) .y)))
-            (all-used (clears s js (tie i)) (usedOf s js) (each (clearsAll s js) (k .clear) i l) j (used-of s js j low u))
-            (ne-eqb (getD js i 0) j n) (le-leb (leftEnd s js j) ((siteAt s i) .x) e));
-      }
+        four : (i k : ℕ) → (misses s js (tieAt s js i) k ≡ true) ↔
+            (eqb (getD js i 0) k ≡ false → reaches (leftEnd s js k) (x i) ≡ true → verticalHas (y i) (own i) (heightOf s k) ≡ false)
+        four i k = miss-iff (eqb (getD js i 0) k) (reaches (leftEnd s js k) (x i)) (verticalHas (y i) (own i) (heightOf s k))
 
-  pub rules-kept : Rules s js → Kept s js
-  unfolding tie
-  rules-kept r =
-      record {
-        agree = every (coloursOf (tied s js)) λ i l. every (colourKept (tie i)) λ j u.
-            gap-i (not (eqb (getD js i 0) (getD js j 0))) (eqb ((siteAt s i) .colour) ((siteAt s j) .colour)) λ n. eq-eqb _ _ (r .one i j l u (eqb-true _ _ (not-e _ n)));
-        bounds = each-bounds s js 0 (s .colours) λ i l. subst (λ (n : ℕ). Bounded s js n (getD (s .colours) i noColour)) (omega arith) (r .two i l);
-        gaps = every (gapsOf s (tied s js)) λ i l. every (gapKept s (tie i)) λ j u.
-            gap-i (eqb (getD js i 0) (getD js j 0)) (isFar s (getD js i 0) ((siteAt s i) .colour) (getD js j 0) ((siteAt s j) .colour)) λ n. r .three i j l u (eqb-false _ _ n);
-        miss = every (missesAll s js) λ i l. used-all (misses s js (tie i)) (usedOf s js) λ j u.
-            miss-i (eqb (getD js i 0) j) (leb (leftEnd s js j) ((siteAt s i) .x)) (verticalHas ((siteAt s i) .y) (heightOf s (getD js i 0)) (heightOf s j))
-            λ n e. over-none ((siteAt s i) .y) (heightOf s (getD js i 0)) (heightOf s j)
-            (r .four i j l (of-used s js j u) (eqb-false (getD js i 0) j n) (leb-true (leftEnd s js j) ((siteAt s i) .x) e));
-        clear = every (clearsAll s js) λ i l. used-all (clears s js (tie i)) (usedOf s js) λ j u.
-            clear-i (eqb (getD js i 0) j) (leb (leftEnd s js j) ((siteAt s i) .x)) (leb (s .gap) (apart (heightOf s j) ((siteAt s i) .y)))
-            λ n e. le-leb (s .gap) (apart (heightOf s j) ((siteAt s i) .y))
-            (r .five i j l (of-used s js j u) (eqb-false (getD js i 0) j n) (leb-true (leftEnd s js j) ((siteAt s i) .x) e));
-      }
+    pub rule-five : (all (clearsAll s js) (tied s js) ≡ true) ↔ RuleFive s js
+    rule-five = (
+      (λ h i k l u n e. leb-true (s .gap) _ (five i k .0 (by-labels (clears s js) .0 h i k l u) (ne-eqb (getD js i 0) k n) (counts-i s (leftEnd s js k) (x i) e))),
+      λ r. by-labels (clears s js) .1 λ i k l u. five i k .1 λ n e. le-leb (s .gap) _ (r i k l u (eqb-false (getD js i 0) k n) (counts-e s (leftEnd s js k) (x i) e)),
+    )
+      where
+        x : ℕ → ℕ
+        x i = (siteAt s i) .x
 
--- `Obeys` and `Rules`
-pub obeys-rules : (s : Sheet) (js : List ℕ) → 0 < s .gap → Obeys s js → Rules s js
-obeys-rules s js g o = rules s js (o .long) (o .low) g (kept s js (o .kept))
+        five : (i k : ℕ) → (clears s js (tieAt s js i) k ≡ true) ↔
+            (eqb (getD js i 0) k ≡ false → counts s (leftEnd s js k) (x i) ≡ true → isClear s k ((siteAt s i) .y) ≡ true)
+        five i k = clear-iff (eqb (getD js i 0) k) (counts s (leftEnd s js k) (x i)) (isClear s k ((siteAt s i) .y))
+
+-- the chain of tests comes to 0 when all hold
+chain-iff : (a b c d e : Bool) → (_≡_ {A = ℕ} (cond (not a) 1 (cond (not b) 2 (cond (not c) 3 (cond (not d) 4 (cond (not e) 5 0))))) 0) ↔
+    ((a ≡ true) × (b ≡ true) × (c ≡ true) × (d ≡ true) × (e ≡ true))
+chain-iff true true true true true = ((λ h. (refl, refl, refl, refl, refl)), λ h. refl)
+chain-iff true true true true false = ((λ h. absurd (omega arith)), λ h. absurd (false≢true (h .4)))
+chain-iff true true true false e = ((λ h. absurd (omega arith)), λ h. absurd (false≢true (h .3)))
+chain-iff true true false d e = ((λ h. absurd (omega arith)), λ h. absurd (false≢true (h .2)))
+chain-iff true false c d e = ((λ h. absurd (omega arith)), λ h. absurd (false≢true (h .1)))
+chain-iff false b c d e = ((λ h. absurd (omega arith)), λ h. absurd (false≢true (h .0)))
+
+broken-iff : (s : Sheet) (js : List ℕ) → (brokenIn s js ≡ 0) ↔
+    ((coloursKept (tied s js) ≡ true) × (boundsKept s js 0 (s .colours) ≡ true) × (gapsKept s (tied s js) ≡ true) ×
+    (all (missesAll s js) (tied s js) ≡ true) × (all (clearsAll s js) (tied s js) ≡ true))
+broken-iff s js =
+    chain-iff (coloursKept (tied s js)) (boundsKept s js 0 (s .colours)) (gapsKept s (tied s js)) (all (missesAll s js) (tied s js)) (all (clearsAll s js) (tied s js))
+
+-- `Obeys` IS `Rules`
+pub obeys-rules : (s : Sheet) (js : List ℕ) → Obeys s js → Rules s js
+obeys-rules s js o =
+    let t = broken-iff s js .0 (o .kept) in
+    record {
+      one = rule-one s js (o .long) .0 (t .0);
+      two = rule-two s js (o .long) .0 (t .1);
+      three = rule-three s js (o .long) .0 (t .2);
+      four = rule-four s js (o .long) (o .low) .0 (t .3);
+      five = rule-five s js (o .long) (o .low) .0 (t .4);
+    }
 
 pub rules-obey : (s : Sheet) (js : List ℕ) → length js ≡ length (s .sites) → below (length (s .slots)) js ≡ true → Rules s js → Obeys s js
-rules-obey s js long low r = record { long = long; low = low; kept = unbroken s js (rules-kept s js long low r) }
+rules-obey s js long low r =
+    record {
+      long = long;
+      low = low;
+      kept = broken-iff s js .1
+          (rule-one s js long .1 (r .one), rule-two s js long .1 (r .two), rule-three s js long .1 (r .three), rule-four s js long low .1 (r .four), rule-five s js long low .1 (r .five));
+    }

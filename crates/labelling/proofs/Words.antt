@@ -1,19 +1,18 @@
 -- Lawful layouts as words are the words of their ties.
 -- Assumes nothing.
-use mathlib.Core.Path.{_≡_, refl, sym, _∙_, ap, ap₂, subst}
-use mathlib.Core.Logic.{_⊎_, inl, inr}
-use mathlib.Core.Bool.{Bool, true, false, _&&_, _||_, not, true≢false, false≢true, cond}
-use mathlib.Core.List.{List, [], _∷_, _++_}
-use Prim.Native.Nat.{ℕ, zero, suc, _+_, _*_, _-_, _/_, _%_, _^_, _≤_, _<_}
+use mathlib.Core.Path.{_≡_, refl, sym, _∙_, ap, ap₂}
+use mathlib.Core.Bool.{Bool, true, false, _&&_, not, cond}
+use mathlib.Core.List.{List, [], _∷_}
+use Prim.Native.Nat.{ℕ, zero, suc, _+_, _*_, _-_, _≤_, _<_}
 use native.Mathlib.Omega.{arith}
-use lib.Dec.{ltb, leb, eqb}
-use lib.ListN.{length, getD, take, drop}
-use borrow.Author.Tests.{ltb-true, ltb-false, leb-true, leb-false, eqb-true, eqb-false, lt-ltb, le-ltb, le-leb, lt-leb, eq-eqb, ne-eqb}
+use lib.Dec.{ltb, eqb}
+use lib.ListN.{length, getD, drop}
+use borrow.Author.Tests.{ltb-true, eqb-true, eqb-false, lt-ltb, eq-eqb}
 use Rattle.sheet.specs.Sheet.{all, kindOf, bits, Site, Sheet}
-use Rattle.labelling.specs.Layout.{Tied, tiedOf, tied, apart, heightOf, siteShare, isUsed, usedFrom, usedOf, leftEnd, countOf, backbones, drops, lengthOf, brokenIn, tieWords, layoutWords, statedCount, statedLength, tiesIn, isTie, isLayout, brokenBy, isLawful, answerOf}
+use Rattle.labelling.specs.Layout.{tiedOf, tied, heightOf, siteShare, isUsed, usedFrom, usedOf, leftEnd, countOf, backbones, drops, lengthOf, brokenIn, tieWords, layoutWords, statedCount, statedLength, tiesIn, isTie, isLayout, brokenBy, isLawful, answerOf}
 use Rattle.labelling.specs.Promise.{areWords, same}
-use Rattle.lists.proofs.Tests.{clash, by-test, and-l, and-r, and-i, or-e, or-l, or-r, is-false, is-true, not-f, not-e, tests, cond-t, cond-f, eqb-self}
-use Rattle.sheet.proofs.Accepted.{Sound, lowX, lowY, lowN}
+use Rattle.lists.proofs.Tests.{by-test, and-l, and-r, and-i, eqb-self}
+use Rattle.sheet.proofs.Accepted.{Sound, lowY, lowN}
 use Rattle.labelling.proofs.Best.{Obeys, below}
 
 -- SIZES
@@ -173,6 +172,14 @@ formed s b h =
 pub form : (s : Sheet) (b : List ℕ) → Formed s b → isLayout s b ≡ true
 form s b f = and-i (and-i (eq-eqb (length b) (length (s .sites) + 1) (f .long)) (eq-eqb (kindOf (getD b 0 0)) 8 (f .kind))) (f .ties)
 
+-- its ties are one a site
+pub formed-long : (s : Sheet) (b : List ℕ) → Formed s b → length (tiesIn (drop 1 b)) ≡ length (s .sites)
+formed-long s [] f = absurd (omega (arith, f .long))
+formed-long s (w ∷ ws) f = length-tiesIn ws ∙ less (length ws) (length (s .sites)) (f .long)
+  where
+    less : (a b : ℕ) → suc a ≡ b + 1 → a ≡ b
+    less a b e = omega arith
+
 -- LAWFUL WORDS and ties that obey
 pub record Written (s : Sheet) (b : List ℕ) : Type 0 where
   pub obeys : Obeys s (tiesIn (drop 1 b))
@@ -184,13 +191,10 @@ pub written : (s : Sheet) (b : List ℕ) → Formed s b → brokenIn s (tiesIn (
 written s [] f z c l = absurd (omega (arith, f .long))
 written s (w ∷ ws) f z c l =
     record {
-      obeys = record { long = length-tiesIn ws ∙ less (length ws) (length (s .sites)) (f .long); low = ties-low s ws (f .ties); kept = z };
+      obeys = record { long = formed-long s (w ∷ ws) f; low = ties-low s ws (f .ties); kept = z };
       written = ap₂ (λ (a : ℕ) (b : List ℕ). a ∷ b) (back w (countOf s (tiesIn ws)) (lengthOf s (tiesIn ws)) (f .kind) c l) (words-of-ties s ws (f .ties));
     }
   where
-    less : (a b : ℕ) → suc a ≡ b + 1 → a ≡ b
-    less a b e = omega arith
-
     back : (w c l : ℕ) → kindOf w ≡ 8 → bits w 21 7 ≡ c → bits w 0 21 ≡ l → w ≡ 8 * 268435456 + c * 2097152 + l
     back w c l k p q = omega arith
 

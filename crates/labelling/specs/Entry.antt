@@ -1,12 +1,12 @@
 -- What the calls answer and leave. Assumes nothing: these are definitions.
-use mathlib.Core.Bool.{Bool, true, false, _&&_, _||_, not, cond}
-use mathlib.Core.List.{List, [], _∷_, _++_}
+use mathlib.Core.Bool.{Bool, true, false, _||_, not, cond}
+use mathlib.Core.List.{List, [], _++_}
 use mathlib.Core.Option.{Option, none, some}
-use Prim.Native.Nat.{ℕ, zero, suc, _+_, _*_, _-_, _/_, _%_}
-use lib.Dec.{ltb, leb, eqb}
+use Prim.Native.Nat.{ℕ, _+_}
+use lib.Dec.{ltb, eqb}
 use lib.ListN.{length, drop, replicate}
-use Rattle.sheet.specs.Sheet.{Colour, Sheet, sheetIn, sheetFault, productOf, workFor}
-use Rattle.labelling.specs.Layout.{best, answer, judgeFault, judged}
+use Rattle.sheet.specs.Sheet.{sheetIn, sheetFault, workFor}
+use Rattle.labelling.specs.Layout.{best, answer}
 
 -- the maker
 abbrev pub isNone : Option (List ℕ) → Bool

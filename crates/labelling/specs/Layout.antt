@@ -2,13 +2,20 @@
 use mathlib.Core.Bool.{Bool, true, false, _&&_, _||_, not, cond}
 use mathlib.Core.List.{List, [], _∷_, _++_}
 use mathlib.Core.Option.{Option, none, some}
-use Prim.Native.Nat.{ℕ, zero, suc, _+_, _*_, _-_, _/_, _%_, _^_}
+use Prim.Native.Nat.{ℕ, zero, suc, _+_, _*_, _-_}
 use lib.Dec.{ltb, leb, eqb}
-use lib.ListN.{length, getD, take, drop, replicate}
+use lib.ListN.{length, getD, drop}
 use Rattle.sheet.specs.Sheet.{all, kindOf, bits, Site, Colour, Sheet, rankOf, rankTop, sheetIn, sheetFault}
 
 abbrev pub apart : ℕ → ℕ → ℕ
 apart a b = (a - b) + (b - a)
+
+-- the site of a number, sites being numbered from 0; one that no rule asks for stands past the last
+abbrev pub noSite : Site
+noSite = record { x = 0; y = 0; colour = 0 }
+
+abbrev pub siteAt : Sheet → ℕ → Site
+siteAt s i = getD (s .sites) i noSite
 
 -- a tied site: its slot beside it
 pub record Tied : Type 0 where
@@ -19,6 +26,10 @@ unfoldable pub tiedOf : List Site → (slots : List ℕ) → List Tied
 tiedOf [] ks = []
 tiedOf (s ∷ ss) [] = []
 tiedOf (s ∷ ss) (k ∷ ks) = record { site = s; slot = k } ∷ tiedOf ss ks
+
+-- the tied site of a number
+abbrev pub tieAt : Sheet → (ties : List ℕ) → ℕ → Tied
+tieAt s js i = record { site = siteAt s i; slot = getD js i 0 }
 
 abbrev pub heightOf : Sheet → (slot : ℕ) → ℕ
 heightOf s k = getD (s .slots) k 0
@@ -91,17 +102,36 @@ isOver a b h = leb a h && leb h b
 abbrev pub verticalHas : (y end h : ℕ) → Bool
 verticalHas y e h = isOver (least y e) (cond (ltb y e) e y) h
 
+-- a backbone from this left end on has a point at x
+abbrev pub reaches : (left x : ℕ) → Bool
+reaches e x = leb e x
+
+-- the site's vertical misses the backbone at this slot from this left end on, or the slot is its own
+abbrev pub missesFrom : Sheet → Tied → (slot left : ℕ) → Bool
+missesFrom s t k e =
+    eqb (t .slot) k || not (reaches e (t .site .x) && verticalHas (t .site .y) (heightOf s (t .slot)) (heightOf s k))
+
 abbrev pub misses : Sheet → (ties : List ℕ) → Tied → (slot : ℕ) → Bool
-misses s js t k =
-    eqb (t .slot) k || not (leb (leftEnd s js k) (t .site .x) && verticalHas (t .site .y) (heightOf s (t .slot)) (heightOf s k))
+misses s js t k = missesFrom s t k (leftEnd s js k)
 
 abbrev pub missesAll : Sheet → (ties : List ℕ) → Tied → Bool
 missesAll s js t = all (misses s js t) (usedOf s js)
 
 -- 5: a backbone lies at least D from every site of another label at or right of its left end
+-- a site at x counts against a label with this left end
+abbrev pub counts : Sheet → (left x : ℕ) → Bool
+counts s e x = leb e x
+
+-- the backbone at this slot lies at least D in height from a site of height y
+abbrev pub isClear : Sheet → (slot y : ℕ) → Bool
+isClear s k y = leb (s .gap) (apart (heightOf s k) y)
+
+-- the backbone at this slot from this left end on lies clear of the site, or the slot is its own
+abbrev pub clearsFrom : Sheet → Tied → (slot left : ℕ) → Bool
+clearsFrom s t k e = eqb (t .slot) k || not (counts s e (t .site .x)) || isClear s k (t .site .y)
+
 abbrev pub clears : Sheet → (ties : List ℕ) → Tied → (slot : ℕ) → Bool
-clears s js t k =
-    eqb (t .slot) k || not (leb (leftEnd s js k) (t .site .x)) || leb (s .gap) (apart (heightOf s k) (t .site .y))
+clears s js t k = clearsFrom s t k (leftEnd s js k)
 
 abbrev pub clearsAll : Sheet → (ties : List ℕ) → Tied → Bool
 clearsAll s js t = all (clears s js t) (usedOf s js)

@@ -1,3 +1,6 @@
 pub mod Layout
+pub mod Lawful
+pub mod Pairs
+pub mod Counted
 pub mod Promise
 pub mod Entry

@@ -1,33 +1,40 @@
--- What is promised of every sheet. Each promise is a type; a proof of the type is the theorem. Assumes nothing.
+-- What is promised of every sheet, call and stored sheet. Each promise is a type; a proof of the type is the theorem (proofs/Kept).
+-- Document 03's BestOfAll, AreasKept, JudgedSo and Examples, with what document 01 says beyond them. Assumes nothing.
 use mathlib.Core.Path.{_≡_}
+use mathlib.Core.Logic.{_⊎_, _↔_}
 use mathlib.Core.Bool.{Bool, true, false, _&&_, _||_, not, cond}
 use mathlib.Core.List.{List, [], _∷_, _++_}
-use mathlib.Core.Option.{Option, none, some}
-use Prim.Native.Nat.{ℕ, zero, suc, _+_, _*_, _-_, _/_, _%_, _≤_, _<_}
-use lib.Dec.{ltb, leb, eqb}
+use mathlib.Core.Option.{none, some}
+use Prim.Native.Nat.{ℕ, _+_, _≤_, _<_}
+use lib.Dec.{ltb, eqb}
 use lib.ListN.{length, getD, take, drop, replicate}
-use Rattle.sheet.specs.Sheet.{Sheet, sheetIn, sheetFault, workFor}
-use Rattle.labelling.specs.Layout.{isLayout, isLawful, brokenBy, tiesIn, statedCount, statedLength, slotsByRank, comesFirst, best, answer, judgeFault, judged, layoutWords}
-use Rattle.labelling.specs.Entry.{makeFault, makeAnswer, makeWork}
+use Rattle.sheet.specs.Sheet.{all, kindOf, Sheet, sheetIn, sheetFault, workFor}
+use Rattle.labelling.specs.Layout.{isLayout, isLawful, brokenBy, tiesIn, statedCount, statedLength, slotsByRank, comesFirst, best, answer, sheetPart, layoutPart, judgeFault, judged, layoutWords}
+use Rattle.labelling.specs.Lawful.{Ties, Rules, Lawful, LeastBroken, IsAnswer}
+use Rattle.labelling.specs.Entry.{isNone, makeFault, makeAnswer, makeWork}
 
+-- numbers that are 32-bit words
 unfoldable pub areWords : List ℕ → Bool
 areWords [] = true
 areWords (w ∷ ws) = ltb w 4294967296 && areWords ws
 
--- DEMAND 3. By the labels and length that each one states
+-- DEMAND 3: the maker's layout is the best of all
+
+-- the numbers that a layout states, the aim's first
 abbrev pub statedFirst : Sheet → (words : List ℕ) → ℕ
 statedFirst s ws = cond (s .isShortest) (statedLength ws) (statedCount ws)
 
 abbrev pub statedSecond : Sheet → (words : List ℕ) → ℕ
 statedSecond s ws = cond (s .isShortest) (statedCount ws) (statedLength ws)
 
+-- two lists are equal
 unfoldable pub same : List ℕ → List ℕ → Bool
 same [] [] = true
 same [] (y ∷ ys) = false
 same (x ∷ xs) [] = false
 same (x ∷ xs) (y ∷ ys) = eqb x y && same xs ys
 
--- another layout is worse, or as good in both numbers and later
+-- another layout states more by the aim, or as much and more of the other number, or both the same and comes later
 abbrev pub isBeaten : Sheet → (first other : List ℕ) → Bool
 isBeaten s a b =
     ltb (statedFirst s a) (statedFirst s b) ||
@@ -35,14 +42,17 @@ isBeaten s a b =
     (ltb (statedSecond s a) (statedSecond s b) ||
     (eqb (statedSecond s a) (statedSecond s b) && comesFirst (slotsByRank s (tiesIn (drop 1 a))) (slotsByRank s (tiesIn (drop 1 b))))))
 
+-- an accepted sheet, with areas long enough
 abbrev pub takesSheet : (sheet work out : List ℕ) → Type 0
 takesSheet ws k o =
     (areWords ws ≡ true) × (sheetFault ws ≡ 0) × (workFor (sheetIn ws) ≤ length k) × (length (sheetIn ws .sites) + 1 ≤ length o)
 
--- the answer area's first words, after a call
+-- the answer area's first n + 1 words, after a call
 abbrev pub begun : (sheet work out : List ℕ) → List ℕ
 begun ws k o = take (length (sheetIn ws .sites) + 1) (makeAnswer ws k o)
 
+-- 10 exactly when no list of words is a lawful layout; otherwise nothing is refused, the answer area begins with a lawful layout,
+-- and every other lawful layout is beaten by it
 abbrev pub BestOfAll : Type 0
 BestOfAll =
     (ws k o : List ℕ) → takesSheet ws k o →
@@ -53,44 +63,134 @@ BestOfAll =
     ((b : List ℕ) → areWords b ≡ true → isLawful (sheetIn ws) b ≡ true → same b (begun ws k o) ≡ false →
     isBeaten (sheetIn ws) (begun ws k o) b ≡ true))
 
+-- each accepted sheet has one answer: `best` is js exactly when js is lawful and nothing lawful is better, none exactly when nothing
+-- is lawful, and there are no two such js
+abbrev pub OneAnswer : Type 0
+OneAnswer =
+    (ws : List ℕ) → sheetFault ws ≡ 0 →
+    ((js : List ℕ) → (best (sheetIn ws) ≡ some js) ↔ IsAnswer (sheetIn ws) js) ×
+    ((best (sheetIn ws) ≡ none) ↔ ((js : List ℕ) → Ties (sheetIn ws) js → Rules (sheetIn ws) js → ⊥)) ×
+    ((js ks : List ℕ) → IsAnswer (sheetIn ws) js → IsAnswer (sheetIn ws) ks → js ≡ ks)
+
+-- AREAS
+
 -- old contents of either area have no part in the result; what lies past the answer, and past the needed work words, is as before
-abbrev pub AreasKept : Type 0
-AreasKept =
+abbrev pub ContentsUnread : Type 0
+ContentsUnread =
     (ws k o l p : List ℕ) → takesSheet ws k o → takesSheet ws l p →
     (makeFault ws k o ≡ makeFault ws l p) × (makeFault ws k o ≡ 0 → begun ws k o ≡ begun ws l p) ×
     (drop (length (sheetIn ws .sites) + 1) (makeAnswer ws k o) ≡ drop (length (sheetIn ws .sites) + 1) o) ×
     (take (workFor (sheetIn ws)) (makeWork ws k o) ≡ replicate (workFor (sheetIn ws)) 0) ×
     (drop (workFor (sheetIn ws)) (makeWork ws k o) ≡ drop (workFor (sheetIn ws)) k)
 
--- DEMAND 2: the judge's 0 is lawful, on a sheet with the answer behind it too
-abbrev pub JudgedSo : Type 0
-JudgedSo =
+-- on every call: 1 to 9 change neither area, 10 leaves the answer area, and no area changes its length
+abbrev pub RefusedUnchanged : Type 0
+RefusedUnchanged =
+    (ws k o : List ℕ) →
+    (0 < makeFault ws k o → makeFault ws k o < 10 → (makeAnswer ws k o ≡ o) × (makeWork ws k o ≡ k)) ×
+    (makeFault ws k o ≡ 10 → makeAnswer ws k o ≡ o) ×
+    (length (makeAnswer ws k o) ≡ length o) × (length (makeWork ws k o) ≡ length k)
+
+abbrev pub AreasKept : Type 0
+AreasKept = ContentsUnread × RefusedUnchanged
+
+-- DEMAND 2: the judge says lawful exactly when document 01 does
+
+-- on an accepted sheet with a layout behind it the judge refuses nothing and gives that layout's least broken rule
+abbrev pub LayoutJudged : Type 0
+LayoutJudged =
     (ws b : List ℕ) → areWords ws ≡ true → areWords b ≡ true → sheetFault ws ≡ 0 → isLayout (sheetIn ws) b ≡ true →
     (judgeFault (ws ++ b) ≡ 0) × (judged (ws ++ b) ≡ brokenBy (sheetIn ws) b)
 
--- THE STARRED EXAMPLES on sheet A
+-- every list falls into the words before the first of kind 8 and those from it on
+abbrev pub isEight : (word : ℕ) → Bool
+isEight w = eqb (kindOf w) 8
+
+abbrev pub PartsFound : (words : List ℕ) → Type 0
+PartsFound ws =
+    (sheetPart ws ++ layoutPart ws ≡ ws) × (all (λ w. not (isEight w)) (sheetPart ws) ≡ true) ×
+    ((layoutPart ws ≡ []) ⊎ (isEight (getD (layoutPart ws) 0 0) ≡ true))
+
+-- on every list: 1 to 7 as the reader on the words before; then 11 if the rest is not a layout of that sheet; otherwise 0, and the
+-- verdict is the least broken rule, or 0 when all six hold
+abbrev pub EveryListJudged : Type 0
+EveryListJudged =
+    (ws : List ℕ) → PartsFound ws ×
+    ((f : ℕ) → 0 < f → f < 8 → (judgeFault ws ≡ f) ↔ (sheetFault (sheetPart ws) ≡ f)) ×
+    ((judgeFault ws ≡ 11) ↔ ((sheetFault (sheetPart ws) ≡ 0) × (isLayout (sheetIn (sheetPart ws)) (layoutPart ws) ≡ false))) ×
+    ((judgeFault ws ≡ 0) ↔ ((sheetFault (sheetPart ws) ≡ 0) × (isLayout (sheetIn (sheetPart ws)) (layoutPart ws) ≡ true))) ×
+    ((judgeFault ws < 8) ⊎ (judgeFault ws ≡ 11)) ×
+    (judgeFault ws ≡ 0 →
+    ((k : ℕ) → 0 < k → (judged ws ≡ k) ↔ LeastBroken k (sheetIn (sheetPart ws)) (layoutPart ws)) ×
+    ((judged ws ≡ 0) ↔ Lawful (sheetIn (sheetPart ws)) (layoutPart ws)))
+
+abbrev pub JudgedSo : Type 0
+JudgedSo = LayoutJudged × EveryListJudged
+
+-- THE STARRED EXAMPLES of document 01
+
+-- sheet A with a head; A itself has 0x10008008: one-sided, fewest, gap 2, width 8
 abbrev pub sheetA : (head : ℕ) → List ℕ
 sheetA h = h ∷ 536870914 ∷ 536870917 ∷ 536870920 ∷ 805306623 ∷ 1073774596 ∷ 1073840134 ∷ 805306623 ∷ 1073807365 ∷ []
 
 abbrev pub a : List ℕ
 a = sheetA 268468232
 
+-- A with head 0x14008008, 0x18008008, 0x1000C008 and 0x10010008; with bound 0 for colour 1; its head alone
+abbrev pub shortest : List ℕ
+shortest = sheetA 335577096
+
+abbrev pub twoSided : List ℕ
+twoSided = sheetA 402685960
+
+abbrev pub gapThree : List ℕ
+gapThree = sheetA 268484616
+
+abbrev pub gapFour : List ℕ
+gapFour = sheetA 268501000
+
 abbrev pub boundZero : List ℕ
 boundZero = take 7 a ++ (805306368 ∷ 1073807365 ∷ [])
+
+abbrev pub headAlone : List ℕ
+headAlone = 268468232 ∷ []
 
 abbrev pub answerTo : (sheet : List ℕ) → List ℕ
 answerTo ws = answer (sheetIn ws)
 
-abbrev pub isNone : Option (List ℕ) → Bool
-isNone none = true
-isNone (some x) = false
+-- a stored sheet that the judge does not refuse, and its verdict
+abbrev pub judgedAs : (stored : List ℕ) → (rule : ℕ) → Type 0
+judgedAs ws k = (judgeFault ws ≡ 0) × (judged ws ≡ k)
 
-abbrev pub Examples : Type 0
-Examples =
+-- the maker, with areas long enough and whatever they hold: it gives a layout, or 10
+abbrev pub laidOut : (sheet layout : List ℕ) → Type 0
+laidOut ws b =
+    (k o : List ℕ) → workFor (sheetIn ws) ≤ length k → length (sheetIn ws .sites) + 1 ≤ length o →
+    (makeFault ws k o ≡ 0) × (makeAnswer ws k o ≡ b ++ drop (length (sheetIn ws .sites) + 1) o)
+
+abbrev pub turnedDown : (sheet : List ℕ) → Type 0
+turnedDown ws = (k o : List ℕ) → workFor (sheetIn ws) ≤ length k → length (sheetIn ws .sites) + 1 ≤ length o → makeFault ws k o ≡ 10
+
+-- of the definitions: document 03's table
+abbrev pub ExamplesDefined : Type 0
+ExamplesDefined =
     (sheetFault a ≡ 0) × (answerTo a ≡ layoutWords 2 19 (0 ∷ 0 ∷ 2 ∷ [])) × (getD (answerTo a) 0 0 ≡ 2151677971) ×
-    (answerTo (sheetA 335577096) ≡ layoutWords 3 18 (0 ∷ 1 ∷ 2 ∷ [])) × (answerTo (sheetA 402685960) ≡ layoutWords 2 25 (0 ∷ 0 ∷ 2 ∷ [])) ×
-    (answerTo (sheetA 268484616) ≡ layoutWords 2 19 (2 ∷ 2 ∷ 0 ∷ [])) ×
-    (isNone (best (sheetIn (sheetA 268501000))) ≡ true) × (isNone (best (sheetIn boundZero)) ≡ true) ×
-    (answerTo (268468232 ∷ []) ≡ layoutWords 0 0 []) × (judged (a ++ layoutWords 2 19 (0 ∷ 0 ∷ 1 ∷ [])) ≡ 4) ×
+    (answerTo shortest ≡ layoutWords 3 18 (0 ∷ 1 ∷ 2 ∷ [])) × (answerTo twoSided ≡ layoutWords 2 25 (0 ∷ 0 ∷ 2 ∷ [])) ×
+    (answerTo gapThree ≡ layoutWords 2 19 (2 ∷ 2 ∷ 0 ∷ [])) ×
+    (isNone (best (sheetIn gapFour)) ≡ true) × (isNone (best (sheetIn boundZero)) ≡ true) ×
+    (answerTo headAlone ≡ layoutWords 0 0 []) × (judged (a ++ layoutWords 2 19 (0 ∷ 0 ∷ 1 ∷ [])) ≡ 4) ×
     (judged (a ++ layoutWords 2 19 (0 ∷ 0 ∷ 0 ∷ [])) ≡ 1) × (judged (a ++ layoutWords 2 19 (2 ∷ 2 ∷ 0 ∷ [])) ≡ 0) ×
     (judged (a ++ layoutWords 2 18 (2 ∷ 2 ∷ 0 ∷ [])) ≡ 6)
+
+-- of the calls
+abbrev pub ExamplesCalled : Type 0
+ExamplesCalled =
+    laidOut a (layoutWords 2 19 (0 ∷ 0 ∷ 2 ∷ [])) × laidOut shortest (layoutWords 3 18 (0 ∷ 1 ∷ 2 ∷ [])) ×
+    laidOut twoSided (layoutWords 2 25 (0 ∷ 0 ∷ 2 ∷ [])) × laidOut gapThree (layoutWords 2 19 (2 ∷ 2 ∷ 0 ∷ [])) ×
+    turnedDown gapFour × turnedDown boundZero × laidOut headAlone (layoutWords 0 0 []) ×
+    judgedAs (a ++ layoutWords 2 19 (0 ∷ 0 ∷ 1 ∷ [])) 4 × judgedAs (a ++ layoutWords 2 19 (0 ∷ 0 ∷ 0 ∷ [])) 1 ×
+    judgedAs (a ++ layoutWords 2 19 (2 ∷ 2 ∷ 0 ∷ [])) 0 × judgedAs (a ++ layoutWords 2 18 (2 ∷ 2 ∷ 0 ∷ [])) 6 ×
+    (isBeaten (sheetIn a) (answerTo a) (layoutWords 2 19 (2 ∷ 2 ∷ 0 ∷ [])) ≡ true) × (workFor (sheetIn a) ≡ 900)
+
+abbrev pub Examples : Type 0
+Examples = ExamplesDefined × ExamplesCalled

@@ -69,6 +69,12 @@ pub is-true : (b : Bool) → (b ≡ false → ⊥) → b ≡ true
 is-true true f = refl
 is-true false f = absurd (f refl)
 
+-- two tests that say the same
+pub same-test : (a b : Bool) → (a ≡ true → b ≡ true) → (b ≡ true → a ≡ true) → a ≡ b
+same-test true b f g = sym (f refl)
+same-test false true f g = g refl
+same-test false false f g = refl
+
 pub not-e : (b : Bool) → not b ≡ false → b ≡ true
 not-e true e = refl
 not-e false e = sym e

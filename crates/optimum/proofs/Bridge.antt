@@ -153,7 +153,7 @@ module _ (s : Sheet) (o : Sound s) (two : s .isTwoSided ≡ true) (coloured : al
 
   module _ (js : List ℕ) (ob : Obeys s js) where
     r : Rules s js
-    r = obeys-rules s js (o .gapped) ob
+    r = obeys-rules s js ob
 
     abbrev pub codes : ℕ → ℕ
     codes k = codeIn k (s .sites) js

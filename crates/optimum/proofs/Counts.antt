@@ -17,7 +17,7 @@ use Rattle.lists.proofs.Tests.{or-e, is-false, is-true}
 use Rattle.labelling.proofs.Members.{noSite, used-at, at-used, used-head, used-tail}
 use Rattle.sheet.proofs.Accepted.{Sound}
 use Rattle.labelling.proofs.Earlier.{rankAt}
-use Rattle.labelling.proofs.More.{LeftEnd, left-end}
+use Rattle.labelling.proofs.LeftEnd.{LeftEnd, left-end}
 use Rattle.optimum.specs.Strips.{Point, Instance}
 use Rattle.optimum.proofs.Steps.{Steps, isFree, opened, shares}
 use Rattle.optimum.proofs.Pairs.{zeros}

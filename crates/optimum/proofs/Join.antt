@@ -32,7 +32,8 @@ use Rattle.optimum.proofs.Budget.{isOf, pays-e, pays-i, digit-full}
 use Rattle.optimum.specs.OneSided.{tipClear, heldOf, boundOf, radicesOf, wordOf, topWord, instanceOf, xOf, order, pointAt, pointsAt, scatter, tiesOf, oneSided}
 use Rattle.optimum.proofs.Order.{Rise, Ordered, ordered, same-site, gather, gather-long, scatter-long, gather-scatter}
 use Rattle.optimum.proofs.Instance.{good, linear, budgeted, positive, radix-at, radices-long, product-is, digitIn, isUnbounded}
-use Rattle.optimum.proofs.Zero.{AllInOrder, AllPairs, rules-pairs, pairs-rules, pairs-rising, rising-pairs, list-e, list-i}
+use Rattle.labelling.proofs.Pairs.{AllInOrder, rules-pairs, pairs-rules}
+use Rattle.optimum.proofs.Zero.{AllPairs, pairs-rising, rising-pairs, list-e, list-i}
 use Rattle.optimum.proofs.Counts.{shares-drops, count-is, lead-is, colour-is}
 
 -- ---- the first digits are the bounds
@@ -109,10 +110,10 @@ module _ (s : Sheet) (o : Sound s) (one : s .isTwoSided ≡ false) where
     obeys-steps b = (steps, pays-i (instanceOf s) (digitIn s) (isUnbounded s) (budgeted s) (pointsAt s (order s)) (gather js (order s)) _ (fullBudget s) (λ c u. enough c u), tips, turns)
       where
         r : Rules s js
-        r = obeys-rules s js (o .gapped) b
+        r = obeys-rules s js b
 
         p : AllInOrder s js
-        p = rules-pairs s o js long (b .low) r
+        p = rules-pairs s (o .inside) js long r
 
         low : (i : ℕ) → isUsed i (order s) ≡ true → getD js i 0 < length (s .slots)
         low i u = ltb-true _ _ (all-at (λ j. ltb j (length (s .slots))) 0 js (b .low) i (omega (arith, ordered s o .low i u .0)))
@@ -120,7 +121,7 @@ module _ (s : Sheet) (o : Sound s) (one : s .isTwoSided ≡ false) where
         steps : Steps (instanceOf s) (replicate (length (s .slots)) 0) (pointsAt s (order s)) (gather js (order s))
         steps =
             steps-i (instanceOf s) (pointsAt s (order s)) (gather js (order s)) _ empty-long (all-low s js (order s) low)
-            (list-i s js (order s) (ordered s o .rise) (λ i j ui uj h. pairs-rising s o js p i j (ordered s o .low i ui .0) (ordered s o .low j uj .0) h))
+            (list-i s js (order s) (ordered s o .rise) (λ i j ui uj h. pairs-rising s o one js p i j (ordered s o .low i ui .0) (ordered s o .low j uj .0) h))
 
         tips : Tips (instanceOf s) (replicate (length (s .slots)) 0) (pointsAt s (order s)) (gather js (order s))
         tips = tips-all (instanceOf s) (λ t k. unfold tipClear in refl) (pointsAt s (order s)) _ (gather js (order s))
@@ -139,7 +140,7 @@ module _ (s : Sheet) (o : Sound s) (one : s .isTwoSided ≡ false) where
         → Pays (instanceOf s) (replicate (length (s .slots)) 0) (fullBudget s) (pointsAt s (order s)) (gather js (order s))
         → Tips (instanceOf s) (replicate (length (s .slots)) 0) (pointsAt s (order s)) (gather js (order s))
         → Turns (instanceOf s) (replicate (length (s .slots)) 0) (replicate (suc (length (s .slots))) 0) (pointsAt s (order s)) (gather js (order s)) → Obeys s js
-    steps-obey t y w x = rules-obey s js long low (pairs-rules s o js long low p two)
+    steps-obey t y w x = rules-obey s js long low (pairs-rules s (o .inside) js long p (record {}) two)
       where
         q : StepAll (instanceOf s) (replicate (length (s .slots)) 0) (pointsAt s (order s)) (gather js (order s)) × Pairs (instanceOf s) (pointsAt s (order s)) (gather js (order s))
         q = steps-e (instanceOf s) (pointsAt s (order s)) (gather js (order s)) _ empty-long t

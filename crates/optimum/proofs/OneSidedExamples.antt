@@ -14,7 +14,8 @@ use Rattle.sheet.specs.Sheet.{all, rankOf, sheetIn, slotsIn, coloursIn, sitesRu
 use Rattle.labelling.specs.Promise.{sheetA, a, boundZero}
 use Rattle.optimum.specs.Strips.{marked, over, under, inside, farFrom, clearFrom, opens, joinsUp, joinsDown, cost, draw, children, stripsFrom, strips, holdFrom, hold, price, next, value, walked}
 use Rattle.optimum.specs.Cells.{build, cellOf, stripAt, shareAt, shareCells, stepCell, entryOf, level, joinCells, foldCells, startCells, valueCells, oneSidedCells}
-use Rattle.labelling.specs.Layout.{siteShare}
+use Rattle.labelling.specs.Layout.{siteShare, tiedOf, isUsed, usedFrom, leastX, slotsOf, boundsKept, backbones, drops, byRank, slotAt, comesFirst}
+use Rattle.optimum.specs.Telling.{Telling}
 use Rattle.optimum.specs.OneSided.{farEnough, clearOf, shareOf, leadOf, mayOpen, tipClear, turnOf, heldOf, radicesOf, drawsOf, wordOf, nextRank, siteOf, orderFrom, order, pointsAt, scatter, oneSided}
 
 pub order-a : order (sheetIn a) ≡ 0 ∷ 2 ∷ 1 ∷ []
@@ -35,3 +36,8 @@ walk-more = (refl, refl, refl, refl, refl)
 pub cells-a : oneSidedCells (sheetIn a) ≡ some (0 ∷ 0 ∷ 2 ∷ [])
 unfolding plus least first just below place chooseBy walkBy answerBy slotsIn coloursIn sitesRun sitesIn productOf over under inside farFrom clearFrom opens joinsUp joinsDown cost draw holdFrom hold marked price next farEnough clearOf siteShare shareOf leadOf mayOpen tipClear turnOf heldOf all radicesOf drawsOf wordOf nextRank rankOf siteOf orderFrom order pointsAt scatter build cellOf stripAt shareAt shareCells stepCell entryOf level joinCells foldCells startCells valueCells oneSidedCells
 cells-a = refl
+
+-- and each misreading of document 01 has a sheet on which its answer differs; so has a walk that settles the parts one by one
+pub telling : Telling
+unfolding plus least first sum prod conv cheaper never just table rest below place weight T Rest chooseBy walkBy answerBy slotsIn coloursIn sitesRun sitesIn productOf over under inside farFrom clearFrom opens joinsUp joinsDown cost draw children stripsFrom strips holdFrom hold marked price next value walked farEnough clearOf siteShare shareOf leadOf mayOpen tipClear turnOf heldOf all radicesOf drawsOf wordOf nextRank rankOf siteOf orderFrom order pointsAt scatter oneSided tiedOf isUsed usedFrom leastX slotsOf boundsKept backbones drops byRank slotAt comesFirst Rattle.labelling.specs.Layout.nextRank
+telling = ((refl, refl, refl), (refl, refl), (refl, refl), (refl, refl, refl), (refl, refl, refl), refl)

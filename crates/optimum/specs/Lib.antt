@@ -5,3 +5,4 @@ pub mod Reached
 pub mod UsedSlots
 pub mod TwoSided
 pub mod Sums
+pub mod Telling

@@ -5,6 +5,7 @@ ghost use Prim.Native.Nat.{ℕ, _+_, _-_, min};
 ghost use lib.Dec.{eqb, leb, ltb};
 ghost use lib.ListN.{length, getD};
 ghost use Rattle.sheet.specs.Sheet.{kindOf, bits};
+ghost use Rattle.sheet.specs.Words.{rankIn};
 ghost use Rattle.search.specs.Cost.{plus};
 
 // The cost of "none".
@@ -26,6 +27,13 @@ pub fn low_field(w: u32) -> u32
 // Bits 27 to 14: a site's x.
 pub fn high_field(w: u32) -> u32
     ensures { λ r. ⌜ r ≡ bits w 14 14 ⌝ }
+{
+    w / 16384 % 16384
+}
+
+// A site's rank: its x.
+pub fn rank_of(w: u32) -> u32
+    ensures { λ r. ⌜ r ≡ rankIn w ⌝ }
 {
     w / 16384 % 16384
 }
