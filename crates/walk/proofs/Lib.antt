@@ -1,4 +1,3 @@
-mod Rows
 pub mod Value
 mod Holding
 mod Prices

@@ -1,4 +1,4 @@
--- What one step draws and costs, by the decisions on its strip and the mask of the budget; labels with one changed.
+-- What one step draws and costs, by the decisions on its strip and the budget; labels with one changed.
 -- Assumes nothing.
 use mathlib.Core.Path.{_≡_, refl, sym, ap, ap₂, _∙_}
 use mathlib.Core.Bool.{Bool, true, false, cond}
@@ -19,7 +19,7 @@ use Rattle.optimum.specs.Strips.{Point, Strip, Instance, opens, cost, draw}
 use Rattle.optimum.specs.OneSided.{topWord}
 use Rattle.strips.specs.Strips.{instanceOn, Small, Measured}
 use Rattle.strips.proofs.Decisions.{opens-on, cost-on}
-use Rattle.walk.specs.Rest.{bitOf, MasksOf, LevelIn, levelSize}
+use Rattle.rest.specs.Rest.{LevelIn, levelSize}
 use Rattle.walk.specs.Walk.{priceIn, SheetArrays, SiteIn}
 
 module _ (q : Measures) (hs bs rs ds : List ℕ) (p : Strip) (s : Point) (k : ℕ) where
@@ -31,35 +31,28 @@ module _ (q : Measures) (hs bs rs ds : List ℕ) (p : Strip) (s : Point) (k : �
   unfolding draw
   draw-joins e = rw (opens-on q hs bs rs ds p s k, e)
 
-  pub draw-low : (R : ℕ) → 0 < R → ((c : ℕ) → getD ds c 0 < R) → draw (instanceBy q hs bs rs ds) p s k < R
-  unfolding draw
-  draw-low R h f = by-test (opens (instanceBy q hs bs rs ds) p s k) (λ e. rw e (f (s .c))) (λ e. rw e h)
+  module _ (v : ℕ) where
+    pub price-had : below rs (draw (instanceBy q hs bs rs ds) p s k) v ≡ true → priceIn (instanceBy q hs bs rs ds) p s v k ≡ cost (instanceOn q hs bs) p s k
+    price-had e = rw e (cost-on q hs bs rs ds p s k)
 
-  module _ (masks : List ℕ) (R v : ℕ) (right : MasksOf masks rs R) (l : v < R) (dl : draw (instanceBy q hs bs rs ds) p s k < R) where
-    pub price-had : bitOf (getD masks v 0) (draw (instanceBy q hs bs rs ds) p s k) ≡ true → priceIn (instanceBy q hs bs rs ds) p s v k ≡ cost (instanceOn q hs bs) p s k
-    unfolding MasksOf
-    price-had e = rw (sym (right v (draw (instanceBy q hs bs rs ds) p s k) l dl) ∙ e) (cost-on q hs bs rs ds p s k)
-
-    pub price-not : bitOf (getD masks v 0) (draw (instanceBy q hs bs rs ds) p s k) ≡ false → priceIn (instanceBy q hs bs rs ds) p s v k ≡ topWord
-    unfolding MasksOf
-    price-not e = rw (sym (right v (draw (instanceBy q hs bs rs ds) p s k) l dl) ∙ e)
+    pub price-not : below rs (draw (instanceBy q hs bs rs ds) p s k) v ≡ false → priceIn (instanceBy q hs bs rs ds) p s v k ≡ topWord
+    price-not e = rw e
 
 -- what the decisions ask for
-pub small : (q : Measures) (hs bs rs ds masks : List ℕ) (s : Point) (k : ℕ) → SheetArrays q hs bs rs ds masks → SiteIn q s → k < 48 → Small bs (s .c) k
-small q hs bs rs ds masks s k a i l =
+pub small : (q : Measures) (hs bs rs ds : List ℕ) (s : Point) (k : ℕ) → SheetArrays q hs bs rs ds → SiteIn q s → k < 48 → Small bs (s .c) k
+small q hs bs rs ds s k a i l =
     record { colourBound = omega (arith, a .bounded, i .colourLow); coloursFew = omega (arith, a .fewColours, i .colourLow); slotLow = l }
 
-pub measured : (q : Measures) (hs bs rs ds masks : List ℕ) (s : Point) → SheetArrays q hs bs rs ds masks → SiteIn q s → Measured q hs (s .y)
-measured q hs bs rs ds masks s a i = record { narrow = a .narrow; heightLow = a .heightLow; yLow = i .yLow }
+pub measured : (q : Measures) (hs bs rs ds : List ℕ) (s : Point) → SheetArrays q hs bs rs ds → SiteIn q s → Measured q hs (s .y)
+measured q hs bs rs ds s a i = record { narrow = a .narrow; heightLow = a .heightLow; yLow = i .yLow }
 
 -- labels with one changed
-pub level-set : (masks work : List ℕ) (base C R : ℕ) (L : List ℕ) (k c : ℕ) → LevelIn masks work base C R L → k < length L → c < C + 1 → LevelIn masks work base C R (set L k c)
-level-set masks work base C R L k c i l h =
+pub level-set : (parts counts work : List ℕ) (base C R : ℕ) (L : List ℕ) (k c : ℕ) → LevelIn parts counts work base C R L → k < length L → c < C + 1 → LevelIn parts counts work base C R (set L k c)
+level-set parts counts work base C R L k c i l h =
     record {
       fewSlots = rw (length-set L k c) (i .fewSlots);
       fewColours = i .fewColours;
-      fewBudgets = i .fewBudgets;
-      masked = i .masked;
+      splits = i .splits;
       within = rw (length-set L k c) (i .within);
       coloured = λ j. by-equal j k (λ e. rw (e, getD-set-same L k c 0 l) h) (λ e. rw (getD-set-other L k j c 0 e) (i .coloured j));
     }

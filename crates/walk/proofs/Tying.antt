@@ -18,9 +18,9 @@ use Rattle.arrays.specs.Arrays.{instanceBy, pointsBy}
 use Rattle.optimum.specs.Strips.{Point, Strip, Instance, State, hold, draw, price, next, labels}
 use Rattle.optimum.specs.OneSided.{topWord, tieWord, writeTies}
 use Rattle.optimum.specs.Reached.{noPoint}
-use Rattle.walk.specs.Rest.{MasksOf, LevelIn, levelSize, restRows}
+use Rattle.rest.specs.Rest.{LevelIn, levelSize, restRows}
 use Rattle.walk.specs.Walk.{Found, valueIn, priceIn, labelled, budgetLeft, keepsCost, SheetArrays, SiteIn, WalkArrays, Standing, tiedFrom}
-use Rattle.walk.proofs.Rows.{size, Size}
+use Rattle.rest.proofs.Rows.{size, Size}
 use Rattle.walk.proofs.Value.{first-under, next-is}
 
 -- ---- the sites by their numbers
@@ -43,7 +43,7 @@ point-by (x ∷ xs) (y ∷ ys) (d ∷ cs) zero i a b c l = absurd (omega arith)
 point-by (x ∷ xs) (y ∷ ys) (d ∷ cs) (suc n) zero a b c l = refl
 point-by (x ∷ xs) (y ∷ ys) (d ∷ cs) (suc n) (suc i) a b c l = point-by xs ys cs n i (omega arith) (omega arith) (omega arith) (omega arith)
 
-module _ (q : Measures) (hs bs rs ds masks work xs ys cs order : List ℕ) (a : WalkArrays q hs bs rs ds masks work xs ys cs order) where
+module _ (q : Measures) (hs bs rs ds parts counts work xs ys cs order : List ℕ) (a : WalkArrays q hs bs rs ds parts counts work xs ys cs order) where
   abbrev P : Instance
   P = instanceBy q hs bs rs ds
 
@@ -54,7 +54,7 @@ module _ (q : Measures) (hs bs rs ds masks work xs ys cs order : List ℕ) (a : 
   site j = record { x = getD xs j 0; y = getD ys j 0; c = getD cs j 0 }
 
   abbrev inWords : State P → List Point → ℕ
-  inWords = valueIn P masks work (q .colours) (q .budgets) (length points)
+  inWords = valueIn P parts counts work (q .colours) (q .budgets) (length points)
 
   abbrev none : List ℕ
   none = replicate (suc (length hs)) 0
@@ -68,14 +68,13 @@ module _ (q : Measures) (hs bs rs ds masks work xs ys cs order : List ℕ) (a : 
       ∙ ap (λ (s : Point). s ∷ drop (suc j) points) (point-by xs ys cs (length order) j (a .xsLong) (a .ysLong) (a .coloursLong) l)
 
   -- the level of the sites after the first j
-  pub level-of : (j : ℕ) (L out : List ℕ) (v here : ℕ) → j < length order → Standing P q masks work points L out j v here
-      → LevelIn masks work ((j + 1) * levelSize (length hs) (q .colours) (q .budgets)) (q .colours) (q .budgets) L
+  pub level-of : (j : ℕ) (L out : List ℕ) (v here : ℕ) → j < length order → Standing P q parts counts work points L out j v here
+      → LevelIn parts counts work ((j + 1) * levelSize (length hs) (q .colours) (q .budgets)) (q .colours) (q .budgets) L
   level-of j L out v here l w =
       record {
         fewSlots = rw (w .labelsLong) (a .sheet .fewSlots);
         fewColours = a .sheet .fewColours;
-        fewBudgets = a .sheet .fewBudgets;
-        masked = a .sheet .masked;
+        splits = a .splits .within;
         within = rw (w .labelsLong) (let m = mul-le-mul-right (levelSize (length hs) (q .colours) (q .budgets)) later in omega (arith, m, a .whole));
         coloured = w .coloured;
       }
@@ -86,12 +85,12 @@ module _ (q : Measures) (hs bs rs ds masks work xs ys cs order : List ℕ) (a : 
   pub base-low : (j : ℕ) → j < length order → (j + 1) * levelSize (length hs) (q .colours) (q .budgets) ≤ 414720000
   base-low j l =
       let h : j + 1 ≤ 32 = omega (arith, a .fewSites) in
-      mul-le-mul {n₂ = 32} {m₂ = 12960000} h (size (length hs) (q .colours) (q .budgets) (a .sheet .fewSlots) (a .sheet .fewColours) (a .sheet .fewBudgets) .fourth)
+      mul-le-mul {n₂ = 32} {m₂ = 12960000} h (size (length hs) (q .colours) (q .budgets) (a .sheet .fewSlots) (a .sheet .fewColours) (a .splits .within .few) .fourth)
 
   -- one step, to the slot that the loop finds
-  module _ (j : ℕ) (L out : List ℕ) (v here k : ℕ) (l : j < length order) (w : Standing P q masks work points L out j v here)
+  module _ (j : ℕ) (L out : List ℕ) (v here k : ℕ) (l : j < length order) (w : Standing P q parts counts work points L out j v here)
       (p : Strip) (held : p ≡ hold P L none (getD ys j 0))
-      (tried : k ≡ first (length hs) (keepsCost P masks work ((j + 1) * levelSize (length hs) (q .colours) (q .budgets)) (q .colours) (q .budgets) p (site j) L v here)) where
+      (tried : k ≡ first (length hs) (keepsCost P parts counts work ((j + 1) * levelSize (length hs) (q .colours) (q .budgets)) (q .colours) (q .budgets) p (site j) L v here)) where
     abbrev s : Point
     s = site j
 
@@ -114,14 +113,14 @@ module _ (q : Measures) (hs bs rs ds masks work xs ys cs order : List ℕ) (a : 
     left-long : length points - length ss ≡ j + 1
     left-long = omega (arith, length-drop (suc j) points, long)
 
-    rest-here : (i : ℕ) → inWords (after i) ss ≡ restRows masks work ((j + 1) * levelSize (length hs) (q .colours) (q .budgets)) (length hs) (q .colours) (q .budgets) (labelled L s i) (budgetLeft P p s v i)
+    rest-here : (i : ℕ) → inWords (after i) ss ≡ restRows parts counts work ((j + 1) * levelSize (length hs) (q .colours) (q .budgets)) (length hs) (q .colours) (q .budgets) (labelled L s i) (budgetLeft P p s v i)
     unfolding valueIn
-    rest-here i = ap (λ (n : ℕ). restRows masks work (n * levelSize (length hs) (q .colours) (q .budgets)) (length hs) (q .colours) (q .budgets) (labelled L s i) (budgetLeft P p s v i)) left-long
+    rest-here i = ap (λ (n : ℕ). restRows parts counts work (n * levelSize (length hs) (q .colours) (q .budgets)) (length hs) (q .colours) (q .budgets) (labelled L s i) (budgetLeft P p s v i)) left-long
 
     worth-here : here ≡ inWords x (s ∷ ss)
     worth-here = w .worth ∙ ap (inWords x) (sites-left j l)
 
-    same-test : (i : ℕ) → keepsCost P masks work ((j + 1) * levelSize (length hs) (q .colours) (q .budgets)) (q .colours) (q .budgets) p s L v here i
+    same-test : (i : ℕ) → keepsCost P parts counts work ((j + 1) * levelSize (length hs) (q .colours) (q .budgets)) (q .colours) (q .budgets) p s L v here i
         ≡ eqb (plus topWord (price P x s i) (inWords (next P x s i) ss)) (inWords x (s ∷ ss))
     same-test i = ap₂ eqb (ap₂ (plus topWord) (sym (price-here i)) (sym (ap (λ (y : State P). inWords y ss) (next-after i) ∙ rest-here i))) worth-here
 
@@ -141,7 +140,7 @@ module _ (q : Measures) (hs bs rs ds masks work xs ys cs order : List ℕ) (a : 
 
     sum-here : plus topWord (priceIn P p s v k) (inWords (after k) ss) ≡ here
     sum-here =
-        let t = keepsCost P masks work ((j + 1) * levelSize (length hs) (q .colours) (q .budgets)) (q .colours) (q .budgets) p s L v here in
+        let t = keepsCost P parts counts work ((j + 1) * levelSize (length hs) (q .colours) (q .budgets)) (q .colours) (q .budgets) p s L v here in
         let e : t k ≡ true = subst⁻¹ (λ (i : ℕ). t i ≡ true) tried (first-is (length hs) t (rw tried at slot-low)) in
         ap (plus topWord (priceIn P p s v k)) (rest-here k) ∙ eqb-true _ _ e
 
@@ -149,7 +148,7 @@ module _ (q : Measures) (hs bs rs ds masks work xs ys cs order : List ℕ) (a : 
     unfolding plus
     less-price c r e = omega (arith, w .low)
 
-    pub standing : Standing P q masks work points (set L k (getD cs j 0 + 1)) (set out (getD order j 0 + 1) (2415919104 + k)) (j + 1) (budgetLeft P p s v k) (here - priceIn P p s v k)
+    pub standing : Standing P q parts counts work points (set L k (getD cs j 0 + 1)) (set out (getD order j 0 + 1) (2415919104 + k)) (j + 1) (budgetLeft P p s v k) (here - priceIn P p s v k)
     standing =
         record {
           tied = omega (arith, long);
@@ -173,21 +172,21 @@ module _ (q : Measures) (hs bs rs ds masks work xs ys cs order : List ℕ) (a : 
   -- THE STEP, as the code makes it
   pub record Tied (j : ℕ) (L out : List ℕ) (v here : ℕ) (t : Point) (p : Strip) (k : ℕ) : Type 0 where
     pub slotLow : k < length hs
-    pub stands : Standing P q masks work points (set L k (t .c + 1)) (set out (getD order j 0 + 1) (2415919104 + k)) (j + 1) (budgetLeft P p t v k) (here - priceIn P p t v k)
-    pub ties : tiedFrom P q masks work points order L out j v ≡ tiedFrom P q masks work points order (set L k (t .c + 1)) (set out (getD order j 0 + 1) (2415919104 + k)) (j + 1) (budgetLeft P p t v k)
+    pub stands : Standing P q parts counts work points (set L k (t .c + 1)) (set out (getD order j 0 + 1) (2415919104 + k)) (j + 1) (budgetLeft P p t v k) (here - priceIn P p t v k)
+    pub ties : tiedFrom P q parts counts work points order L out j v ≡ tiedFrom P q parts counts work points order (set L k (t .c + 1)) (set out (getD order j 0 + 1) (2415919104 + k)) (j + 1) (budgetLeft P p t v k)
 
-  pub tied : (j : ℕ) (L out : List ℕ) (v here k : ℕ) → j < length order → Standing P q masks work points L out j v here
+  pub tied : (j : ℕ) (L out : List ℕ) (v here k : ℕ) → j < length order → Standing P q parts counts work points L out j v here
       → (t : Point) → t ≡ site j → (p : Strip) → p ≡ hold P L none (t .y)
       → (base : ℕ) → base ≡ (j + 1) * levelSize (length hs) (q .colours) (q .budgets)
-      → k ≡ first (length hs) (keepsCost P masks work base (q .colours) (q .budgets) p t L v here)
+      → k ≡ first (length hs) (keepsCost P parts counts work base (q .colours) (q .budgets) p t L v here)
       → Tied j L out v here t p k
   tied j L out v here k l w t e p held base eb tried =
-      subst⁻¹ (λ (z : Point). p ≡ hold P L none (z .y) → k ≡ first (length hs) (keepsCost P masks work base (q .colours) (q .budgets) p z L v here) → Tied j L out v here z p k) e
-      (λ h f. let g = subst (λ (b : ℕ). k ≡ first (length hs) (keepsCost P masks work b (q .colours) (q .budgets) p (site j) L v here)) eb f in
+      subst⁻¹ (λ (z : Point). p ≡ hold P L none (z .y) → k ≡ first (length hs) (keepsCost P parts counts work base (q .colours) (q .budgets) p z L v here) → Tied j L out v here z p k) e
+      (λ h f. let g = subst (λ (b : ℕ). k ≡ first (length hs) (keepsCost P parts counts work b (q .colours) (q .budgets) p (site j) L v here)) eb f in
       record { slotLow = slot-low j L out v here k l w p h g; stands = standing j L out v here k l w p h g; ties = written j L out v here k l w p h g })
       held tried
 
   -- with all sites tied nothing is written
-  pub ended : (j : ℕ) (L out : List ℕ) (v : ℕ) → j ≡ length order → out ≡ tiedFrom P q masks work points order L out j v
+  pub ended : (j : ℕ) (L out : List ℕ) (v : ℕ) → j ≡ length order → out ≡ tiedFrom P q parts counts work points order L out j v
   unfolding writeTies
   ended j L out v e = rw (drop-of-length-le order {i = j} (omega arith))

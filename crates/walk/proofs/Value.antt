@@ -1,5 +1,5 @@
 -- REST over the words is the value of the state, where the rows of its strips hold the table; so the walk over the words is the
--- walk by the table. Assumes nothing but that the heights rise, the masks are right, and the table is, wherever it is asked.
+-- walk by the table. Assumes nothing but that the heights rise, the parts counts are right, and the table is, wherever it is asked.
 use mathlib.Core.Path.{_≡_, refl, sym, ap, ap₂, _∙_, subst}
 use mathlib.Core.Bool.{Bool, true, false, cond}
 use mathlib.Core.List.{List, [], _∷_}
@@ -11,7 +11,7 @@ use lib.Seq.{getD-drop, drop-drop}
 use Rattle.lists.proofs.Tests.{by-test, by-order}
 use Rattle.search.specs.Cost.{plus, least, first, least-cong}
 use Rattle.search.specs.Radix.{below}
-use Rattle.search.specs.Share.{just}
+use Rattle.search.specs.Share.{just, conv}
 use Rattle.search.specs.Plan.{T}
 use Rattle.search.specs.Walk.{Process, chooseBy, walkBy}
 use Rattle.arrays.specs.declared.Measures.{Measures}
@@ -25,9 +25,11 @@ use Rattle.optimum.proofs.Levels.{build-at, build-long, Row, value-rows}
 use Rattle.optimum.proofs.Loops.{walk-step, skip-step}
 use Rattle.optimum.proofs.Reached.{reached-next, reached-rows}
 use Rattle.optimum.proofs.Pairs.{zeros}
-use Rattle.walk.specs.Rest.{bitOf, MasksOf, rowOf, levelSize, shareRow, joinRow, foldRows, restRows}
+use Rattle.budgets.specs.Budgets.{Splits}
+use Rattle.budgets.proofs.Sharing.{share-by}
+use Rattle.rest.specs.Rest.{rowOf, levelSize, shareRow, joinRow, foldRows, restRows}
 use Rattle.walk.specs.Walk.{Found, valueIn}
-use Rattle.walk.proofs.Rows.{join-long}
+use Rattle.rest.proofs.Rows.{join-long}
 
 pub build-cong : (n : ℕ) (f g : ℕ → ℕ) → ((k : ℕ) → k < n → f k ≡ g k) → build n f ≡ build n g
 unfolding build
@@ -64,7 +66,7 @@ module _ (q : Measures) (hs bs rs ds : List ℕ) where
       (λ e. rw (e, set-zero (suc (length hs)) (suc k), set-zero (suc (length hs)) (hold P L unmarked (s .y) .a)))
       (λ e. rw (e, set-zero (suc (length hs)) (hold P L unmarked (s .y) .a)))
 
-  module _ (masks work : List ℕ) (C R : ℕ) where
+  module _ (parts counts work : List ℕ) (C R : ℕ) where
     pub level-cells : cells P C R ≡ levelSize (length hs) C R
     level-cells = ap (λ (z : ℕ). z * R) (omega arith)
 
@@ -73,13 +75,15 @@ module _ (q : Measures) (hs bs rs ds : List ℕ) where
     cell-row a ca b cb u =
         ap (λ (z : ℕ). z * R + u) (ap (λ (z : ℕ). (((a * (C + 1) + ca) * (length hs + 2) + b) * (C + 1) + cb) * 1 + z) (zeros (suc (length hs)) a) ∙ omega arith)
 
-    module _ (right : MasksOf masks rs R) where
+    module _ (right : Splits rs R parts counts) where
       join-same : (base : ℕ) (acc : List ℕ) (a ca b cb : ℕ) → length acc ≡ R
-          → joinRow masks acc work (base + rowOf (length hs) C R a ca b cb) ≡ joinCells P C R (drop base work) acc (record { a = a; ca = ca; b = b; cb = cb; d = getD unmarked a 0 })
-      unfolding joinRow joinCells MasksOf
+          → joinRow parts counts acc work (base + rowOf (length hs) C R a ca b cb) ≡ joinCells P C R (drop base work) acc (record { a = a; ca = ca; b = b; cb = cb; d = getD unmarked a 0 })
+      unfolding joinRow joinCells conv
       join-same base acc a ca b cb h =
-          ap (λ (n : ℕ). build n (λ v. least topWord (suc v) (shareRow (getD masks v 0) acc work (base + rowOf (length hs) C R a ca b cb) v))) h
-          ∙ build-cong R _ _ (λ v l. least-cong topWord (suc v) _ _ (λ w k. ap₂ (λ (t : Bool) (z : ℕ). cond t (plus topWord (getD acc w 0) z) topWord) (right v w l (omega arith)) (word v w)))
+          ap (λ (n : ℕ). build n (shareRow parts counts acc work (base + rowOf (length hs) C R a ca b cb))) h
+          ∙ build-cong R _ _ (λ v l.
+          share-by rs R parts counts right (λ w. getD acc w 0) (λ w. getD work (base + rowOf (length hs) C R a ca b cb + w) 0) v l
+          ∙ least-cong topWord (suc v) _ _ (λ w k. ap (λ (z : ℕ). cond (below rs w v) (plus topWord (getD acc w 0) z) topWord) (word v w)))
         where
           word : (v w : ℕ) → getD work (base + rowOf (length hs) C R a ca b cb + (v - w)) 0
               ≡ getD (drop base work) (cellOf P C R (record { a = a; ca = ca; b = b; cb = cb; d = getD unmarked a 0 }) (v - w)) 0
@@ -88,20 +92,20 @@ module _ (q : Measures) (hs bs rs ds : List ℕ) where
               ∙ sym (getD-drop base work (cellOf P C R (record { a = a; ca = ca; b = b; cb = cb; d = getD unmarked a 0 }) (v - w)) 0)
 
       fold-same : (base : ℕ) (L : List ℕ) (r i a ca : ℕ) (acc : List ℕ) → length acc ≡ R
-          → foldRows masks work base (length hs) C R r i a ca L acc ≡ foldCells P C R (drop base work) r i a ca L unmarked acc
+          → foldRows parts counts work base (length hs) C R r i a ca L acc ≡ foldCells P C R (drop base work) r i a ca L unmarked acc
       unfolding foldRows foldCells
       fold-same base L zero i a ca acc h = join-same base acc a ca (suc i) 0 h
       fold-same base L (suc r) i a ca acc h =
           by-test (eqb (getD L i 0) 0)
           (λ e. rw e (fold-same base L r (suc i) a ca acc h))
-          (λ e. rw e (fold-same base L r (suc i) (suc i) (getD L i 0) _ (join-long masks acc work _ ∙ h)
+          (λ e. rw e (fold-same base L r (suc i) (suc i) (getD L i 0) _ (join-long parts counts acc work _ ∙ h)
           ∙ ap (foldCells P C R (drop base work) r (suc i) (suc i) (getD L i 0) L unmarked) (join-same base acc a ca (suc i) (getD L i 0) h)))
 
       module _ (rising : Rising P) where
         -- THE VALUE of a state is REST over the words, where the rows of its strips hold the table
         pub rest-value : (base : ℕ) (ss : List Point) (L : List ℕ) (v : ℕ) → v < R
             → ((p : Strip) → In p (strips P L unmarked) → (u : ℕ) → u < R → getD work (base + cellOf P C R p u) 0 ≡ T (rulesOf P) ss p u)
-            → restRows masks work base (length hs) C R L v ≡ value P (L, v, unmarked) ss
+            → restRows parts counts work base (length hs) C R L v ≡ value P (L, v, unmarked) ss
         unfolding restRows
         rest-value base ss L v l rows =
             ap (λ (z : List ℕ). getD z v 0) (fold-same base L (length hs) 0 0 0 (build R (just topWord 0 0)) (build-long R (just topWord 0 0)))
@@ -110,7 +114,7 @@ module _ (q : Measures) (hs bs rs ds : List ℕ) where
         -- THE WALK over the words is the walk by the table, and finds a slot at each step
         module _ (points : List Point) (table : TableOf P C R points work) where
           abbrev inWords : State P → List Point → ℕ
-          inWords = valueIn P masks work C R (length points)
+          inWords = valueIn P parts counts work C R (length points)
 
           -- the states that the walk meets
           pub record Met (j : ℕ) (L : List ℕ) (v : ℕ) : Type 0 where
@@ -122,7 +126,7 @@ module _ (q : Measures) (hs bs rs ds : List ℕ) where
           unfolding valueIn
           met-value j ss L v e n w =
               let b : (length points - length ss) * levelSize (length hs) C R ≡ j * cells P C R = ap₂ (λ (x y : ℕ). x * y) (omega arith) (sym level-cells) in
-              ap (λ (z : ℕ). restRows masks work z (length hs) C R L v) b
+              ap (λ (z : ℕ). restRows parts counts work z (length hs) C R L v) b
               ∙ rest-value (j * cells P C R) ss L v (w .budget) (λ p i u lu. reached-rows P C R points work table j (omega arith) p (w .reached p i) u lu ∙ ap (λ (z : List Point). T (rulesOf P) z p u) e)
 
           point-at : (j : ℕ) (s : Point) (ss : List Point) → drop j points ≡ s ∷ ss → getD points j noPoint ≡ s

@@ -18,14 +18,14 @@ use Rattle.walk.proofs.tie_site.Reads as tie-site-reads
 use Rattle.walk.proofs.+walk.{statement}
 use Rattle.walk.proofs.+walk.Tie.{close}
 
-abbrev μ-walk : Measures 12 walk-kinds.ps ℕ
-μ-walk κs a = length (a .1 .1 .1 .1 .1 .1 .1 .1 .1 .1 .0 .now) - a .1 .1 .1 .1 .1 .1 .1 .1 .1 .1 .1 .1 .1 .0
+abbrev μ-walk : Measures 13 walk-kinds.ps ℕ
+μ-walk κs a = length (a .1 .1 .1 .1 .1 .1 .1 .1 .1 .1 .1 .0 .now) - a .1 .1 .1 .1 .1 .1 .1 .1 .1 .1 .1 .1 .1 .1 .0
 
-abbrev walk-at : ℕ → In 12 walk-kinds.ps
-walk-at t = and 12 walk-kinds.ps (is 12 walk-kinds.ps μ-walk t) walk.Pre
+abbrev walk-at : ℕ → In 13 walk-kinds.ps
+walk-at t = and 13 walk-kinds.ps (is 13 walk-kinds.ps μ-walk t) walk.Pre
 
-abbrev walk-below : ℕ → In 12 walk-kinds.ps
-walk-below t = and 12 walk-kinds.ps (falls 12 walk-kinds.ps _<_ μ-walk t) walk.Pre
+abbrev walk-below : ℕ → In 13 walk-kinds.ps
+walk-below t = and 13 walk-kinds.ps (falls 13 walk-kinds.ps _<_ μ-walk t) walk.Pre
 
 -- src/lib.rt:340:9
 walk-returns : (t : ℕ) → walk-lts.Need-returns (
@@ -35,8 +35,8 @@ walk-returns : (t : ℕ) → walk-lts.Need-returns (
   walk.Post,
 ) (walk-at t) walk.Post
 walk-returns t c =
-    let a = c .before .before .before .before .before .before .before .before .before .before .before .before .before .args in
-    ended (a .q) (a .heights .now) (a .bounds .now) (a .radices .now) (a .draws .now) (a .masks .now) (a .work .now) (a .xs .now) (a .ys .now) (a .colours .now) (a .order .now) (c .before .before .before .before .before .before .before .before .before .before .before .before .before .pre .1 .0) (a .j) (a .labels .now) (a .out .now) (a .left .budget) (c .if1 .taken)
+    let a = c .before .before .before .before .before .before .before .before .before .before .before .before .before .before .args in
+    ended (a .q) (a .heights .now) (a .bounds .now) (a .radices .now) (a .draws .now) (a .parts .now) (a .counts .now) (a .work .now) (a .xs .now) (a .ys .now) (a .colours .now) (a .order .now) (c .before .before .before .before .before .before .before .before .before .before .before .before .before .before .pre .1 .0) (a .j) (a .labels .now) (a .out .now) (a .left .budget) (c .if1 .taken)
 
 -- src/lib.rt:342:9
 walk-tie-site-requires : (t : ℕ) → walk-lts.Need-tie-site-requires (
@@ -46,8 +46,8 @@ walk-tie-site-requires : (t : ℕ) → walk-lts.Need-tie-site-requires (
   walk.Post,
 ) (walk-at t) walk.Post
 walk-tie-site-requires t c κs =
-    let p = c .before .before .before .before .before .before .before .before .before .before .before .before .before .before .before .pre .1 in let a = c .before .before .before .before .before .before .before .before .before .before .before .before .before .before .before .args in
-    (p .0, (p .1, omega (arith, p .1 .tied, long (a .q) (a .heights .now) (a .bounds .now) (a .radices .now) (a .draws .now) (a .masks .now) (a .work .now) (a .xs .now) (a .ys .now) (a .colours .now) (a .order .now) (p .0), c .before .before .if1 .left)))
+    let p = c .before .before .before .before .before .before .before .before .before .before .before .before .before .before .before .before .pre .1 in let a = c .before .before .before .before .before .before .before .before .before .before .before .before .before .before .before .before .args in
+    (p .0, (p .1, omega (arith, p .1 .tied, long (a .q) (a .heights .now) (a .bounds .now) (a .radices .now) (a .draws .now) (a .parts .now) (a .counts .now) (a .work .now) (a .xs .now) (a .ys .now) (a .colours .now) (a .order .now) (p .0), c .before .before .if1 .left)))
 
 -- src/lib.rt:343:96
 walk-add-walk : (t : ℕ) → walk-lts.Need-add-walk (
@@ -57,8 +57,8 @@ walk-add-walk : (t : ℕ) → walk-lts.Need-add-walk (
   walk.Post,
 ) (walk-at t) walk.Post
 walk-add-walk t c =
-    let p = c .before .before .before .before .before .before .before .before .before .before .before .before .before .before .before .before .before .before .before .before .before .before .pre .1 in let a = c .before .before .before .before .before .before .before .before .before .before .before .before .before .before .before .before .before .before .before .before .before .before .args in
-    omega (arith, p .1 .tied, long (a .q) (a .heights .now) (a .bounds .now) (a .radices .now) (a .draws .now) (a .masks .now) (a .work .now) (a .xs .now) (a .ys .now) (a .colours .now) (a .order .now) (p .0), p .0 .fewSites)
+    let p = c .before .before .before .before .before .before .before .before .before .before .before .before .before .before .before .before .before .before .before .before .before .before .before .pre .1 in let a = c .before .before .before .before .before .before .before .before .before .before .before .before .before .before .before .before .before .before .before .before .before .before .before .args in
+    omega (arith, p .1 .tied, long (a .q) (a .heights .now) (a .bounds .now) (a .radices .now) (a .draws .now) (a .parts .now) (a .counts .now) (a .work .now) (a .xs .now) (a .ys .now) (a .colours .now) (a .order .now) (p .0), p .0 .fewSites)
 
 -- src/lib.rt:343:5
 walk-walk-requires : (t : ℕ) → walk-lts.Need-walk-requires (
@@ -68,8 +68,8 @@ walk-walk-requires : (t : ℕ) → walk-lts.Need-walk-requires (
   walk.Post,
 ) (walk-at t) walk.Post
 walk-walk-requires t c κs =
-    let p = c .before .before .before .before .before .before .before .before .before .before .before .before .before .before .before .before .before .before .before .before .before .before .pre .1 in let a = c .before .before .before .before .before .before .before .before .before .before .before .before .before .before .before .before .before .before .before .before .before .before .args in
-    (omega (arith, c .before .before .before .before .before .before .before .before .before .before .before .before .before .before .before .before .before .before .before .before .before .before .pre .0, p .1 .tied, long (a .q) (a .heights .now) (a .bounds .now) (a .radices .now) (a .draws .now) (a .masks .now) (a .work .now) (a .xs .now) (a .ys .now) (a .colours .now) (a .order .now) (p .0), c .before .before .before .before .before .before .before .before .before .if1 .left), (p .0, c .before .before .before .before .before .before .tie-site .ensures .0))
+    let p = c .before .before .before .before .before .before .before .before .before .before .before .before .before .before .before .before .before .before .before .before .before .before .before .pre .1 in let a = c .before .before .before .before .before .before .before .before .before .before .before .before .before .before .before .before .before .before .before .before .before .before .before .args in
+    (omega (arith, c .before .before .before .before .before .before .before .before .before .before .before .before .before .before .before .before .before .before .before .before .before .before .before .pre .0, p .1 .tied, long (a .q) (a .heights .now) (a .bounds .now) (a .radices .now) (a .draws .now) (a .parts .now) (a .counts .now) (a .work .now) (a .xs .now) (a .ys .now) (a .colours .now) (a .order .now) (p .0), c .before .before .before .before .before .before .before .before .before .if1 .left), (p .0, c .before .before .before .before .before .before .tie-site .ensures .0))
 
 -- src/lib.rt:334:1
 walk-same-length : (t : ℕ) → walk-lts.Need-same-length (
@@ -79,7 +79,7 @@ walk-same-length : (t : ℕ) → walk-lts.Need-same-length (
   walk.Post,
 ) (walk-at t) walk.Post
 walk-same-length t c =
-    c .before .before .before .before .walk .kept .1 .1 .1 .1 .1 .1 .1 .1 .1 .1 .1 .0 ∙ c .before .before .before .before .before .before .before .before .before .before .before .tie-site .kept .1 .1 .1 .1 .1 .1 .1 .1 .1 .1 .1 .0
+    c .before .before .before .before .walk .kept .1 .1 .1 .1 .1 .1 .1 .1 .1 .1 .1 .1 .0 ∙ c .before .before .before .before .before .before .before .before .before .before .before .tie-site .kept .1 .1 .1 .1 .1 .1 .1 .1 .1 .1 .1 .1 .0
 
 -- src/lib.rt:334:1
 walk-same-length-2 : (t : ℕ) → walk-lts.Need-same-length-2 (
@@ -89,7 +89,7 @@ walk-same-length-2 : (t : ℕ) → walk-lts.Need-same-length-2 (
   walk.Post,
 ) (walk-at t) walk.Post
 walk-same-length-2 t c =
-    c .before .before .before .before .walk .kept .1 .1 .1 .1 .1 .1 .1 .1 .1 .1 .1 .1 .0 ∙ c .before .before .before .before .before .before .before .before .before .before .before .tie-site .kept .1 .1 .1 .1 .1 .1 .1 .1 .1 .1 .1 .1 .0
+    c .before .before .before .before .walk .kept .1 .1 .1 .1 .1 .1 .1 .1 .1 .1 .1 .1 .1 .0 ∙ c .before .before .before .before .before .before .before .before .before .before .before .tie-site .kept .1 .1 .1 .1 .1 .1 .1 .1 .1 .1 .1 .1 .1 .0
 
 -- src/lib.rt:334:1
 walk-returns-2 : (t : ℕ) → walk-lts.Need-returns-2 (

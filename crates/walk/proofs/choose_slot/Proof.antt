@@ -18,15 +18,15 @@ use Rattle.walk.proofs.choose_slot.Lts as lts
 use Rattle.walk.proofs.keeps_cost.Reads as keeps-cost-reads
 
 abbrev Inv-loop : tie.InvT-loop
-Inv-loop masks work base q heights bounds radices draws labels₀ p s left m k₀ labels k = (labels ≡ labels₀) × (Tried (keepsCost (instanceBy q heights bounds radices draws) masks work base (q .colours) (q .budgets) (stripOf p) (pointOf s) labels₀ (left .budget) (left .cost)) (length heights) k)
+Inv-loop parts counts work base q heights bounds radices draws labels₀ p s left m k₀ labels k = (labels ≡ labels₀) × (Tried (keepsCost (instanceBy q heights bounds radices draws) parts counts work base (q .colours) (q .budgets) (stripOf p) (pointOf s) labels₀ (left .budget) (left .cost)) (length heights) k)
 
 abbrev μ-loop : tie.MeasureT-loop
-μ-loop masks work base q heights bounds radices draws labels₀ p s left m k₀ labels k = length heights - k
+μ-loop parts counts work base q heights bounds radices draws labels₀ p s left m k₀ labels k = length heights - k
 
 -- src/lib.rt:271:13
 cast-m : tie.Need-cast-m Inv-loop μ-loop
 cast-m c =
-    omega (arith, c .before .before .before .before .before .before .before .pre .0 .fewSlots)
+    omega (arith, c .before .before .before .before .before .before .before .before .pre .0 .fewSlots)
 
 -- src/lib.rt:273:5
 loop-holds : tie.Need-loop-holds Inv-loop μ-loop
@@ -36,7 +36,7 @@ loop-holds c =
 -- src/lib.rt:274:12
 keeps-cost-requires : tie.Need-keeps-cost-requires Inv-loop μ-loop
 keeps-cost-requires c κs =
-    let p = c .before .before .before .before .before .before .before .before .before .before .pre in
+    let p = c .before .before .before .before .before .before .before .before .before .before .before .pre in
     rw (c .before .before .loop .inv .0) (p .0, (p .1 .0, (p .1 .1 .0, p .1 .1 .1, p .1 .1 .2, p .1 .1 .3, c .before .loop-test .taken)))
 
 -- src/lib.rt:275:13

@@ -22,20 +22,20 @@ use Rattle.words.proofs.same.Reads as same-reads
 -- src/lib.rt:254:9
 price-of-requires : tie.Need-price-of-requires
 price-of-requires c κs =
-    let p = c .before .before .before .before .before .before .before .pre in
-    (p .0, (p .1 .1 .0, p .1 .1 .1, omega (arith, p .1 .1, p .0 .fewSlots)))
+    let p = c .before .before .before .before .before .before .before .before .pre in
+    (p .0, (p .1 .1 .0, omega (arith, p .1 .1, p .0 .fewSlots)))
 
 -- src/lib.rt:256:9
 returns : tie.Need-returns
 returns c =
-    let p = c .before .before .before .before .before .before .before .before .before .pre in
+    let p = c .before .before .before .before .before .before .before .before .before .before .pre in
     (sym (never-keeps _ _ _ (sym (c .before .price-of .ensures) ∙ c .if1 .taken) (p .1 .1 .2)), refl)
 
 -- src/lib.rt:258:39
 draw-of-requires : tie.Need-draw-of-requires
 draw-of-requires c κs =
-    let p = c .before .before .before .before .before .before .before .before .before .pre in
-    (small _ _ _ _ _ _ _ _ (p .0) (p .1 .1 .0) (omega (arith, p .1 .1, p .0 .fewSlots)), omega (arith, p .0 .drawn, p .1 .1 .0 .colourLow))
+    let p = c .before .before .before .before .before .before .before .before .before .before .pre in
+    (small _ _ _ _ _ _ _ (p .0) (p .1 .1 .0) (omega (arith, p .1 .1, p .0 .fewSlots)), omega (arith, p .0 .drawn, p .1 .1 .0 .colourLow))
 
 -- src/lib.rt:258:9
 monus-requires : tie.Need-monus-requires
@@ -44,12 +44,12 @@ monus-requires c κs = search needs
 -- src/lib.rt:259:60
 add-rest-after : tie.Need-add-rest-after
 add-rest-after c =
-    let p = c .before .before .before .before .before .before .before .before .before .before .before .before .before .pre in omega (arith, p .1 .1 .0 .colourLow, p .0 .fewColours)
+    let p = c .before .before .before .before .before .before .before .before .before .before .before .before .before .before .pre in omega (arith, p .1 .1 .0 .colourLow, p .0 .fewColours)
 
 -- src/lib.rt:259:9
 rest-after-requires : tie.Need-rest-after-requires
 rest-after-requires c κs =
-    let p = c .before .before .before .before .before .before .before .before .before .before .before .before .before .pre in
+    let p = c .before .before .before .before .before .before .before .before .before .before .before .before .before .before .pre in
     (p .1 .0, (omega (arith, p .1 .1), omega (arith, p .1 .1 .0 .colourLow), omega (arith, c .before .before .monus .ensures, p .1 .1)))
 
 -- src/lib.rt:260:17
@@ -68,8 +68,8 @@ same-length c =
 -- src/lib.rt:247:1
 returns-2 : tie.Need-returns-2
 returns-2 c =
-    let p = c .before .before .before .before .before .before .before .before .before .before .before .before .before .before .before .before .before .before .pre in
-    let a = c .before .before .before .before .before .before .before .before .before .before .before .before .before .before .before .before .before .before .args in
+    let p = c .before .before .before .before .before .before .before .before .before .before .before .before .before .before .before .before .before .before .before .pre in
+    let a = c .before .before .before .before .before .before .before .before .before .before .before .before .before .before .before .before .before .before .before .args in
     (c .same .ensures ∙ rw (c .before .plus-of .ensures, c .before .before .before .before .rest-after .ensures .0, c .before .before .before .before .before .before .before .before .before .before .price-of .ensures, c .before .before .before .before .before .before .before .monus .ensures, c .before .before .before .before .before .before .before .before .draw-of .ensures, p .1 .1 .3, add-one (a .s .c)) refl, c .before .before .before .before .rest-after .ensures .1)
 
 pub keeps-cost-spec : {M : Type 1} → statement M

@@ -13,7 +13,7 @@ use Rattle.walk.proofs.rest_after.Statement.{statement}
 use Rattle.walk.proofs.rest_after.Tie as tie
 use Rattle.walk.proofs.rest_after.Reads as reads
 use Rattle.walk.proofs.rest_after.Lts as lts
-use Rattle.walk.proofs.rest_of.Reads as rest-of-reads
+use Rattle.rest.proofs.rest_of.Reads as rest-of-reads
 
 -- src/lib.rt:233:15
 mul-old : tie.Need-mul-old
@@ -34,8 +34,8 @@ slice-write-labels c = search needs
 -- src/lib.rt:235:9
 rest-of-requires : tie.Need-rest-of-requires
 rest-of-requires c κs =
-    let p = c .before .before .before .before .before .pre in
-    (level-set _ _ _ _ _ _ _ _ (p .0) (p .1 .0) (p .1 .1), p .1 .2)
+    let p = c .before .before .before .before .before .before .pre in
+    (level-set _ _ _ _ _ _ _ _ _ (p .0) (p .1 .0) (p .1 .1), p .1 .2)
 
 -- src/lib.rt:236:5
 mul-labels-2 : tie.Need-mul-labels-2
@@ -52,7 +52,7 @@ same-length c = search needs
 -- src/lib.rt:226:1
 returns : tie.Need-returns
 returns c =
-    let a = c .before .before .before .before .before .before .args in
+    let a = c .before .before .before .before .before .before .before .args in
     (rw (length-set (a .labels .now) (a .k) (a .c)) at (c .rest-of .ensures), set-set (a .labels .now) (a .k) _ _ ∙ set-getD (a .labels .now) (a .k) 0)
 
 pub rest-after-spec : {M : Type 1} → statement M

@@ -15,36 +15,25 @@ use Rattle.optimum.specs.OneSided.{topWord}
 use Rattle.optimum.specs.Cells.{build}
 use Rattle.optimum.proofs.Levels.{build-at, build-long}
 use native.Mathlib.Nat.{mul-le-mul, mul-le-mul-right}
-use Rattle.walk.specs.Rest.{bitOf, shareRow, rowOf, levelSize, StripIn, LevelIn, joinRow, foldRows}
-
--- ---- the bits of a mask, one after the other
-
-pub first-bits : (mask : ℕ) → mask ≡ mask / 2 ^ 0
-first-bits mask = sym (rw (pow-zero 2) (div-one mask))
-
-pub next-bits : (mask w : ℕ) → mask / 2 ^ w / 2 ≡ mask / 2 ^ (w + 1)
-next-bits mask w = rw (add-one w, pow-suc 2 w) (div-div-eq-div-mul mask (2 ^ w) 2)
-
-pub least-more : (best w : ℕ) (f : ℕ → ℕ) → best ≡ least topWord w f → min best (f w) ≡ least topWord (w + 1) f
-unfolding least
-least-more best w f e = rw (add-one w, e)
+use Rattle.budgets.specs.Budgets.{Within, partAt, shareBy}
+use Rattle.rest.specs.Rest.{shareRow, rowOf, levelSize, StripIn, LevelIn, joinRow, foldRows}
 
 -- ---- a row joined from the highest budget down
 
 -- from v on the new costs stand, below it the old ones
-pub record Joined (masks old work : List ℕ) (row : ℕ) (acc : List ℕ) (v : ℕ) : Type 0 where
+pub record Joined (parts counts old work : List ℕ) (row : ℕ) (acc : List ℕ) (v : ℕ) : Type 0 where
   pub long : length acc ≡ length old
   pub within : v ≤ length old
   pub kept : (k : ℕ) → k < v → getD acc k 0 ≡ getD old k 0
-  pub done : (k : ℕ) → v ≤ k → k < length old → getD acc k 0 ≡ least topWord (suc k) (shareRow (getD masks k 0) old work row k)
+  pub done : (k : ℕ) → v ≤ k → k < length old → getD acc k 0 ≡ shareRow parts counts old work row k
 
-pub joined-none : (masks old work : List ℕ) (row : ℕ) → Joined masks old work row old (length old)
-joined-none masks old work row =
+pub joined-none : (parts counts old work : List ℕ) (row : ℕ) → Joined parts counts old work row old (length old)
+joined-none parts counts old work row =
     record { long = refl; within = omega arith; kept = λ k h. refl; done = λ k h l. absurd (omega arith) }
 
-pub joined-more : (masks old work : List ℕ) (row : ℕ) (acc : List ℕ) (v u x : ℕ) → Joined masks old work row acc v → u + 1 ≡ v
-    → x ≡ least topWord (suc u) (shareRow (getD masks u 0) acc work row u) → Joined masks old work row (set acc u x) u
-joined-more masks old work row acc v u x j e h =
+pub joined-more : (parts counts old work : List ℕ) (row : ℕ) (acc : List ℕ) (v u x : ℕ) → Joined parts counts old work row acc v → u + 1 ≡ v
+    → Within (length old) parts counts → x ≡ shareBy parts counts (λ w. getD acc (0 + w) 0) (λ w. getD work (row + w) 0) u → Joined parts counts old work row (set acc u x) u
+joined-more parts counts old work row acc v u x j e i h =
     record {
       long = length-set acc u x ∙ j .long;
       within = omega (arith, j .within);
@@ -54,19 +43,22 @@ joined-more masks old work row acc v u x j e h =
           (λ q. getD-set-other acc u k x 0 q ∙ j .done k (omega arith) b);
     }
   where
-    same : least topWord (suc u) (shareRow (getD masks u 0) acc work row u) ≡ least topWord (suc u) (shareRow (getD masks u 0) old work row u)
-    same = least-cong topWord (suc u) _ _ (λ w l. ap (λ (z : ℕ). cond (bitOf (getD masks u 0) w) (plus topWord z (getD work (row + (u - w)) 0)) topWord) (j .kept w (omega arith)))
+    same : shareBy parts counts (λ w. getD acc (0 + w) 0) (λ w. getD work (row + w) 0) u ≡ shareRow parts counts old work row u
+    same =
+        least-cong topWord (getD counts u 0) _ _ (λ p l.
+        let b = i .small u p (omega (arith, j .within)) l in
+        ap (λ (z : ℕ). plus topWord z (getD work (row + (u - partAt parts u p)) 0)) (ap (λ (z : ℕ). getD acc z 0) (omega arith) ∙ j .kept (partAt parts u p) (omega arith)))
 
-pub joined-all : (masks old work : List ℕ) (row : ℕ) (acc : List ℕ) → Joined masks old work row acc 0 → acc ≡ joinRow masks old work row
+pub joined-all : (parts counts old work : List ℕ) (row : ℕ) (acc : List ℕ) → Joined parts counts old work row acc 0 → acc ≡ joinRow parts counts old work row
 unfolding joinRow
-joined-all masks old work row acc j =
+joined-all parts counts old work row acc j =
     ext-getD 0 acc _ (j .long ∙ sym (build-long (length old) _)) (λ i l. let b : i < length old = omega (arith, j .long) in j .done i (omega arith) b ∙ sym (build-at (length old) _ i b))
 
 -- ---- where a strip's entries lie
 
-pub join-long : (masks acc work : List ℕ) (row : ℕ) → length (joinRow masks acc work row) ≡ length acc
+pub join-long : (parts counts acc work : List ℕ) (row : ℕ) → length (joinRow parts counts acc work row) ≡ length acc
 unfolding joinRow
-join-long masks acc work row = build-long (length acc) _
+join-long parts counts acc work row = build-long (length acc) _
 
 packed : (x y X B : ℕ) → x < X → y < B → x * B + y < X * B
 packed x y X B h k =
@@ -121,49 +113,49 @@ size m C R a b c =
 -- ---- the fold over the open labels
 
 -- what is left to fold from slot i on is what was to fold at the start
-pub record Folding (masks work : List ℕ) (base C R : ℕ) (L start acc : List ℕ) (a ca i : ℕ) : Type 0 where
+pub record Folding (parts counts work : List ℕ) (base C R : ℕ) (L start acc : List ℕ) (a ca i : ℕ) : Type 0 where
   pub long : length acc ≡ R
   pub passed : i ≤ length L
   pub above : a ≤ i
   pub colour : ca ≤ C
-  pub same : foldRows masks work base (length L) C R (length L) 0 0 0 L start ≡ foldRows masks work base (length L) C R (length L - i) i a ca L acc
+  pub same : foldRows parts counts work base (length L) C R (length L) 0 0 0 L start ≡ foldRows parts counts work base (length L) C R (length L - i) i a ca L acc
 
-pub folding-none : (masks work : List ℕ) (base C R : ℕ) (L start : List ℕ) → length start ≡ R → Folding masks work base C R L start start 0 0 0
-folding-none masks work base C R L start h =
-    record { long = h; passed = omega arith; above = omega arith; colour = omega arith; same = ap (λ (r : ℕ). foldRows masks work base (length L) C R r 0 0 0 L start) (omega arith) }
+pub folding-none : (parts counts work : List ℕ) (base C R : ℕ) (L start : List ℕ) → length start ≡ R → Folding parts counts work base C R L start start 0 0 0
+folding-none parts counts work base C R L start h =
+    record { long = h; passed = omega arith; above = omega arith; colour = omega arith; same = ap (λ (r : ℕ). foldRows parts counts work base (length L) C R r 0 0 0 L start) (omega arith) }
 
-pub folding-more : (masks work : List ℕ) (base C R : ℕ) (L start acc : List ℕ) (a ca i : ℕ) (next : List ℕ) (a′ ca′ : ℕ)
-    → Folding masks work base C R L start acc a ca i → i < length L → getD L i 0 ≤ C
-    → next ≡ cond (eqb (getD L i 0) 0) acc (joinRow masks acc work (base + rowOf (length L) C R a ca (i + 1) (getD L i 0)))
+pub folding-more : (parts counts work : List ℕ) (base C R : ℕ) (L start acc : List ℕ) (a ca i : ℕ) (next : List ℕ) (a′ ca′ : ℕ)
+    → Folding parts counts work base C R L start acc a ca i → i < length L → getD L i 0 ≤ C
+    → next ≡ cond (eqb (getD L i 0) 0) acc (joinRow parts counts acc work (base + rowOf (length L) C R a ca (i + 1) (getD L i 0)))
     → a′ ≡ cond (eqb (getD L i 0) 0) a (i + 1) → ca′ ≡ cond (eqb (getD L i 0) 0) ca (getD L i 0)
-    → Folding masks work base C R L start next a′ ca′ (i + 1)
-folding-more masks work base C R L start acc a ca i next a′ ca′ f l c en ea ec = rw (en, ea, ec) (go (eqb (getD L i 0) 0) refl)
+    → Folding parts counts work base C R L start next a′ ca′ (i + 1)
+folding-more parts counts work base C R L start acc a ca i next a′ ca′ f l c en ea ec = rw (en, ea, ec) (go (eqb (getD L i 0) 0) refl)
   where
-    step : foldRows masks work base (length L) C R (length L - i) i a ca L acc ≡ foldRows masks work base (length L) C R (suc (length L - (i + 1))) i a ca L acc
-    step = ap (λ (r : ℕ). foldRows masks work base (length L) C R r i a ca L acc) (omega arith)
+    step : foldRows parts counts work base (length L) C R (length L - i) i a ca L acc ≡ foldRows parts counts work base (length L) C R (suc (length L - (i + 1))) i a ca L acc
+    step = ap (λ (r : ℕ). foldRows parts counts work base (length L) C R r i a ca L acc) (omega arith)
 
-    go : (b : Bool) → eqb (getD L i 0) 0 ≡ b → Folding masks work base C R L start (cond b acc (joinRow masks acc work (base + rowOf (length L) C R a ca (i + 1) (getD L i 0)))) (cond b a (i + 1)) (cond b ca (getD L i 0)) (i + 1)
+    go : (b : Bool) → eqb (getD L i 0) 0 ≡ b → Folding parts counts work base C R L start (cond b acc (joinRow parts counts acc work (base + rowOf (length L) C R a ca (i + 1) (getD L i 0)))) (cond b a (i + 1)) (cond b ca (getD L i 0)) (i + 1)
     go true e =
         record { long = f .long; passed = omega arith; above = omega (arith, f .above); colour = f .colour; same = f .same ∙ step ∙ (unfold foldRows in rw (e, add-one i)) }
     go false e =
-        record { long = join-long masks acc work _ ∙ f .long; passed = omega arith; above = omega arith; colour = c; same = f .same ∙ step ∙ (unfold foldRows in rw (e, add-one i)) }
+        record { long = join-long parts counts acc work _ ∙ f .long; passed = omega arith; above = omega arith; colour = c; same = f .same ∙ step ∙ (unfold foldRows in rw (e, add-one i)) }
 
-pub folding-all : (masks work : List ℕ) (base C R : ℕ) (L start acc : List ℕ) (a ca i : ℕ) → Folding masks work base C R L start acc a ca i → length L ≤ i
-    → joinRow masks acc work (base + rowOf (length L) C R a ca (length L + 1) 0) ≡ foldRows masks work base (length L) C R (length L) 0 0 0 L start
+pub folding-all : (parts counts work : List ℕ) (base C R : ℕ) (L start acc : List ℕ) (a ca i : ℕ) → Folding parts counts work base C R L start acc a ca i → length L ≤ i
+    → joinRow parts counts acc work (base + rowOf (length L) C R a ca (length L + 1) 0) ≡ foldRows parts counts work base (length L) C R (length L) 0 0 0 L start
 unfolding foldRows
-folding-all masks work base C R L start acc a ca i f h =
+folding-all parts counts work base C R L start acc a ca i f h =
     let e : i ≡ length L = omega (arith, f .passed) in
     let z : length L - i ≡ 0 = omega arith in
     sym (f .same ∙ rw z (rw (e, add-one (length L))))
 
 -- the strip above the bottom edge
-pub last-strip : (masks work : List ℕ) (base C R : ℕ) (L start acc : List ℕ) (a ca i : ℕ) → LevelIn masks work base C R L → Folding masks work base C R L start acc a ca i
+pub last-strip : (parts counts work : List ℕ) (base C R : ℕ) (L start acc : List ℕ) (a ca i : ℕ) → LevelIn parts counts work base C R L → Folding parts counts work base C R L start acc a ca i
     → StripIn (length L) C R a ca (length L + 1) 0
-last-strip masks work base C R L start acc a ca i p f =
+last-strip parts counts work base C R L start acc a ca i p f =
     record {
       fewSlots = p .fewSlots;
       fewColours = p .fewColours;
-      fewBudgets = p .fewBudgets;
+      fewBudgets = p .splits .few;
       aLow = omega (arith, f .above, f .passed);
       caLow = f .colour;
       bLow = omega arith;

@@ -1,6 +1,6 @@
 use Rattle.search.specs.Share.{just}
 use Rattle.optimum.specs.OneSided.{topWord}
-use Rattle.walk.proofs.Rows.{Filled, filled-none, filled-more, filled-all}
+use Rattle.rest.proofs.Rows.{Filled, filled-none, filled-more, filled-all}
 use mathlib.Core.Path.{_≡_, refl, ap, sym, _∙_}
 use mathlib.Core.List.{List, [], _∷_, _++_}
 use mathlib.Core.Logic.{⊎-elim}
@@ -10,10 +10,10 @@ use native.Mathlib.Numerals.{add-one}
 use lib.ListN.{length, getD, take, drop, set, length-set}
 use borrow.Author.Tests.{eq-eqb, ne-eqb, lt-ltb, le-ltb, le-leb, lt-leb}
 use borrow.Author.Needs.{needs}
-use Rattle.walk.proofs.start_row.Statement.{statement}
-use Rattle.walk.proofs.start_row.Tie as tie
-use Rattle.walk.proofs.start_row.Reads as reads
-use Rattle.walk.proofs.start_row.Lts as lts
+use Rattle.rest.proofs.start_row.Statement.{statement}
+use Rattle.rest.proofs.start_row.Tie as tie
+use Rattle.rest.proofs.start_row.Reads as reads
+use Rattle.rest.proofs.start_row.Lts as lts
 use Rattle.words.proofs.choose.Reads as choose-reads
 
 abbrev Inv-loop : tie.InvT-loop

@@ -1,4 +1,4 @@
-use Rattle.walk.specs.Rest.{restRows}
+use Rattle.rest.specs.Rest.{restRows}
 use mathlib.Core.Path.{_≡_, refl, ap, sym, _∙_}
 use mathlib.Core.List.{List, [], _∷_, _++_}
 use mathlib.Core.Logic.{⊎-elim}
@@ -8,12 +8,12 @@ use native.Mathlib.Numerals.{add-one}
 use lib.ListN.{length, getD, take, drop, set, length-set}
 use borrow.Author.Tests.{eq-eqb, ne-eqb, lt-ltb, le-ltb, le-leb, lt-leb}
 use borrow.Author.Needs.{needs}
-use Rattle.walk.proofs.rest_in.Statement.{statement}
-use Rattle.walk.proofs.rest_in.Tie as tie
-use Rattle.walk.proofs.rest_in.Reads as reads
-use Rattle.walk.proofs.rest_in.Lts as lts
-use Rattle.walk.proofs.fold_rows.Reads as fold-rows-reads
-use Rattle.walk.proofs.start_row.Reads as start-row-reads
+use Rattle.rest.proofs.rest_in.Statement.{statement}
+use Rattle.rest.proofs.rest_in.Tie as tie
+use Rattle.rest.proofs.rest_in.Reads as reads
+use Rattle.rest.proofs.rest_in.Lts as lts
+use Rattle.rest.proofs.fold_rows.Reads as fold-rows-reads
+use Rattle.rest.proofs.start_row.Reads as start-row-reads
 
 -- src/lib.rt:121:5
 start-row-requires : tie.Need-start-row-requires
@@ -39,7 +39,7 @@ same-length c = search needs
 returns : tie.Need-returns
 unfolding restRows
 returns c =
-    rw (c .before .before .before .fold-rows .ensures, c .before .before .before .before .before .before .before .start-row .ensures, c .before .before .before .before .before .before .before .before .before .before .before .before .before .pre .1 .0) refl
+    rw (c .before .before .before .fold-rows .ensures, c .before .before .before .before .before .before .before .start-row .ensures, c .before .before .before .before .before .before .before .before .before .before .before .before .before .before .pre .1 .0) refl
 
 pub rest-in-spec : {M : Type 1} → statement M
 rest-in-spec =
