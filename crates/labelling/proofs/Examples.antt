@@ -3,10 +3,11 @@ use mathlib.Core.Path.{_≡_, refl, subst}
 use mathlib.Core.List.{List, [], _∷_}
 use mathlib.Core.Option.{none, some}
 use Prim.Native.Nat.{ℕ}
+use native.Mathlib.Omega.{arith}
 use Rattle.sheet.specs.Sheet.{all, inOrder, slotsIn, sitesRun, coloursIn, sitesIn, productOf, rising, rankOf, hasRank, ranksDiffer, sheetIn, sheetFault}
 use Rattle.labelling.specs.Layout.{tiedOf, isUsed, usedFrom, leastX, slotsOf, boundsKept, backbones, siteShare, drops, tieWords, tiesIn, nextRank, slotAt, byRank, comesFirst, bestOver, bestFrom, sheetPart, best, answerOf}
 use Rattle.labelling.specs.Promise.{a, shortest, twoSided, gapThree, gapFour, boundZero, headAlone, laidOut, turnedDown, Examples}
-use Rattle.labelling.proofs.Maker.{Called, called}
+use Rattle.labelling.proofs.Maker.{Called, called, refused-work, refused-out}
 
 -- a call by what is best
 lays : (ws js : List ℕ) → sheetFault ws ≡ 0 → best (sheetIn ws) ≡ some js → laidOut ws (answerOf (sheetIn ws) js)
@@ -36,5 +37,7 @@ examples = (
     (refl, refl),
     refl,
     refl,
+    (λ k o l. refused-work a k o refl (omega arith) .fault-is),
+    λ k o l n. refused-out a k o refl (omega arith) (omega arith) .fault-is,
   ),
 )

@@ -6,16 +6,16 @@ use mathlib.Core.Path.{_≡_, sym, _∙_, ap, subst⁻¹}
 use mathlib.Core.Bool.{true, false, cond}
 use mathlib.Core.List.{List, [], _++_}
 use mathlib.Core.Option.{Option, none, some}
-use Prim.Native.Nat.{ℕ, _+_, _≤_, _<_}
+use Prim.Native.Nat.{ℕ, _≤_, _<_}
 use native.Mathlib.Omega.{arith}
 use lib.Dec.{eqb}
 use lib.ListN.{length, take, drop, replicate, length-replicate}
 use lib.Seq.{length-front, length-take-le, take-at, drop-at}
 use borrow.Author.Tests.{eq-eqb}
 use Rattle.sheet.specs.Sheet.{Sheet, sheetIn, workFor}
-use Rattle.labelling.specs.Layout.{tiesIn, slotsByRank, isBetter, best, answer, answerOf, isLawful}
+use Rattle.labelling.specs.Layout.{slotsByRank, isBetter, best, answer, answerOf, isLawful, layoutTies, wordsFor}
 use Rattle.labelling.specs.Entry.{makeFault, makeAnswer, makeWork}
-use Rattle.labelling.specs.Promise.{areWords, same, isBeaten, begun, BestOfAll, AreasKept, ContentsUnread, RefusedUnchanged}
+use Rattle.labelling.specs.Promise.{same, isBeaten, begun, NoneLawful, BeatsAll, BestOfAll, AreasKept, ContentsUnread, RefusedUnchanged}
 use Rattle.lists.proofs.Tests.{clash, is-false, is-true}
 use Rattle.labelling.proofs.Order.{before}
 use Rattle.labelling.proofs.Best.{Obeys, IsBest, best-is}
@@ -29,7 +29,7 @@ contents-unread : ContentsUnread
 contents-unread ws k o l p t u = go (best (sheetIn ws)) (best-is (sheetIn ws)) (called ws k o (t .1, t .2, t .3)) (called ws l p (u .1, u .2, u .3))
   where
     n : ℕ
-    n = length (sheetIn ws .sites) + 1
+    n = wordsFor (sheetIn ws)
 
     w : ℕ
     w = workFor (sheetIn ws)
@@ -41,14 +41,11 @@ contents-unread ws k o l p t u = go (best (sheetIn ws)) (best-is (sheetIn ws)) (
         (drop w (makeWork ws k o) ≡ drop w k)
     go none h c d = (
       c .fault ∙ sym (d .fault),
-      (λ e. absurd (zero-ten (sym e ∙ c .fault))),
+      (λ e. absurd (omega (arith, c .fault))),
       ap (drop n) (c .answer),
       ap (take w) (c .work) ∙ take-at (replicate w 0) (drop w k) w (length-replicate w 0),
       ap (drop w) (c .work) ∙ drop-at (replicate w 0) (drop w k) w (length-replicate w 0),
     )
-      where
-        zero-ten : _≡_ {A = ℕ} 0 10 → ⊥
-        zero-ten e = omega arith
     go (some js) h c d = (
       c .fault ∙ sym (d .fault),
       (λ e. begun-is ws k o js c (h .0) ∙ sym (begun-is ws l p js d (h .0))),
@@ -104,7 +101,7 @@ pub beats : (s : Sheet) → Sound s → (js : List ℕ) → IsBest s (Obeys s) (
     same b (answerOf s js) ≡ false → isBeaten s (answerOf s js) b ≡ true
 beats s o js h b l d =
     let w : Written s b = lawful-obeys s b l in
-    let ks : List ℕ = tiesIn (drop 1 b) in
+    let ks : List ℕ = layoutTies b in
     subst⁻¹ (λ (v : List ℕ). isBeaten s (answerOf s js) v ≡ true) (w .written)
     (beaten-is s o js ks (h .0) (w .obeys) ∙
     is-true (isBetter s js ks) λ e.
@@ -117,29 +114,22 @@ best-of-all ws k o t = go (best (sheetIn ws)) (best-is (sheetIn ws)) (called ws 
     s : Sheet
     s = sheetIn ws
 
-    sd : Sound (sheetIn ws)
+    sd : Sound s
     sd = sound ws (t .1)
 
-    go : (b : Option (List ℕ)) → IsBest (sheetIn ws) (Obeys (sheetIn ws)) b → Called ws k o b →
-        (makeFault ws k o ≡ 10 → (b : List ℕ) → areWords b ≡ true → isLawful (sheetIn ws) b ≡ false) ×
-        (((b : List ℕ) → areWords b ≡ true → isLawful (sheetIn ws) b ≡ false) → makeFault ws k o ≡ 10) ×
-        (eqb (makeFault ws k o) 10 ≡ false →
-        (makeFault ws k o ≡ 0) × (isLawful (sheetIn ws) (begun ws k o) ≡ true) ×
-        ((b : List ℕ) → areWords b ≡ true → isLawful (sheetIn ws) b ≡ true → same b (begun ws k o) ≡ false →
-        isBeaten (sheetIn ws) (begun ws k o) b ≡ true))
+    go : (r : Option (List ℕ)) → IsBest s (Obeys s) r → Called ws k o r →
+        (makeFault ws k o ≡ 10 → NoneLawful s) × (NoneLawful s → makeFault ws k o ≡ 10) ×
+        (eqb (makeFault ws k o) 10 ≡ false → (makeFault ws k o ≡ 0) × (isLawful s (begun ws k o) ≡ true) × BeatsAll s (begun ws k o))
     go none h c = (
-      (λ e b a. is-false (isLawful (sheetIn ws) b) λ f. h (tiesIn (drop 1 b)) (lawful-obeys (sheetIn ws) b f .obeys)),
+      (λ e b a. is-false (isLawful s b) λ f. h (layoutTies b) (lawful-obeys s b f .obeys)),
       (λ f. c .fault),
       (λ e. clash (eq-eqb (makeFault ws k o) 10 (c .fault)) e),
     )
     go (some js) h c = (
-      (λ e. absurd (zero-ten (sym (c .fault) ∙ e))),
-      (λ f. clash (obeys-lawful (sheetIn ws) sd js (h .0)) (f (answerOf (sheetIn ws) js) (answer-words (sheetIn ws) sd js (h .0)))),
-      (λ e. (c .fault, rw g (obeys-lawful (sheetIn ws) sd js (h .0)), λ b a l d. rw g (beats (sheetIn ws) sd js h b l (rw g at d)))),
+      (λ e. absurd (omega (arith, c .fault))),
+      (λ f. clash (obeys-lawful s sd js (h .0)) (f (answerOf s js) (answer-words s sd js (h .0)))),
+      (λ e. (c .fault, rw g (obeys-lawful s sd js (h .0)), λ b a l d. rw g (beats s sd js h b l (rw g at d)))),
     )
       where
-        zero-ten : _≡_ {A = ℕ} 0 10 → ⊥
-        zero-ten e = omega arith
-
-        g : begun ws k o ≡ answerOf (sheetIn ws) js
+        g : begun ws k o ≡ answerOf s js
         g = begun-is ws k o js c (h .0)

@@ -12,7 +12,7 @@ use lib.ListN.{length, take, drop, replicate}
 use lib.Seq.{take-at}
 use borrow.Author.Tests.{lt-ltb, le-ltb, eq-eqb, ne-eqb}
 use Rattle.sheet.specs.Sheet.{all, isHead, inOrder, countsFit, rising, insideBy, ranksDiffer, productOf, Sheet, sheetIn, sheetFault, workFor}
-use Rattle.labelling.specs.Layout.{tieWords, best, answer, answerOf, answerBy}
+use Rattle.labelling.specs.Layout.{tieWords, best, answer, answerOf, answerBy, wordsFor}
 use Rattle.labelling.specs.Entry.{makeFault, makeAnswer, makeWork, isNone}
 use Rattle.labelling.specs.Promise.{takesSheet, begun}
 use Rattle.lists.proofs.Tests.{by-order, by-equal}
@@ -28,17 +28,17 @@ stage f k w o n b p q r = rw (eq-eqb f 0 p, le-ltb k w q, le-ltb o n r)
 
 -- the sheet is accepted and the areas are long enough
 abbrev pub Serves : (sheet work out : List ℕ) → Type 0
-Serves ws k o = (sheetFault ws ≡ 0) × (workFor (sheetIn ws) ≤ length k) × (length (sheetIn ws .sites) + 1 ≤ length o)
+Serves ws k o = (sheetFault ws ≡ 0) × (workFor (sheetIn ws) ≤ length k) × (wordsFor (sheetIn ws) ≤ length o)
 
 pub fault-is : (ws k o : List ℕ) → Serves ws k o → makeFault ws k o ≡ cond (isNone (best (sheetIn ws))) 10 0
 fault-is ws k o (f, w, n) =
-    stage (sheetFault ws) (length k) (workFor (sheetIn ws)) (length o) (length (sheetIn ws .sites) + 1) (isNone (best (sheetIn ws))) f w n
+    stage (sheetFault ws) (length k) (workFor (sheetIn ws)) (length o) (wordsFor (sheetIn ws)) (isNone (best (sheetIn ws))) f w n
 
 -- what a call does, by what is best
 pub record Called (ws k o : List ℕ) (b : Option (List ℕ)) : Type 0 where
   pub fault : makeFault ws k o ≡ cond (isNone b) 10 0
   pub work : makeWork ws k o ≡ replicate (workFor (sheetIn ws)) 0 ++ drop (workFor (sheetIn ws)) k
-  pub answer : makeAnswer ws k o ≡ cond (isNone b) o (answerBy (sheetIn ws) b ++ drop (length (sheetIn ws .sites) + 1) o)
+  pub answer : makeAnswer ws k o ≡ cond (isNone b) o (answerBy (sheetIn ws) b ++ drop (wordsFor (sheetIn ws)) o)
 
 pub called : (ws k o : List ℕ) → Serves ws k o → Called ws k o (best (sheetIn ws))
 called ws k o t = go (best (sheetIn ws)) refl (fault-is ws k o t)
@@ -47,7 +47,7 @@ called ws k o t = go (best (sheetIn ws)) refl (fault-is ws k o t)
     cleared = replicate (workFor (sheetIn ws)) 0 ++ drop (workFor (sheetIn ws)) k
 
     rest : List ℕ
-    rest = drop (length (sheetIn ws .sites) + 1) o
+    rest = drop (wordsFor (sheetIn ws)) o
 
     go : (b : Option (List ℕ)) → best (sheetIn ws) ≡ b → makeFault ws k o ≡ cond (isNone b) 10 0 → Called ws k o b
     go none e f =
@@ -64,7 +64,7 @@ called ws k o t = go (best (sheetIn ws)) refl (fault-is ws k o t)
         }
 
 -- on success the answer area begins with the answer
-pub length-answer : (s : Sheet) (js : List ℕ) → Obeys s js → length (answerOf s js) ≡ length (s .sites) + 1
+pub length-answer : (s : Sheet) (js : List ℕ) → Obeys s js → length (answerOf s js) ≡ wordsFor s
 length-answer s js j = more (length (tieWords js)) (length (s .sites)) (length-tieWords js ∙ j .long)
   where
     more : (a b : ℕ) → a ≡ b → suc a ≡ b + 1
@@ -72,8 +72,8 @@ length-answer s js j = more (length (tieWords js)) (length (s .sites)) (length-t
 
 pub begun-is : (ws k o js : List ℕ) → Called ws k o (some js) → Obeys (sheetIn ws) js → begun ws k o ≡ answerOf (sheetIn ws) js
 begun-is ws k o js c j =
-    ap (take (length (sheetIn ws .sites) + 1)) (c .answer) ∙
-    take-at (answerOf (sheetIn ws) js) (drop (length (sheetIn ws .sites) + 1) o) (length (sheetIn ws .sites) + 1) (length-answer (sheetIn ws) js j)
+    ap (take (wordsFor (sheetIn ws))) (c .answer) ∙
+    take-at (answerOf (sheetIn ws) js) (drop (wordsFor (sheetIn ws)) o) (wordsFor (sheetIn ws)) (length-answer (sheetIn ws) js j)
 
 -- THE CALL, by its outcome
 pub record Result (ws k o : List ℕ) (fault : ℕ) (out work : List ℕ) : Type 0 where
@@ -85,7 +85,7 @@ abbrev pub cleared : (ws k : List ℕ) → List ℕ
 cleared ws k = replicate (workFor (sheetIn ws)) 0 ++ drop (workFor (sheetIn ws)) k
 
 pub made : (ws k o js : List ℕ) → takesSheet ws k o → First (sheetIn ws) js →
-    Result ws k o 0 (answerOf (sheetIn ws) js ++ drop (length (sheetIn ws .sites) + 1) o) (cleared ws k)
+    Result ws k o 0 (answerOf (sheetIn ws) js ++ drop (wordsFor (sheetIn ws)) o) (cleared ws k)
 made ws k o js t f =
     let c : Called ws k o (some js) = subst (Called ws k o) (best-unique (sheetIn ws) (sound ws (t .1)) js (f .obeys) (f .least)) (called ws k o (t .1, t .2, t .3)) in
     record { fault-is = c .fault; out-is = c .answer; work-is = c .work }
@@ -100,7 +100,7 @@ kept-by : (ws k o : List ℕ) (n : ℕ) → makeFault ws k o ≡ n → 0 < n →
 kept-by ws k o n e l u =
     record {
       fault-is = e;
-      out-is = ap (λ (f : ℕ). cond (eqb f 0) (answer (sheetIn ws) ++ drop (length (sheetIn ws .sites) + 1) o) o) e ∙
+      out-is = ap (λ (f : ℕ). cond (eqb f 0) (answer (sheetIn ws) ++ drop (wordsFor (sheetIn ws)) o) o) e ∙
           rw (ne-eqb n 0 (λ q. omega arith));
       work-is = ap (λ (f : ℕ). cond (eqb f 0 || eqb f 10) (cleared ws k) k) e ∙ rw (ne-eqb n 0 (λ q. omega arith), ne-eqb n 10 (λ q. omega arith));
     }
@@ -133,9 +133,9 @@ refused-work ws k o e l = kept-by ws k o 8 (second (sheetFault ws) (length k) (w
     second : (f a b r : ℕ) → f ≡ 0 → a < b → cond (not (eqb f 0)) f (cond (ltb a b) 8 r) ≡ 8
     second f a b r e l = rw (eq-eqb f 0 e, lt-ltb a b l)
 
-pub refused-out : (ws k o : List ℕ) → sheetFault ws ≡ 0 → workFor (sheetIn ws) ≤ length k → length o < length (sheetIn ws .sites) + 1 → Result ws k o 9 o k
+pub refused-out : (ws k o : List ℕ) → sheetFault ws ≡ 0 → workFor (sheetIn ws) ≤ length k → length o < wordsFor (sheetIn ws) → Result ws k o 9 o k
 refused-out ws k o e w l =
-    kept-by ws k o 9 (third (sheetFault ws) (length k) (workFor (sheetIn ws)) (length o) (length (sheetIn ws .sites) + 1) _ e w l) (omega arith) (omega arith)
+    kept-by ws k o 9 (third (sheetFault ws) (length k) (workFor (sheetIn ws)) (length o) (wordsFor (sheetIn ws)) _ e w l) (omega arith) (omega arith)
   where
     third : (f a b c d r : ℕ) → f ≡ 0 → b ≤ a → c < d → cond (not (eqb f 0)) f (cond (ltb a b) 8 (cond (ltb c d) 9 r)) ≡ 9
     third f a b c d r e w l = rw (eq-eqb f 0 e, le-ltb a b w, lt-ltb c d l)
@@ -145,13 +145,13 @@ pub data Outcome (ws k o : List ℕ) : Type 0 where
   refused : (n : ℕ) → 0 < n → n < 10 → Result ws k o n o k → Outcome ws k o
   none-lawful : Serves ws k o → best (sheetIn ws) ≡ none → Result ws k o 10 o (cleared ws k) → Outcome ws k o
   laid-out : (js : List ℕ) → Serves ws k o → best (sheetIn ws) ≡ some js → Obeys (sheetIn ws) js →
-      Result ws k o 0 (answerOf (sheetIn ws) js ++ drop (length (sheetIn ws .sites) + 1) o) (cleared ws k) → Outcome ws k o
+      Result ws k o 0 (answerOf (sheetIn ws) js ++ drop (wordsFor (sheetIn ws)) o) (cleared ws k) → Outcome ws k o
 
 pub outcome : (ws k o : List ℕ) → Outcome ws k o
 outcome ws k o =
     by-equal (sheetFault ws) 0
     (λ f. by-order (workFor (sheetIn ws)) (length k)
-    (λ w. by-order (length (sheetIn ws .sites) + 1) (length o)
+    (λ w. by-order (wordsFor (sheetIn ws)) (length o)
     (λ n. go (f, w, n) (best (sheetIn ws)) refl (best-is (sheetIn ws)) (called ws k o (f, w, n)))
     (λ n. Outcome.refused 9 (omega arith) (omega arith) (refused-out ws k o f w n)))
     (λ w. Outcome.refused 8 (omega arith) (omega arith) (refused-work ws k o f w)))

@@ -7,10 +7,10 @@ use mathlib.Core.List.{List}
 use Prim.Native.Nat.{ℕ, zero, suc, _≤_, _<_}
 use native.Mathlib.Omega.{arith}
 use lib.Dec.{eqb}
-use lib.ListN.{length, drop}
+use lib.ListN.{length}
 use borrow.Author.Tests.{eqb-true, eq-eqb}
 use Rattle.sheet.specs.Sheet.{all, Sheet}
-use Rattle.labelling.specs.Layout.{tied, coloursKept, boundsKept, gapsKept, missesAll, clearsAll, countOf, lengthOf, statedCount, statedLength, tiesIn, isLayout, brokenBy}
+use Rattle.labelling.specs.Layout.{tied, coloursKept, boundsKept, gapsKept, missesAll, clearsAll, countOf, lengthOf, statedCount, statedLength, isLayout, brokenBy, layoutBody, layoutTies}
 use Rattle.labelling.specs.Lawful.{RuleSix, Lawful, Rule, LeastBroken}
 use Rattle.lists.proofs.Tests.{by-order, by-equal, by-either, and-l, and-r, and-i}
 use Rattle.labelling.proofs.Best.{below}
@@ -49,8 +49,8 @@ module _ (s : Sheet) (b : List ℕ) where
   first true n v l r u f = f refl (more n u (r .0 refl))
   first false n v l r u f = inr (omega arith, omega arith, record { lower = u; broken = λ q. false≢true (r .1 q) })
 
-  six-iff : ((eqb (statedCount b) (countOf s (tiesIn (drop 1 b))) && eqb (statedLength b) (lengthOf s (tiesIn (drop 1 b)))) ≡ true) ↔ RuleSix s b
-  six-iff = pair (statedCount b) (countOf s (tiesIn (drop 1 b))) (statedLength b) (lengthOf s (tiesIn (drop 1 b)))
+  six-iff : ((eqb (statedCount b) (countOf s (layoutTies b)) && eqb (statedLength b) (lengthOf s (layoutTies b))) ≡ true) ↔ RuleSix s b
+  six-iff = pair (statedCount b) (countOf s (layoutTies b)) (statedLength b) (lengthOf s (layoutTies b))
     where
       pair : (c d l m : ℕ) → ((eqb c d && eqb l m) ≡ true) ↔ ((c ≡ d) × (l ≡ m))
       pair c d l m = (
@@ -80,7 +80,7 @@ outcome s b h =
     λ p u. first s b _ 4 _ (omega arith) (rule-five s js long low) u λ p u. first s b _ 5 _ (omega arith) (six-iff s b) u λ p u. inl (refl, u))
   where
     js : List ℕ
-    js = tiesIn (drop 1 b)
+    js = layoutTies b
 
     six : Bool
     six = eqb (statedCount b) (countOf s js) && eqb (statedLength b) (lengthOf s js)
@@ -92,7 +92,7 @@ outcome s b h =
     long = formed-long s b f
 
     low : below (length (s .slots)) js ≡ true
-    low = ties-low s (drop 1 b) (f .ties)
+    low = ties-low s (layoutBody b) (f .ties)
 
 -- the least broken rule is one
 least-one : (s : Sheet) (b : List ℕ) (j k : ℕ) → LeastBroken j s b → LeastBroken k s b → j ≡ k

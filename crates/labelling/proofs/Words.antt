@@ -6,10 +6,10 @@ use mathlib.Core.List.{List, [], _∷_}
 use Prim.Native.Nat.{ℕ, zero, suc, _+_, _*_, _-_, _≤_, _<_}
 use native.Mathlib.Omega.{arith}
 use lib.Dec.{ltb, eqb}
-use lib.ListN.{length, getD, drop}
+use lib.ListN.{length, getD}
 use borrow.Author.Tests.{ltb-true, eqb-true, eqb-false, lt-ltb, eq-eqb}
 use Rattle.sheet.specs.Sheet.{all, kindOf, bits, Site, Sheet}
-use Rattle.labelling.specs.Layout.{tiedOf, tied, heightOf, siteShare, isUsed, usedFrom, usedOf, leftEnd, countOf, backbones, drops, lengthOf, brokenIn, tieWords, layoutWords, statedCount, statedLength, tiesIn, isTie, isLayout, brokenBy, isLawful, answerOf}
+use Rattle.labelling.specs.Layout.{tiedOf, tied, heightOf, siteShare, isUsed, usedFrom, usedOf, leftEnd, countOf, backbones, drops, lengthOf, brokenIn, tieWords, layoutWords, statedCount, statedLength, tiesIn, isTie, isLayout, brokenBy, isLawful, answerOf, layoutBody, layoutTies, wordsFor}
 use Rattle.labelling.specs.Promise.{areWords, same}
 use Rattle.lists.proofs.Tests.{by-test, and-l, and-r, and-i, eqb-self}
 use Rattle.sheet.proofs.Accepted.{Sound, lowY, lowN}
@@ -154,26 +154,26 @@ zero-broken b c l x y h p q = rw (eq-eqb b 0 h, eq-eqb x c p, eq-eqb y l q)
 
 -- A LAYOUT IN FORM, by its parts
 pub record Formed (s : Sheet) (b : List ℕ) : Type 0 where
-  pub long : length b ≡ length (s .sites) + 1
+  pub long : length b ≡ wordsFor s
   pub kind : kindOf (getD b 0 0) ≡ 8
-  pub ties : all (isTie s) (drop 1 b) ≡ true
+  pub ties : all (isTie s) (layoutBody b) ≡ true
 
 pub formed : (s : Sheet) (b : List ℕ) → isLayout s b ≡ true → Formed s b
 formed s b h =
-    let p : Bool = eqb (length b) (length (s .sites) + 1) in
+    let p : Bool = eqb (length b) (wordsFor s) in
     let q : Bool = eqb (kindOf (getD b 0 0)) 8 in
-    let r : Bool = all (isTie s) (drop 1 b) in
+    let r : Bool = all (isTie s) (layoutBody b) in
     record {
-      long = eqb-true (length b) (length (s .sites) + 1) (and-l p q (and-l (p && q) r h));
+      long = eqb-true (length b) (wordsFor s) (and-l p q (and-l (p && q) r h));
       kind = eqb-true (kindOf (getD b 0 0)) 8 (and-r p q (and-l (p && q) r h));
       ties = and-r (p && q) r h;
     }
 
 pub form : (s : Sheet) (b : List ℕ) → Formed s b → isLayout s b ≡ true
-form s b f = and-i (and-i (eq-eqb (length b) (length (s .sites) + 1) (f .long)) (eq-eqb (kindOf (getD b 0 0)) 8 (f .kind))) (f .ties)
+form s b f = and-i (and-i (eq-eqb (length b) (wordsFor s) (f .long)) (eq-eqb (kindOf (getD b 0 0)) 8 (f .kind))) (f .ties)
 
 -- its ties are one a site
-pub formed-long : (s : Sheet) (b : List ℕ) → Formed s b → length (tiesIn (drop 1 b)) ≡ length (s .sites)
+pub formed-long : (s : Sheet) (b : List ℕ) → Formed s b → length (layoutTies b) ≡ length (s .sites)
 formed-long s [] f = absurd (omega (arith, f .long))
 formed-long s (w ∷ ws) f = length-tiesIn ws ∙ less (length ws) (length (s .sites)) (f .long)
   where
@@ -182,12 +182,12 @@ formed-long s (w ∷ ws) f = length-tiesIn ws ∙ less (length ws) (length (s .s
 
 -- LAWFUL WORDS and ties that obey
 pub record Written (s : Sheet) (b : List ℕ) : Type 0 where
-  pub obeys : Obeys s (tiesIn (drop 1 b))
-  pub written : b ≡ answerOf s (tiesIn (drop 1 b))
+  pub obeys : Obeys s (layoutTies b)
+  pub written : b ≡ answerOf s (layoutTies b)
 
 -- a list in form whose rules 1 to 5 hold, and which states its numbers
-pub written : (s : Sheet) (b : List ℕ) → Formed s b → brokenIn s (tiesIn (drop 1 b)) ≡ 0 → statedCount b ≡ countOf s (tiesIn (drop 1 b)) →
-    statedLength b ≡ lengthOf s (tiesIn (drop 1 b)) → Written s b
+pub written : (s : Sheet) (b : List ℕ) → Formed s b → brokenIn s (layoutTies b) ≡ 0 → statedCount b ≡ countOf s (layoutTies b) →
+    statedLength b ≡ lengthOf s (layoutTies b) → Written s b
 written s [] f z c l = absurd (omega (arith, f .long))
 written s (w ∷ ws) f z c l =
     record {
@@ -200,7 +200,7 @@ written s (w ∷ ws) f z c l =
 
 pub lawful-obeys : (s : Sheet) (b : List ℕ) → isLawful s b ≡ true → Written s b
 lawful-obeys s b h =
-    let js : List ℕ = tiesIn (drop 1 b) in
+    let js : List ℕ = layoutTies b in
     let t = broken-zero (brokenIn s js) (countOf s js) (lengthOf s js) (statedCount b) (statedLength b)
     (eqb-true (brokenBy s b) 0 (and-r (isLayout s b) (eqb (brokenBy s b) 0) h)) in
     written s b (formed s b (and-l (isLayout s b) (eqb (brokenBy s b) 0) h)) (t .0) (t .1) (t .2)

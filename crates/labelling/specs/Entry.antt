@@ -1,29 +1,33 @@
--- What the calls answer and leave. Assumes nothing: these are definitions.
+-- What the layout maker answers and leaves: document 01, "Layout maker". Assumes nothing: these are definitions, each for every
+-- sheet, work area and answer area, as lists of words.
 use mathlib.Core.Bool.{Bool, true, false, _||_, not, cond}
-use mathlib.Core.List.{List, [], _++_}
+use mathlib.Core.List.{List, _++_}
 use mathlib.Core.Option.{Option, none, some}
-use Prim.Native.Nat.{ℕ, _+_}
+use Prim.Native.Nat.{ℕ}
 use lib.Dec.{ltb, eqb}
 use lib.ListN.{length, drop, replicate}
 use Rattle.sheet.specs.Sheet.{sheetIn, sheetFault, workFor}
-use Rattle.labelling.specs.Layout.{best, answer}
+use Rattle.labelling.specs.Layout.{best, answer, wordsFor}
 
--- the maker
+-- there is none
 abbrev pub isNone : Option (List ℕ) → Bool
 isNone none = true
 isNone (some x) = false
 
+-- the refusal: 1 to 7 as the reader; 8, the work area is shorter than needed; 9, the answer area has fewer than n + 1 words; 10, no
+-- layout obeys rules 1 to 5; or 0, success
 abbrev pub makeFault : (sheet work out : List ℕ) → ℕ
 makeFault ws k o =
     cond (not (eqb (sheetFault ws) 0)) (sheetFault ws)
     (cond (ltb (length k) (workFor (sheetIn ws))) 8
-    (cond (ltb (length o) (length (sheetIn ws .sites) + 1)) 9 (cond (isNone (best (sheetIn ws))) 10 0)))
+    (cond (ltb (length o) (wordsFor (sheetIn ws))) 9 (cond (isNone (best (sheetIn ws))) 10 0)))
 
+-- the answer area afterwards: success puts the layout in its first n + 1 words
 abbrev pub makeAnswer : (sheet work out : List ℕ) → List ℕ
 makeAnswer ws k o =
-    cond (eqb (makeFault ws k o) 0) (answer (sheetIn ws) ++ drop (length (sheetIn ws .sites) + 1) o) o
+    cond (eqb (makeFault ws k o) 0) (answer (sheetIn ws) ++ drop (wordsFor (sheetIn ws)) o) o
 
--- on success and on 10 the needed work words are zero
+-- the work area afterwards: on success and on 10 the needed words are all zero and the rest is as before
 abbrev pub makeWork : (sheet work out : List ℕ) → List ℕ
 makeWork ws k o =
     cond (eqb (makeFault ws k o) 0 || eqb (makeFault ws k o) 10) (replicate (workFor (sheetIn ws)) 0 ++ drop (workFor (sheetIn ws)) k) k

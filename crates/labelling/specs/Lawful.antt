@@ -5,9 +5,9 @@ use mathlib.Core.Logic.{_⊎_}
 use mathlib.Core.Bool.{true}
 use mathlib.Core.List.{List}
 use Prim.Native.Nat.{ℕ, zero, suc, _≤_, _<_}
-use lib.ListN.{length, getD, drop}
+use lib.ListN.{length, getD}
 use Rattle.sheet.specs.Sheet.{Colour, Sheet, rankOf}
-use Rattle.labelling.specs.Layout.{siteAt, tied, apart, heightOf, isUsed, usedOf, leftEnd, slotsOf, noColour, isFar, countOf, lengthOf, statedCount, statedLength, tiesIn, firstNumber, secondNumber}
+use Rattle.labelling.specs.Layout.{siteAt, tied, apart, heightOf, isUsed, usedOf, leftEnd, slotsOf, noColour, isFar, countOf, lengthOf, statedCount, statedLength, firstNumber, secondNumber, layoutTies}
 
 -- one tie for each site, to a slot below m
 pub record Ties (s : Sheet) (js : List ℕ) : Type 0 where
@@ -52,7 +52,7 @@ RuleFive s js =
 
 -- 6: the count and the length that the layout's words state are those of its ties
 abbrev pub RuleSix : Sheet → (words : List ℕ) → Type 0
-RuleSix s b = (statedCount b ≡ countOf s (tiesIn (drop 1 b))) × (statedLength b ≡ lengthOf s (tiesIn (drop 1 b)))
+RuleSix s b = (statedCount b ≡ countOf s (layoutTies b)) × (statedLength b ≡ lengthOf s (layoutTies b))
 
 -- rules 1 to 5 of ties
 pub record Rules (s : Sheet) (js : List ℕ) : Type 0 where
@@ -64,17 +64,17 @@ pub record Rules (s : Sheet) (js : List ℕ) : Type 0 where
 
 -- rules 1 to 6 of a layout in words
 pub record Lawful (s : Sheet) (b : List ℕ) : Type 0 where
-  pub rules : Rules s (tiesIn (drop 1 b))
+  pub rules : Rules s (layoutTies b)
   pub six : RuleSix s b
 
 -- the rule of a number; there is no other, and what is not there is not broken
 unfoldable pub Rule : (number : ℕ) → Sheet → (words : List ℕ) → Type 0
 Rule zero s b = Unit
-Rule (suc zero) s b = RuleOne s (tiesIn (drop 1 b))
-Rule (suc (suc zero)) s b = RuleTwo s (tiesIn (drop 1 b))
-Rule (suc (suc (suc zero))) s b = RuleThree s (tiesIn (drop 1 b))
-Rule (suc (suc (suc (suc zero)))) s b = RuleFour s (tiesIn (drop 1 b))
-Rule (suc (suc (suc (suc (suc zero))))) s b = RuleFive s (tiesIn (drop 1 b))
+Rule (suc zero) s b = RuleOne s (layoutTies b)
+Rule (suc (suc zero)) s b = RuleTwo s (layoutTies b)
+Rule (suc (suc (suc zero))) s b = RuleThree s (layoutTies b)
+Rule (suc (suc (suc (suc zero)))) s b = RuleFour s (layoutTies b)
+Rule (suc (suc (suc (suc (suc zero))))) s b = RuleFive s (layoutTies b)
 Rule (suc (suc (suc (suc (suc (suc zero)))))) s b = RuleSix s b
 Rule (suc (suc (suc (suc (suc (suc (suc n))))))) s b = Unit
 

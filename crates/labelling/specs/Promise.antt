@@ -5,11 +5,11 @@ use mathlib.Core.Logic.{_⊎_, _↔_}
 use mathlib.Core.Bool.{Bool, true, false, _&&_, _||_, not, cond}
 use mathlib.Core.List.{List, [], _∷_, _++_}
 use mathlib.Core.Option.{none, some}
-use Prim.Native.Nat.{ℕ, _+_, _≤_, _<_}
+use Prim.Native.Nat.{ℕ, _≤_, _<_}
 use lib.Dec.{ltb, eqb}
 use lib.ListN.{length, getD, take, drop, replicate}
 use Rattle.sheet.specs.Sheet.{all, kindOf, Sheet, sheetIn, sheetFault, workFor}
-use Rattle.labelling.specs.Layout.{isLayout, isLawful, brokenBy, tiesIn, statedCount, statedLength, slotsByRank, comesFirst, best, answer, sheetPart, layoutPart, judgeFault, judged, layoutWords}
+use Rattle.labelling.specs.Layout.{isLayout, isLawful, brokenBy, statedCount, statedLength, slotsByRank, comesFirst, best, answer, sheetPart, layoutPart, judgeFault, judged, layoutWords, layoutTies, wordsFor}
 use Rattle.labelling.specs.Lawful.{Ties, Rules, Lawful, LeastBroken, IsAnswer}
 use Rattle.labelling.specs.Entry.{isNone, makeFault, makeAnswer, makeWork}
 
@@ -40,28 +40,32 @@ isBeaten s a b =
     ltb (statedFirst s a) (statedFirst s b) ||
     (eqb (statedFirst s a) (statedFirst s b) &&
     (ltb (statedSecond s a) (statedSecond s b) ||
-    (eqb (statedSecond s a) (statedSecond s b) && comesFirst (slotsByRank s (tiesIn (drop 1 a))) (slotsByRank s (tiesIn (drop 1 b))))))
+    (eqb (statedSecond s a) (statedSecond s b) && comesFirst (slotsByRank s (layoutTies a)) (slotsByRank s (layoutTies b)))))
 
 -- an accepted sheet, with areas long enough
 abbrev pub takesSheet : (sheet work out : List ℕ) → Type 0
 takesSheet ws k o =
-    (areWords ws ≡ true) × (sheetFault ws ≡ 0) × (workFor (sheetIn ws) ≤ length k) × (length (sheetIn ws .sites) + 1 ≤ length o)
+    (areWords ws ≡ true) × (sheetFault ws ≡ 0) × (workFor (sheetIn ws) ≤ length k) × (wordsFor (sheetIn ws) ≤ length o)
 
 -- the answer area's first n + 1 words, after a call
 abbrev pub begun : (sheet work out : List ℕ) → List ℕ
-begun ws k o = take (length (sheetIn ws .sites) + 1) (makeAnswer ws k o)
+begun ws k o = take (wordsFor (sheetIn ws)) (makeAnswer ws k o)
+
+-- no list of words is a lawful layout; every other lawful layout is beaten by this one
+abbrev pub NoneLawful : Sheet → Type 0
+NoneLawful s = (b : List ℕ) → areWords b ≡ true → isLawful s b ≡ false
+
+abbrev pub BeatsAll : Sheet → (words : List ℕ) → Type 0
+BeatsAll s a = (b : List ℕ) → areWords b ≡ true → isLawful s b ≡ true → same b a ≡ false → isBeaten s a b ≡ true
 
 -- 10 exactly when no list of words is a lawful layout; otherwise nothing is refused, the answer area begins with a lawful layout,
--- and every other lawful layout is beaten by it
+-- and every other is beaten by it
 abbrev pub BestOfAll : Type 0
 BestOfAll =
     (ws k o : List ℕ) → takesSheet ws k o →
-    (makeFault ws k o ≡ 10 → (b : List ℕ) → areWords b ≡ true → isLawful (sheetIn ws) b ≡ false) ×
-    (((b : List ℕ) → areWords b ≡ true → isLawful (sheetIn ws) b ≡ false) → makeFault ws k o ≡ 10) ×
+    (makeFault ws k o ≡ 10 → NoneLawful (sheetIn ws)) × (NoneLawful (sheetIn ws) → makeFault ws k o ≡ 10) ×
     (eqb (makeFault ws k o) 10 ≡ false →
-    (makeFault ws k o ≡ 0) × (isLawful (sheetIn ws) (begun ws k o) ≡ true) ×
-    ((b : List ℕ) → areWords b ≡ true → isLawful (sheetIn ws) b ≡ true → same b (begun ws k o) ≡ false →
-    isBeaten (sheetIn ws) (begun ws k o) b ≡ true))
+    (makeFault ws k o ≡ 0) × (isLawful (sheetIn ws) (begun ws k o) ≡ true) × BeatsAll (sheetIn ws) (begun ws k o))
 
 -- each accepted sheet has one answer: `best` is js exactly when js is lawful and nothing lawful is better, none exactly when nothing
 -- is lawful, and there are no two such js
@@ -79,7 +83,7 @@ abbrev pub ContentsUnread : Type 0
 ContentsUnread =
     (ws k o l p : List ℕ) → takesSheet ws k o → takesSheet ws l p →
     (makeFault ws k o ≡ makeFault ws l p) × (makeFault ws k o ≡ 0 → begun ws k o ≡ begun ws l p) ×
-    (drop (length (sheetIn ws .sites) + 1) (makeAnswer ws k o) ≡ drop (length (sheetIn ws .sites) + 1) o) ×
+    (drop (wordsFor (sheetIn ws)) (makeAnswer ws k o) ≡ drop (wordsFor (sheetIn ws)) o) ×
     (take (workFor (sheetIn ws)) (makeWork ws k o) ≡ replicate (workFor (sheetIn ws)) 0) ×
     (drop (workFor (sheetIn ws)) (makeWork ws k o) ≡ drop (workFor (sheetIn ws)) k)
 
@@ -165,13 +169,13 @@ judgedAs ws k = (judgeFault ws ≡ 0) × (judged ws ≡ k)
 -- the maker, with areas long enough and whatever they hold: it gives a layout, or 10
 abbrev pub laidOut : (sheet layout : List ℕ) → Type 0
 laidOut ws b =
-    (k o : List ℕ) → workFor (sheetIn ws) ≤ length k → length (sheetIn ws .sites) + 1 ≤ length o →
-    (makeFault ws k o ≡ 0) × (makeAnswer ws k o ≡ b ++ drop (length (sheetIn ws .sites) + 1) o)
+    (k o : List ℕ) → workFor (sheetIn ws) ≤ length k → wordsFor (sheetIn ws) ≤ length o →
+    (makeFault ws k o ≡ 0) × (makeAnswer ws k o ≡ b ++ drop (wordsFor (sheetIn ws)) o)
 
 abbrev pub turnedDown : (sheet : List ℕ) → Type 0
-turnedDown ws = (k o : List ℕ) → workFor (sheetIn ws) ≤ length k → length (sheetIn ws .sites) + 1 ≤ length o → makeFault ws k o ≡ 10
+turnedDown ws = (k o : List ℕ) → workFor (sheetIn ws) ≤ length k → wordsFor (sheetIn ws) ≤ length o → makeFault ws k o ≡ 10
 
--- of the definitions: document 03's table
+-- the table of the definitions, as document 03 has it
 abbrev pub ExamplesDefined : Type 0
 ExamplesDefined =
     (sheetFault a ≡ 0) × (answerTo a ≡ layoutWords 2 19 (0 ∷ 0 ∷ 2 ∷ [])) × (getD (answerTo a) 0 0 ≡ 2151677971) ×
@@ -182,7 +186,7 @@ ExamplesDefined =
     (judged (a ++ layoutWords 2 19 (0 ∷ 0 ∷ 0 ∷ [])) ≡ 1) × (judged (a ++ layoutWords 2 19 (2 ∷ 2 ∷ 0 ∷ [])) ≡ 0) ×
     (judged (a ++ layoutWords 2 18 (2 ∷ 2 ∷ 0 ∷ [])) ≡ 6)
 
--- of the calls
+-- of the calls; slots 2, 2, 0 come later for A, which needs 900 work words and 4 answer words
 abbrev pub ExamplesCalled : Type 0
 ExamplesCalled =
     laidOut a (layoutWords 2 19 (0 ∷ 0 ∷ 2 ∷ [])) × laidOut shortest (layoutWords 3 18 (0 ∷ 1 ∷ 2 ∷ [])) ×
@@ -190,7 +194,8 @@ ExamplesCalled =
     turnedDown gapFour × turnedDown boundZero × laidOut headAlone (layoutWords 0 0 []) ×
     judgedAs (a ++ layoutWords 2 19 (0 ∷ 0 ∷ 1 ∷ [])) 4 × judgedAs (a ++ layoutWords 2 19 (0 ∷ 0 ∷ 0 ∷ [])) 1 ×
     judgedAs (a ++ layoutWords 2 19 (2 ∷ 2 ∷ 0 ∷ [])) 0 × judgedAs (a ++ layoutWords 2 18 (2 ∷ 2 ∷ 0 ∷ [])) 6 ×
-    (isBeaten (sheetIn a) (answerTo a) (layoutWords 2 19 (2 ∷ 2 ∷ 0 ∷ [])) ≡ true) × (workFor (sheetIn a) ≡ 900)
+    (isBeaten (sheetIn a) (answerTo a) (layoutWords 2 19 (2 ∷ 2 ∷ 0 ∷ [])) ≡ true) × (workFor (sheetIn a) ≡ 900) ×
+    ((k o : List ℕ) → length k ≡ 899 → makeFault a k o ≡ 8) × ((k o : List ℕ) → 900 ≤ length k → length o ≡ 3 → makeFault a k o ≡ 9)
 
 abbrev pub Examples : Type 0
 Examples = ExamplesDefined × ExamplesCalled

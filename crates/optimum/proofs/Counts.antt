@@ -1,30 +1,30 @@
 -- Count, length and the labels of a colour are sums over the steps of the walk: the leftmost site of a label is the one that
 -- opens it. Assumes nothing but that the sheet is accepted and one-sided.
-use mathlib.Core.Path.{_≡_, refl, sym, ap, ap₂, _∙_, subst, subst⁻¹}
-use mathlib.Core.Logic.{_⊎_, inl, inr, _↔_}
-use mathlib.Core.Bool.{Bool, true, false, cond, _&&_, _||_, not}
-use mathlib.Core.List.{List, [], _∷_, _++_}
-use Prim.Native.Nat.{ℕ, zero, suc, _+_, _-_, _*_, _/_, _%_, _≤_, _<_, min}
+use mathlib.Core.Path.{_≡_, refl, sym, ap, ap₂, _∙_, subst}
+use mathlib.Core.Bool.{Bool, true, false, cond}
+use mathlib.Core.List.{List, [], _∷_}
+use Prim.Native.Nat.{ℕ, zero, suc, _+_, _-_, _≤_, _<_}
 use native.Mathlib.Omega.{arith}
-use lib.Dec.{eqb, leb, ltb}
-use lib.ListN.{length, getD, set, replicate, length-set, length-replicate}
-use borrow.Author.Tests.{leb-true, leb-false, ltb-true, ltb-false, le-leb, lt-leb, lt-ltb, le-ltb, eqb-true, eqb-false, eq-eqb, ne-eqb}
-use Rattle.lists.proofs.Tests.{by-test, by-order, by-equal, by-either, and-both, and-of, clash, tests}
+use lib.Dec.{eqb}
+use lib.ListN.{length, getD, replicate, length-replicate}
+use borrow.Author.Tests.{eqb-true, eqb-false, eq-eqb, ne-eqb}
+use Rattle.lists.proofs.Tests.{by-test, by-equal, by-either}
 use mathlib.Core.Bool.{false≢true}
 use Rattle.sheet.specs.Sheet.{Site, Sheet}
-use Rattle.labelling.specs.Layout.{Tied, tiedOf, tied, siteShare, heightOf, isUsed, usedFrom, usedOf, leftEnd, slotsOf, countOf, backbones, drops, lengthOf}
-use Rattle.lists.proofs.Tests.{or-e, is-false, is-true}
+use Rattle.labelling.specs.Layout.{tiedOf, tied, siteShare, heightOf, isUsed, usedFrom, usedOf, leftEnd, slotsOf, countOf, backbones, drops}
+use Rattle.lists.proofs.Tests.{or-e, is-false}
 use Rattle.labelling.proofs.Members.{noSite, used-at, at-used, used-head, used-tail}
 use Rattle.sheet.proofs.Accepted.{Sound}
 use Rattle.labelling.proofs.Earlier.{rankAt}
-use Rattle.labelling.proofs.LeftEnd.{LeftEnd, left-end}
-use Rattle.optimum.specs.Strips.{Point, Instance}
+use Rattle.labelling.proofs.LeftEnd.{left-end}
+use Rattle.labelling.proofs.Counted.{slots-at, at-slots}
+use Rattle.optimum.specs.Strips.{Point}
 use Rattle.optimum.proofs.Steps.{Steps, isFree, opened, shares}
 use Rattle.optimum.proofs.Pairs.{zeros}
 use Rattle.optimum.proofs.Sum.{sum, sum-cong, firstOf, opened-sum}
 use Rattle.optimum.proofs.Budget.{isOf}
 use Rattle.optimum.specs.OneSided.{shareOf, leadOf, xOf, order, pointAt, pointsAt, instanceOf}
-use Rattle.optimum.proofs.Order.{rank-x, Rise, Ordered, ordered, gather, sumOver, sum-order}
+use Rattle.optimum.proofs.Order.{rank-x, Rise, ordered, gather, sumOver, sum-order}
 use Rattle.optimum.proofs.Zero.{yOf, colourOf}
 
 -- ---- sums
@@ -103,34 +103,6 @@ leads s js (i ∷ is) k r =
         (λ j v q. by-either (or-e (eqb i j) (isUsed j is) v)
         (λ z. absurd (eqb-false (getD js i 0) k t (ap (λ (z : ℕ). getD js z 0) (eqb-true i j z) ∙ q)))
         (λ z. f j z q)) (λ h. rw t (g h))
-
--- ---- the slots of a colour
-
-slots-at : (c k : ℕ) (ss : List Site) (js : List ℕ) (i : ℕ) → length js ≡ length ss → i < length ss → getD js i 0 ≡ k → (getD ss i noSite) .colour ≡ c
-    → isUsed k (slotsOf c (tiedOf ss js)) ≡ true
-unfolding slotsOf tiedOf isUsed
-slots-at c k [] js i l h e q = absurd (omega arith)
-slots-at c k (s ∷ ss) [] i l h e q = absurd (omega arith)
-slots-at c k (s ∷ ss) (j ∷ js) zero l h e q = rw (eq-eqb (s .colour) c q, eq-eqb j k e)
-slots-at c k (s ∷ ss) (j ∷ js) (suc i) l h e q =
-    let g = slots-at c k ss js i (omega arith) (omega arith) e q in
-    by-test (eqb (s .colour) c) (λ t. rw t (used-tail k j (slotsOf c (tiedOf ss js)) g)) (λ t. rw t g)
-
-at-slots : (c k : ℕ) (ss : List Site) (js : List ℕ) → length js ≡ length ss → isUsed k (slotsOf c (tiedOf ss js)) ≡ true
-    → (i : ℕ) × (i < length ss) × (getD js i 0 ≡ k) × ((getD ss i noSite) .colour ≡ c)
-unfolding slotsOf tiedOf isUsed
-at-slots c k [] js l u = absurd (false≢true u)
-at-slots c k (s ∷ ss) [] l u = absurd (omega arith)
-at-slots c k (s ∷ ss) (j ∷ js) l u = go (eqb (s .colour) c) refl u (at-slots c k ss js (omega arith))
-  where
-    later : (i : ℕ) × (i < length ss) × (getD js i 0 ≡ k) × ((getD ss i noSite) .colour ≡ c) → (i : ℕ) × (i < suc (length ss)) × (getD (j ∷ js) i 0 ≡ k) × ((getD (s ∷ ss) i noSite) .colour ≡ c)
-    later (i, h, e, q) = (suc i, omega arith, e, q)
-
-    go : (b : Bool) → eqb (s .colour) c ≡ b → isUsed k (cond b (j ∷ slotsOf c (tiedOf ss js)) (slotsOf c (tiedOf ss js))) ≡ true
-        → (isUsed k (slotsOf c (tiedOf ss js)) ≡ true → (i : ℕ) × (i < length ss) × (getD js i 0 ≡ k) × ((getD ss i noSite) .colour ≡ c))
-        → (i : ℕ) × (i < suc (length ss)) × (getD (j ∷ js) i 0 ≡ k) × ((getD (s ∷ ss) i noSite) .colour ≡ c)
-    go true e u ih = by-either (or-e (eqb j k) (isUsed k (slotsOf c (tiedOf ss js))) u) (λ q. (0, omega arith, eqb-true j k q, eqb-true (s .colour) c e)) (λ q. later (ih q))
-    go false e u ih = later (ih u)
 
 -- ---- count, length and colours of the whole walk
 

@@ -1,14 +1,14 @@
 -- Refusals 4, 5 and 6: one step of each word-by-word test, at a place of a list. Assumes nothing.
-use mathlib.Core.Path.{_≡_, refl}
-use mathlib.Core.Bool.{Bool, true, false, _&&_, _||_, cond}
-use mathlib.Core.List.{List, _∷_}
+use mathlib.Core.Path.{_≡_}
+use mathlib.Core.Bool.{_&&_, _||_}
+use mathlib.Core.List.{List}
 use Prim.Native.Nat.{ℕ, _+_, _<_, _≤_}
 use native.Mathlib.Omega.{arith}
 use lib.Dec.{eqb}
 use lib.ListN.{length, getD, drop}
 use Rattle.lists.proofs.Places.{at}
 use Rattle.lists.proofs.Tests.{by-test}
-use Rattle.sheet.specs.Sheet.{kindOf, bits}
+use Rattle.sheet.specs.Sheet.{kindOf}
 use Rattle.refusals.specs.Wordwise.{lowOk, lowNext, risesFrom, widthOk, allInside, isRanked, someRanked, rankNew, allNew}
 
 -- the least height that may come stays a number that fits

@@ -1,23 +1,15 @@
-use lib.ListN.{drop-of-length-le}
+-- `refusals::all_inside` meets its contract.
+use mathlib.Core.Path.{_≡_, refl, sym, _∙_}
+use Prim.Native.Nat.{_-_}
+use lib.ListN.{drop-of-length-le, length, drop}
 use borrow.Author.Tests.{not-true, not-false}
+use borrow.Author.Needs.{needs}
 use Rattle.lists.proofs.Places.{stop, go}
 use Rattle.refusals.specs.Wordwise.{allInside}
 use Rattle.refusals.proofs.Wordwise.{inside}
 use Rattle.refusals.proofs.Steps.{inside-at}
-use mathlib.Core.Path.{_≡_, refl, ap, sym, _∙_}
-use mathlib.Core.List.{List, [], _∷_, _++_}
-use mathlib.Core.Logic.{⊎-elim}
-use Prim.Native.Nat.{ℕ, zero, suc, _+_, _-_, _*_, _<_, _≤_}
-use native.Mathlib.Omega.{arith}
-use native.Mathlib.Numerals.{add-one}
-use lib.ListN.{length, getD, take, drop, set, length-set}
-use borrow.Author.Tests.{eq-eqb, ne-eqb, lt-ltb, le-ltb, le-leb, lt-leb}
-use borrow.Author.Needs.{needs}
 use Rattle.refusals.proofs.all_inside.Statement.{statement}
 use Rattle.refusals.proofs.all_inside.Tie as tie
-use Rattle.refusals.proofs.all_inside.Reads as reads
-use Rattle.refusals.proofs.all_inside.Lts as lts
-use Rattle.refusals.proofs.width_ok.Reads as width-ok-reads
 
 abbrev Inv-loop : tie.InvT-loop
 Inv-loop body width i₀ i = allInside width body ≡ allInside width (drop i body)
@@ -25,23 +17,18 @@ Inv-loop body width i₀ i = allInside width body ≡ allInside width (drop i bo
 abbrev μ-loop : tie.MeasureT-loop
 μ-loop body width i₀ i = length body - i
 
--- src/lib.rt:147:5
 loop-holds : tie.Need-loop-holds Inv-loop μ-loop
 loop-holds c = search needs
 
--- src/lib.rt:148:29
 mul-width-ok : tie.Need-mul-width-ok Inv-loop μ-loop
 mul-width-ok c = search needs
 
--- src/lib.rt:148:29
 shared-slice-read-width-ok : tie.Need-shared-slice-read-width-ok Inv-loop μ-loop
 shared-slice-read-width-ok c = search needs
 
--- src/lib.rt:148:13
 width-ok-requires : tie.Need-width-ok-requires Inv-loop μ-loop
 width-ok-requires c κs = search needs
 
--- src/lib.rt:149:13
 returns : tie.Need-returns Inv-loop μ-loop
 returns c =
     let a = c .before .before .before .before .before .before .args in
@@ -49,22 +36,18 @@ returns c =
     let l = c .before .before .before .before .loop in
     rw (inside (a .width) 0 s, l .inv) (stop _ (inside-at s (l .i) (c .before .before .before .loop-test .taken) (a .width)) (sym (c .before .width-ok .ensures) ∙ not-true _ (c .if1 .taken)))
 
--- src/lib.rt:151:9
 add-i : tie.Need-add-i Inv-loop μ-loop
 add-i c = search needs
 
--- src/lib.rt:147:5
 loop-less : tie.Need-loop-less Inv-loop μ-loop
 loop-less c = search needs
 
--- src/lib.rt:147:5
 loop-again : tie.Need-loop-again Inv-loop μ-loop
 loop-again c =
     let a = c .before .before .before .before .before .before .args in
     let l = c .before .before .before .before .loop in
     l .inv ∙ go _ (inside-at (a .body .now) (l .i) (c .before .before .before .loop-test .taken) (a .width)) (sym (c .before .width-ok .ensures) ∙ not-false _ (c .if1 .left))
 
--- src/lib.rt:143:1
 returns-2 : tie.Need-returns-2 Inv-loop μ-loop
 unfolding allInside
 returns-2 c =

@@ -1,21 +1,17 @@
-use lib.ListN.{drop-of-length-le}
+-- `refusals::count_kind` meets its contract.
+use mathlib.Core.Path.{_≡_, ap}
+use mathlib.Core.List.{List}
+use mathlib.Core.Logic.{⊎-elim}
+use Prim.Native.Nat.{ℕ, _+_, _-_, _≤_}
+use native.Mathlib.Omega.{arith}
+use lib.ListN.{drop-of-length-le, length, getD, drop}
+use borrow.Author.Tests.{eq-eqb, ne-eqb}
+use borrow.Author.Needs.{needs}
 use Rattle.sheet.specs.Sheet.{kindOf}
 use Rattle.sheet.specs.Words.{countKind}
 use Rattle.sheet.proofs.Places.{count-at}
-use mathlib.Core.Path.{_≡_, refl, ap, sym, _∙_}
-use mathlib.Core.List.{List, [], _∷_, _++_}
-use mathlib.Core.Logic.{⊎-elim}
-use Prim.Native.Nat.{ℕ, zero, suc, _+_, _-_, _*_, _<_, _≤_}
-use native.Mathlib.Omega.{arith}
-use native.Mathlib.Numerals.{add-one}
-use lib.ListN.{length, getD, take, drop, set, length-set}
-use borrow.Author.Tests.{eq-eqb, ne-eqb, lt-ltb, le-ltb, le-leb, lt-leb}
-use borrow.Author.Needs.{needs}
 use Rattle.refusals.proofs.count_kind.Statement.{statement}
 use Rattle.refusals.proofs.count_kind.Tie as tie
-use Rattle.refusals.proofs.count_kind.Reads as reads
-use Rattle.refusals.proofs.count_kind.Lts as lts
-use Rattle.words.proofs.kind_of.Reads as kind-of-reads
 
 abbrev Inv-loop : tie.InvT-loop
 Inv-loop words kind n₀ i₀ n i = (n ≤ i) × (countKind kind words ≡ n + countKind kind (drop i words))
@@ -23,35 +19,27 @@ Inv-loop words kind n₀ i₀ n i = (n ≤ i) × (countKind kind words ≡ n + c
 abbrev μ-loop : tie.MeasureT-loop
 μ-loop words kind n₀ i₀ n i = length words - i
 
--- src/lib.rt:89:5
 loop-holds : tie.Need-loop-holds Inv-loop μ-loop
 loop-holds c = search needs
 
--- src/lib.rt:90:20
 mul-kind-of : tie.Need-mul-kind-of Inv-loop μ-loop
 mul-kind-of c = search needs
 
--- src/lib.rt:90:20
 shared-slice-read-kind-of : tie.Need-shared-slice-read-kind-of Inv-loop μ-loop
 shared-slice-read-kind-of c = search needs
 
--- src/lib.rt:90:12
 kind-of-requires : tie.Need-kind-of-requires Inv-loop μ-loop
 kind-of-requires c κs = search needs
 
--- src/lib.rt:91:13
 add-n : tie.Need-add-n Inv-loop μ-loop
 add-n c = search needs
 
--- src/lib.rt:93:9
 add-i : tie.Need-add-i Inv-loop μ-loop
 add-i c = search needs
 
--- src/lib.rt:89:5
 loop-less : tie.Need-loop-less Inv-loop μ-loop
 loop-less c = search needs
 
--- src/lib.rt:89:5
 loop-again : tie.Need-loop-again Inv-loop μ-loop
 loop-again c =
     let a = c .before .before .before .before .before .before .args in
@@ -63,7 +51,6 @@ loop-again c =
     (λ no. omega (arith, rw (ne-eqb (kindOf w) (a .kind) (λ e. omega arith)) at step))
     (c .if1 .came)
 
--- src/lib.rt:84:1
 returns : tie.Need-returns Inv-loop μ-loop
 unfolding countKind
 returns c =

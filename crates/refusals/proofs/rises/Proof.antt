@@ -1,24 +1,15 @@
-use lib.ListN.{drop-of-length-le}
+-- `refusals::rises` meets its contract.
+use mathlib.Core.Path.{_≡_, refl, sym, _∙_}
+use Prim.Native.Nat.{_-_, _≤_}
+use lib.ListN.{drop-of-length-le, length, getD, drop}
 use borrow.Author.Tests.{not-true, not-false}
+use borrow.Author.Needs.{needs}
 use Rattle.lists.proofs.Places.{stop, go}
 use Rattle.refusals.specs.Wordwise.{risesFrom}
 use Rattle.refusals.proofs.Wordwise.{rises}
 use Rattle.refusals.proofs.Steps.{low-le, rises-at}
-use mathlib.Core.Path.{_≡_, refl, ap, sym, _∙_}
-use mathlib.Core.List.{List, [], _∷_, _++_}
-use mathlib.Core.Logic.{⊎-elim}
-use Prim.Native.Nat.{ℕ, zero, suc, _+_, _-_, _*_, _<_, _≤_}
-use native.Mathlib.Omega.{arith}
-use native.Mathlib.Numerals.{add-one}
-use lib.ListN.{length, getD, take, drop, set, length-set}
-use borrow.Author.Tests.{eq-eqb, ne-eqb, lt-ltb, le-ltb, le-leb, lt-leb}
-use borrow.Author.Needs.{needs}
 use Rattle.refusals.proofs.rises.Statement.{statement}
 use Rattle.refusals.proofs.rises.Tie as tie
-use Rattle.refusals.proofs.rises.Reads as reads
-use Rattle.refusals.proofs.rises.Lts as lts
-use Rattle.refusals.proofs.low_next.Reads as low-next-reads
-use Rattle.refusals.proofs.low_ok.Reads as low-ok-reads
 
 abbrev Inv-loop : tie.InvT-loop
 Inv-loop body low₀ i₀ low i = (low ≤ 16384) × (risesFrom 0 body ≡ risesFrom low (drop i body))
@@ -26,42 +17,33 @@ Inv-loop body low₀ i₀ low i = (low ≤ 16384) × (risesFrom 0 body ≡ rises
 abbrev μ-loop : tie.MeasureT-loop
 μ-loop body low₀ i₀ low i = length body - i
 
--- src/lib.rt:125:5
 loop-holds : tie.Need-loop-holds Inv-loop μ-loop
 loop-holds c = search needs
 
--- src/lib.rt:126:17
 mul-w : tie.Need-mul-w Inv-loop μ-loop
 mul-w c = search needs
 
--- src/lib.rt:126:17
 shared-slice-read-w : tie.Need-shared-slice-read-w Inv-loop μ-loop
 shared-slice-read-w c = search needs
 
--- src/lib.rt:127:13
 low-ok-requires : tie.Need-low-ok-requires Inv-loop μ-loop
 low-ok-requires c κs = search needs
 
--- src/lib.rt:128:13
 returns : tie.Need-returns Inv-loop μ-loop
 returns c =
     let s = c .before .before .before .before .before .before .args .body .now in
     let l = c .before .before .before .before .loop in
     rw (rises s, l .inv .1) (stop _ (rises-at s (l .i) (c .before .before .before .loop-test .taken) (l .low)) (sym (c .before .low-ok .ensures) ∙ not-true _ (c .if1 .taken)))
 
--- src/lib.rt:130:9
 low-next-requires : tie.Need-low-next-requires Inv-loop μ-loop
 low-next-requires c κs = search needs
 
--- src/lib.rt:131:9
 add-i : tie.Need-add-i Inv-loop μ-loop
 add-i c = search needs
 
--- src/lib.rt:125:5
 loop-less : tie.Need-loop-less Inv-loop μ-loop
 loop-less c = search needs
 
--- src/lib.rt:125:5
 loop-again : tie.Need-loop-again Inv-loop μ-loop
 loop-again c =
     let s = c .before .before .before .before .before .before .before .args .body .now in
@@ -71,7 +53,6 @@ loop-again c =
       l .inv .1 ∙ go _ (rises-at s (l .i) (c .before .before .before .before .loop-test .taken) (l .low)) (sym (c .before .before .low-ok .ensures) ∙ not-false _ (c .before .if1 .left)) ∙ rw next refl,
     )
 
--- src/lib.rt:120:1
 returns-2 : tie.Need-returns-2 Inv-loop μ-loop
 unfolding risesFrom
 returns-2 c =

@@ -1,21 +1,13 @@
-use lib.ListN.{drop-of-length-le}
+-- `refusals::some_ranked` meets its contract.
+use mathlib.Core.Path.{_≡_, refl, sym, _∙_}
+use Prim.Native.Nat.{_-_}
+use lib.ListN.{drop-of-length-le, length, drop}
+use borrow.Author.Needs.{needs}
 use Rattle.lists.proofs.Places.{found, on}
 use Rattle.refusals.specs.Wordwise.{someRanked}
 use Rattle.refusals.proofs.Steps.{some-at}
-use mathlib.Core.Path.{_≡_, refl, ap, sym, _∙_}
-use mathlib.Core.List.{List, [], _∷_, _++_}
-use mathlib.Core.Logic.{⊎-elim}
-use Prim.Native.Nat.{ℕ, zero, suc, _+_, _-_, _*_, _<_, _≤_}
-use native.Mathlib.Omega.{arith}
-use native.Mathlib.Numerals.{add-one}
-use lib.ListN.{length, getD, take, drop, set, length-set}
-use borrow.Author.Tests.{eq-eqb, ne-eqb, lt-ltb, le-ltb, le-leb, lt-leb}
-use borrow.Author.Needs.{needs}
 use Rattle.refusals.proofs.some_ranked.Statement.{statement}
 use Rattle.refusals.proofs.some_ranked.Tie as tie
-use Rattle.refusals.proofs.some_ranked.Reads as reads
-use Rattle.refusals.proofs.some_ranked.Lts as lts
-use Rattle.refusals.proofs.is_ranked.Reads as is-ranked-reads
 
 abbrev Inv-loop : tie.InvT-loop
 Inv-loop words from rank i₀ i = someRanked rank (drop from words) ≡ someRanked rank (drop i words)
@@ -23,45 +15,36 @@ Inv-loop words from rank i₀ i = someRanked rank (drop from words) ≡ someRank
 abbrev μ-loop : tie.MeasureT-loop
 μ-loop words from rank i₀ i = length words - i
 
--- src/lib.rt:168:5
 loop-holds : tie.Need-loop-holds Inv-loop μ-loop
 loop-holds c = search needs
 
--- src/lib.rt:169:28
 mul-is-ranked : tie.Need-mul-is-ranked Inv-loop μ-loop
 mul-is-ranked c = search needs
 
--- src/lib.rt:169:28
 shared-slice-read-is-ranked : tie.Need-shared-slice-read-is-ranked Inv-loop μ-loop
 shared-slice-read-is-ranked c = search needs
 
--- src/lib.rt:169:12
 is-ranked-requires : tie.Need-is-ranked-requires Inv-loop μ-loop
 is-ranked-requires c κs = search needs
 
--- src/lib.rt:170:13
 returns : tie.Need-returns Inv-loop μ-loop
 returns c =
     let a = c .before .before .before .before .before .before .args in
     let l = c .before .before .before .before .loop in
     rw (l .inv) (found _ (some-at (a .words .now) (l .i) (c .before .before .before .loop-test .taken) (a .rank)) (sym (c .before .is-ranked .ensures) ∙ c .if1 .taken))
 
--- src/lib.rt:172:9
 add-i : tie.Need-add-i Inv-loop μ-loop
 add-i c = search needs
 
--- src/lib.rt:168:5
 loop-less : tie.Need-loop-less Inv-loop μ-loop
 loop-less c = search needs
 
--- src/lib.rt:168:5
 loop-again : tie.Need-loop-again Inv-loop μ-loop
 loop-again c =
     let a = c .before .before .before .before .before .before .args in
     let l = c .before .before .before .before .loop in
     l .inv ∙ on _ (some-at (a .words .now) (l .i) (c .before .before .before .loop-test .taken) (a .rank)) (sym (c .before .is-ranked .ensures) ∙ c .if1 .left)
 
--- src/lib.rt:164:1
 returns-2 : tie.Need-returns-2 Inv-loop μ-loop
 unfolding someRanked
 returns-2 c =

@@ -1,74 +1,53 @@
+-- `refusals::stage_after` meets its contract.
 use mathlib.Core.Bool.{true, false}
-use Rattle.sheet.specs.Sheet.{kindOf, hasSpare}
-use mathlib.Core.Path.{_≡_, refl, ap, sym, _∙_}
-use mathlib.Core.List.{List, [], _∷_, _++_}
-use mathlib.Core.Logic.{⊎-elim}
-use Prim.Native.Nat.{ℕ, zero, suc, _+_, _-_, _*_, _<_, _≤_}
+use mathlib.Core.Path.{_≡_, refl, sym, _∙_}
 use native.Mathlib.Omega.{arith}
-use native.Mathlib.Numerals.{add-one}
-use lib.ListN.{length, getD, take, drop, set, length-set}
-use borrow.Author.Tests.{eq-eqb, ne-eqb, lt-ltb, le-ltb, le-leb, lt-leb}
+use borrow.Author.Tests.{eq-eqb, ne-eqb}
 use borrow.Author.Needs.{needs}
+use Rattle.sheet.specs.Sheet.{kindOf, hasSpare}
 use Rattle.refusals.proofs.stage_after.Statement.{statement}
 use Rattle.refusals.proofs.stage_after.Tie as tie
-use Rattle.refusals.proofs.stage_after.Reads as reads
-use Rattle.refusals.proofs.stage_after.Lts as lts
-use Rattle.refusals.proofs.has_spare.Reads as has-spare-reads
-use Rattle.words.proofs.choose.Reads as choose-reads
-use Rattle.words.proofs.kind_of.Reads as kind-of-reads
-use Rattle.words.proofs.same.Reads as same-reads
 
--- src/lib.rt:52:8
 has-spare-requires : tie.Need-has-spare-requires
 has-spare-requires c κs = search needs
 
--- src/lib.rt:53:9
 returns : tie.Need-returns
 returns c =
     let spare : hasSpare (c .before .before .args .w) ≡ true = sym (c .before .has-spare .ensures) ∙ c .if1 .taken in rw spare
 
--- src/lib.rt:55:9
 kind-of-requires : tie.Need-kind-of-requires
 kind-of-requires c κs = search needs
 
--- src/lib.rt:57:23
 same-requires : tie.Need-same-requires
 same-requires c κs = search needs
 
--- src/lib.rt:57:9
 choose-requires : tie.Need-choose-requires
 choose-requires c κs = search needs
 
--- src/lib.rt:57:9
 returns-2 : tie.Need-returns-2
 returns-2 c =
     let w = c .before .before .before .before .before .before .args .w in
     let spare : hasSpare w ≡ false = sym (c .before .before .before .before .before .has-spare .ensures) ∙ c .before .before .before .before .if1 .left in
     rw (spare, eq-eqb (kindOf w) 2 (omega arith), c .choose .ensures, c .before .same .ensures) refl
 
--- src/lib.rt:60:9
 returns-3 : tie.Need-returns-3
 returns-3 c =
     let w = c .before .before .before .before .before .args .w in
     let spare : hasSpare w ≡ false = sym (c .before .before .before .before .has-spare .ensures) ∙ c .before .before .before .if1 .left in
     rw (spare, ne-eqb (kindOf w) 2 (λ e. omega arith), eq-eqb (kindOf w) 3 (omega arith))
 
--- src/lib.rt:63:23
 same-requires-2 : tie.Need-same-requires-2
 same-requires-2 c κs = search needs
 
--- src/lib.rt:63:9
 choose-requires-2 : tie.Need-choose-requires-2
 choose-requires-2 c κs = search needs
 
--- src/lib.rt:63:9
 returns-4 : tie.Need-returns-4
 returns-4 c =
     let w = c .before .before .before .before .before .before .before .before .args .w in
     let spare : hasSpare w ≡ false = sym (c .before .before .before .before .before .before .before .has-spare .ensures) ∙ c .before .before .before .before .before .before .if1 .left in
     rw (spare, ne-eqb (kindOf w) 2 (λ e. omega arith), ne-eqb (kindOf w) 3 (λ e. omega arith), eq-eqb (kindOf w) 4 (omega arith), c .choose2 .ensures, c .before .same2 .ensures) refl
 
--- src/lib.rt:49:1
 returns-5 : tie.Need-returns-5
 returns-5 c =
     let w = c .before .before .before .before .before .before .args .w in

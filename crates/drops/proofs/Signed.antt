@@ -1,0 +1,47 @@
+-- Drops at 32 bits: small numbers there and back, a difference, its size. Assumes nothing.
+use mathlib.Core.Path.{_≡_, refl, sym, ap, _∙_}
+use mathlib.Core.Bool.{Bool, true, false, true≢false}
+use Prim.Native.Nat.{ℕ, zero, suc, _+_, _-_, _<_, _≤_}
+use native.Mathlib.Nat.{zero-add}
+use native.Mathlib.Omega.{arith}
+use borrow.Author.Tests.{ltb-true, ltb-false}
+use lib.Dec.{ltb}
+use lib.IntN.{ℤ, pos, negsuc, natAbs, _-ℤ_, subℕ}
+use lib.Signed.{mag, ltZ}
+use mir.Syntax.{w32}
+use mir.Val.{SFits, toZ, ofZ}
+use mir.ValLaws.{toZ-pos, toZ-ofZ}
+use Rattle.labelling.specs.Layout.{apart}
+
+pub small : (n : ℕ) → n < 2147483648 → SFits w32 (pos n)
+small n h = record { sfits = h }
+
+pub back : (n : ℕ) → n < 2147483648 → toZ w32 n ≡ pos n
+back n h = toZ-pos w32 n h
+
+diff-by : (b : Bool) (h k : ℕ) → ltb h (suc k) ≡ b → natAbs (subℕ h (suc k)) ≡ apart h (suc k)
+diff-by true h k e = rw e (omega (arith, ltb-true h (suc k) e))
+diff-by false h k e = rw e (omega (arith, ltb-false h (suc k) e))
+
+-- the size of a difference is how far the two lie apart
+pub diff-size : (h y : ℕ) → natAbs (pos h -ℤ pos y) ≡ apart h y
+diff-size h zero = omega arith
+diff-size h (suc k) = diff-by (ltb h (suc k)) h k refl
+
+mag-le : (z : ℤ) → mag z ≤ natAbs z
+mag-le (pos n) = omega arith
+mag-le (negsuc n) = omega arith
+
+pub diff-fits : (h y : ℕ) → h < 2147483648 → y < 2147483648 → SFits w32 (pos h -ℤ pos y)
+diff-fits h y a b = record { sfits = omega (arith, mag-le (pos h -ℤ pos y), diff-size h y) }
+
+pub diff-back : (h y : ℕ) → h < 2147483648 → y < 2147483648 → toZ w32 (ofZ w32 (pos h -ℤ pos y)) ≡ pos h -ℤ pos y
+diff-back h y a b = toZ-ofZ w32 (pos h -ℤ pos y) (diff-fits h y a b)
+
+pub neg-of : (d : ℤ) → ltZ d (pos 0) ≡ true → pos 0 -ℤ d ≡ pos (natAbs d)
+neg-of (pos n) e = absurd (omega (arith, ltb-true n 0 e))
+neg-of (negsuc k) e = ap pos (zero-add (suc k))
+
+pub pos-of : (d : ℤ) → ltZ d (pos 0) ≡ false → d ≡ pos (natAbs d)
+pos-of (pos n) e = refl
+pos-of (negsuc k) e = absurd (true≢false e)

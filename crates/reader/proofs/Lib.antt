@@ -1,0 +1,4 @@
+mod Filled
+mod Bounds
+mod Fits
+pub mod Reading

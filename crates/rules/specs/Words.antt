@@ -1,0 +1,115 @@
+-- The tied sites of a stored sheet as its words give them, and tests and sums over them. Assumes nothing: these are definitions.
+-- That they come to document 01's rules is shown in proofs/.
+use mathlib.Core.Bool.{Bool, true, false, _&&_, _||_, not, cond}
+use mathlib.Core.List.{List, [], _∷_}
+use Prim.Native.Nat.{ℕ, suc, _+_, _-_, min}
+use lib.Dec.{eqb, leb}
+use lib.ListN.{getD, drop}
+use Rattle.sheet.specs.Sheet.{all, kindOf, bits, headIn, bodyOf, Sheet}
+use Rattle.labelling.specs.Layout.{siteShare}
+use Rattle.pairs.specs.declared.TiedSite.{TiedSite}
+use Rattle.pairs.specs.declared.Head.{Head}
+use Rattle.pairs.specs.declared.Test.{Test}
+use Rattle.pairs.specs.declared.Test.the-variants.{First, FirstIn}
+use Rattle.pairs.specs.Pairs.{passes}
+use Rattle.rules.specs.declared.Place.{Place}
+
+abbrev pub oneIf : Bool → ℕ
+oneIf b = cond b 1 0
+
+abbrev pub isSite : (word : ℕ) → Bool
+isSite w = eqb (kindOf w) 4
+
+abbrev pub isColour : (word : ℕ) → Bool
+isColour w = eqb (kindOf w) 3
+
+-- THE HEAD of a sheet; its slots stand right after it
+unfoldable pub slotsRun : List ℕ → ℕ
+slotsRun [] = 0
+slotsRun (w ∷ ws) = cond (eqb (kindOf w) 2) (suc (slotsRun ws)) 0
+
+abbrev pub headOf : (sheet : List ℕ) → Head
+headOf ss =
+    record {
+      twosided = eqb (bits (headIn ss) 27 1) 1;
+      gap = bits (headIn ss) 14 12;
+      width = bits (headIn ss) 0 14;
+      body = 1 + slotsRun (bodyOf ss);
+    }
+
+abbrev pub heightIn : (sheet : List ℕ) → (slot : ℕ) → ℕ
+heightIn ss k = bits (getD (bodyOf ss) k 0) 0 14
+
+-- THE TIED SITES, word by word
+abbrev pub begin : Place
+begin = record { colours = 0; tie = 1 }
+
+abbrev pub placeAfter : Place → (word : ℕ) → Place
+placeAfter p w = record { colours = p .colours + oneIf (isColour w); tie = p .tie + oneIf (isSite w) }
+
+abbrev pub slotIn : (layout : List ℕ) → Place → ℕ
+slotIn ls p = bits (getD ls (p .tie) 0) 0 8
+
+abbrev pub tiedAt : (sheet layout : List ℕ) → Place → (word : ℕ) → TiedSite
+tiedAt ss ls p w =
+    record {
+      number = p .tie;
+      x = bits w 14 14;
+      y = bits w 0 14;
+      colour = p .colours - 1;
+      slot = slotIn ls p;
+      height = heightIn ss (slotIn ls p);
+    }
+
+unfoldable pub tiedFrom : (sheet layout : List ℕ) → Place → (words : List ℕ) → List TiedSite
+tiedFrom ss ls p [] = []
+tiedFrom ss ls p (w ∷ ws) =
+    cond (isSite w) (tiedAt ss ls p w ∷ tiedFrom ss ls (placeAfter p w) ws) (tiedFrom ss ls (placeAfter p w) ws)
+
+abbrev pub tiedIn : Head → (sheet layout : List ℕ) → List TiedSite
+tiedIn h ss ls = tiedFrom ss ls begin (drop (h .body) ss)
+
+-- a tied site beside each of them; each beside each
+abbrev pub passesAll : Test → Head → List TiedSite → TiedSite → Bool
+passesAll k h ts t = all (passes k h t) ts
+
+abbrev pub pairsPass : Test → Head → List TiedSite → Bool
+pairsPass k h ts = all (passesAll k h ts) ts
+
+-- SUMS over them
+unfoldable pub sumOver : {A : Type 0} → (A → ℕ) → List A → ℕ
+sumOver f [] = 0
+sumOver f (x ∷ xs) = f x + sumOver f xs
+
+-- how many pass beside each
+abbrev pub passOne : Test → Head → List TiedSite → TiedSite → ℕ
+passOne k h ts t = oneIf (passesAll k h ts t)
+
+abbrev pub passing : Test → Head → List TiedSite → ℕ
+passing k h ts = sumOver (passOne k h ts) ts
+
+-- a colour's bound is kept by so many labels
+abbrev pub boundKept : (labels word : ℕ) → Bool
+boundKept n w = eqb (bits w 0 8) 255 || leb n (bits w 0 8)
+
+unfoldable pub boundsFrom : (labels : ℕ → ℕ) → (colours : ℕ) → (words : List ℕ) → Bool
+boundsFrom f c [] = true
+boundsFrom f c (w ∷ ws) = (not (isColour w) || boundKept (f c) w) && boundsFrom f (c + oneIf (isColour w)) ws
+
+abbrev pub labelsIn : Head → List TiedSite → (colour : ℕ) → ℕ
+labelsIn h ts c = passing (FirstIn c) h ts
+
+-- the left end of a slot's label
+unfoldable pub leastIn : (slot width : ℕ) → List TiedSite → ℕ
+leastIn k w [] = w
+leastIn k w (t ∷ ts) = cond (eqb (t .slot) k) (min (t .x) (leastIn k w ts)) (leastIn k w ts)
+
+abbrev pub leftIn : Head → List TiedSite → (slot : ℕ) → ℕ
+leftIn h ts k = cond (h .twosided) 0 (leastIn k (h .width) ts)
+
+-- what a tied site adds to the length: its label's backbone if it is the first of its label, and its own share
+abbrev pub lengthAt : Sheet → Head → List TiedSite → TiedSite → ℕ
+lengthAt s h ts t = cond (passesAll First h ts t) (h .width - leftIn h ts (t .slot)) 0 + siteShare s (t .height) (t .y)
+
+abbrev pub lengthIn : Sheet → Head → List TiedSite → ℕ
+lengthIn s h ts = sumOver (lengthAt s h ts) ts
