@@ -1,4 +1,4 @@
 pub mod Value
 mod Holding
 mod Prices
-mod Tying
+pub mod Tying
