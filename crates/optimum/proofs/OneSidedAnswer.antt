@@ -88,7 +88,7 @@ module _ (s : Sheet) (o : Sound s) (one : s .isTwoSided ≡ false) (low : all (c
   slots-walked = walk-cells (instanceOf s) (length (s .colours)) (productOf (s .colours)) (good s o .rising) (turn-low s) (pointsAt s (order s)) coloured _ start-kept
 
   -- the first cell is the value of the empty sheet
-  cell-value : firstCell s ≡ value (instanceOf s) (replicate (length (s .slots)) 0, fullBudget s, replicate (suc (length (s .slots))) 0) (pointsAt s (order s))
+  pub cell-value : firstCell s ≡ value (instanceOf s) (replicate (length (s .slots)) 0, fullBudget s, replicate (suc (length (s .slots))) 0) (pointsAt s (order s))
   unfolding firstCell value strips
   cell-value =
       first-cell
