@@ -1,0 +1,4 @@
+pub mod Places
+mod Written
+mod Lesser
+mod Terms
