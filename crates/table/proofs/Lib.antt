@@ -2,3 +2,4 @@ pub mod Places
 mod Written
 mod Lesser
 mod Terms
+pub mod Entries

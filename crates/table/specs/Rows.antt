@@ -5,10 +5,11 @@ use mathlib.Core.Bool.{Bool, true, false, cond, _&&_}
 use mathlib.Core.List.{List, [], _∷_}
 use Prim.Native.Nat.{ℕ, zero, suc, _+_, _*_, _-_, _/_, _%_, _<_, _≤_, min}
 use lib.Dec.{ltb}
-use lib.ListN.{length, getD}
+use lib.ListN.{length, getD, drop}
 use Rattle.search.specs.Cost.{plus, least}
 use Rattle.optimum.specs.Strips.{Point, Strip, Instance, inside, joinsUp, joinsDown}
 use Rattle.optimum.specs.OneSided.{topWord}
+use Rattle.optimum.specs.Cells.{cellOf, stepCell}
 use Rattle.arrays.specs.declared.Measures.{Measures}
 use Rattle.strips.specs.Strips.{instanceOn, gapLeft, siteOpens, openCost, joinCost}
 use Rattle.budgets.specs.Budgets.{Within, shareBy}
@@ -34,6 +35,7 @@ pub record Framed (q : Measures) (heights bounds : List ℕ) : Type 0 where
   pub coloursFew : q .colours ≤ 8
   pub bounded : length bounds ≡ q .colours
   pub budgetsFew : q .budgets ≤ 64
+  pub budgetsSome : 0 < q .budgets
   pub narrow : q .width < 16384
   pub heightLow : (k : ℕ) → getD heights k 0 < 16384
 
@@ -101,3 +103,8 @@ module _ (q : Measures) (heights bounds parts counts left : List ℕ) (row : Str
   -- the entry of the strip p at the budget v, where the site s comes next
   unfoldable pub entryBy : Strip → Point → (v : ℕ) → ℕ
   entryBy p s v = cond (inside (instanceOn q heights bounds) p s) (insideEntry p s v) (row p v)
+
+-- the same by the model, from the level that begins at the word `low`: C colours, budgets below R
+abbrev pub entryIn : (P : Instance) (C R : ℕ) → (work : List ℕ) → (low : ℕ) → Strip → Point → (v : ℕ) → ℕ
+entryIn P C R work low p s v =
+    cond (inside P p s) (least (P .top) (P .m) (λ k. stepCell P C R (drop low work) p s k v)) (getD (drop low work) (cellOf P C R p v) 0)
