@@ -1,5 +1,3 @@
-pub mod Places
-mod Written
-mod Lesser
-mod Terms
-pub mod Entries
+mod Filling
+mod Places
+mod Right

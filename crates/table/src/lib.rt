@@ -1,301 +1,85 @@
-// Fills the one-sided table in the lent work words, level by level from the last site back, a row (a strip's entries by budget) at a time.
+// The one-sided table in the lent work words, level by level from the last up.
 ghost use mathlib.Core.Path.{_≡_};
-ghost use Prim.Native.Nat.{ℕ, _+_, _-_, _*_, _<_, _≤_, min};
+ghost use Prim.Native.Nat.{ℕ, _+_, _-_, _*_, _<_, _≤_};
 ghost use lib.ListN.{length, getD, drop};
-ghost use Rattle.search.specs.Cost.{plus};
-ghost use Rattle.optimum.specs.OneSided.{topWord};
-ghost use Rattle.strips.specs.Strips.{stripOf, pointOf};
-ghost use Rattle.budgets.specs.Budgets.{Others, Within};
-ghost use Rattle.table.specs.Rows.{rowOf, rowsOf, stripOfRow, Framed, Lies, Stands, Ready, rowIn, openBy, joinLeast, slotTerm, slotsLeast, entryBy};
+ghost use Rattle.strips.specs.Strips.{pointOf};
+ghost use Rattle.entries.specs.Rows.{rowsOf};
+ghost use Rattle.budgets.specs.Budgets.{Others, Splits};
+ghost use Rattle.arrays.specs.Arrays.{instanceBy, pointsBy};
+ghost use Rattle.optimum.specs.Reached.{TableOf};
+ghost use Rattle.table.specs.Rows.{levelSize, Ready, Filled, Given, LevelRight};
 use arrays::Measures;
 use strips::Site;
-use strips::Strip;
-use words::NONE;
-use words::both;
-use words::choose;
-use words::lesser;
-use words::monus;
 
-// The place of a strip's row in its level.
-fn row_place(q: Measures, m: usize, p: Strip) -> usize
-    requires { ⌜ (m ≤ 48) × (q .colours ≤ 8) × (q .budgets ≤ 64) ⌝ }
-    requires { ⌜ Lies m (q .colours) (stripOf p) ⌝ }
-    ensures { λ r. ⌜ r ≡ rowOf m (q .colours) (stripOf p) * q .budgets ⌝ }
+// How many rows a level has.
+fn rows_of(q: Measures, m: usize) -> usize
+    requires { ⌜ (m ≤ 48) × (q .colours ≤ 8) ⌝ }
+    ensures { λ r. ⌜ r ≡ rowsOf m (q .colours) ⌝ }
 {
     let colours = (q.colours as usize) + 1;
     let ends = m + 2;
-    let upper = (p.a as usize) * colours + (p.ca as usize);
-    let strip = (upper * ends + (p.b as usize)) * colours + (p.cb as usize);
-    strip * (q.budgets as usize)
+    ends * colours * ends * colours
 }
 
-// The strip of a row.
-fn strip_at(q: Measures, m: usize, row: usize) -> Strip
-    requires { ⌜ (m ≤ 48) × (q .colours ≤ 8) × (row < 202500) ⌝ }
-    ensures { λ r. ⌜ stripOf r ≡ stripOfRow m (q .colours) row ⌝ }
-{
-    let colours = q.colours + 1;
-    let ends = (m as u32) + 2;
-    let r = row as u32;
-    let t = r / colours;
-    let u = t / ends;
-    Strip {
-        a: u / colours,
-        ca: u % colours,
-        b: t % ends,
-        cb: r % colours,
-    }
-}
-
-// A row's n words are those of the row at `from`.
-fn copy_row(work: &mut [u32], base: usize, from: usize, n: usize)
-    requires { ⌜ (base + n ≤ from) × (from + n ≤ length (now work)) ⌝ }
-    ensures { λ _. ⌜ Others (now (work .entry)) (now (work .exit)) base n ⌝ }
-    ensures { λ _. ⌜ ((v : ℕ) → v < n → getD (now (work .exit)) (base + v) 0 ≡ getD (now (work .entry)) (from + v) 0) ⌝ }
-{
-    let mut v: usize = 0;
-    while v < n {
-        let t = work[from + v];
-        work[base + v] = t;
-        v += 1;
-    }
-}
-
-// A row's n words are those of the row at `from`, at a further cost.
-fn start_row(work: &mut [u32], base: usize, from: usize, n: usize, cost: u32)
-    requires { ⌜ (base + n ≤ from) × (from + n ≤ length (now work)) ⌝ }
-    ensures { λ _. ⌜ Others (now (work .entry)) (now (work .exit)) base n ⌝ }
-    ensures { λ _. ⌜ ((v : ℕ) → v < n → getD (now (work .exit)) (base + v) 0 ≡ plus topWord cost (getD (now (work .entry)) (from + v) 0)) ⌝ }
-{
-    let mut v: usize = 0;
-    while v < n {
-        let t = words::plus_of(cost, work[from + v]);
-        work[base + v] = t;
-        v += 1;
-    }
-}
-
-// The lesser of an entry and of opening a label that leaves u of the budget.
-fn opened(
-    old: u32,
-    work: &[u32],
-    parts: &[u8],
-    counts: &[u8],
-    upper: usize,
-    lower: usize,
-    n: usize,
-    cost: u32,
-    u: usize,
-) -> u32
-    requires { ⌜ Within n (now parts) (now counts) ⌝ }
-    requires { ⌜ (upper + n ≤ length (now work)) × (lower + n ≤ length (now work)) ⌝ }
-    ensures { λ r. ⌜ r ≡ min old (openBy (now (parts .entry)) (now (counts .entry)) n cost u (λ w. getD (now (work .entry)) (upper + w) 0) (λ w. getD (now (work .entry)) (lower + w) 0)) ⌝ }
-{
-    if n <= u {
-        return old;
-    }
-    let t = (cost as u64)
-        + (budgets::least_share(parts, counts, n, work, upper, work, lower, u) as u64);
-    if t < old as u64 {
-        return t as u32;
-    }
-    old
-}
-
-// Opens a label that costs `cost` in a row; `left` says what it leaves of each budget, which the rows at `upper` and `lower` share.
-fn open_row(
-    work: &mut [u32],
-    parts: &[u8],
-    counts: &[u8],
-    left: &[u8],
-    base: usize,
-    upper: usize,
-    lower: usize,
-    n: usize,
-    cost: u32,
-)
-    requires { ⌜ Within n (now parts) (now counts) ⌝ }
-    requires { ⌜ (n ≤ length (now left)) × (base + n ≤ upper) × (base + n ≤ lower) × (upper + n ≤ length (now work)) × (lower + n ≤ length (now work)) ⌝ }
-    ensures { λ _. ⌜ Others (now (work .entry)) (now (work .exit)) base n ⌝ }
-    ensures { λ _. ⌜ ((v : ℕ) → v < n → getD (now (work .exit)) (base + v) 0 ≡ min (getD (now (work .entry)) (base + v) 0) (openBy (now (parts .entry)) (now (counts .entry)) n cost (getD (now (left .entry)) v 0) (λ w. getD (now (work .entry)) (upper + w) 0) (λ w. getD (now (work .entry)) (lower + w) 0))) ⌝ }
-{
-    let mut v: usize = 0;
-    while v < n {
-        let u = left[v] as usize;
-        let t = opened(
-            work[base + v],
-            work,
-            parts,
-            counts,
-            upper,
-            lower,
-            n,
-            cost,
-            u,
-        );
-        work[base + v] = t;
-        v += 1;
-    }
-}
-
-// Opens a label at slot k, between the strip's ends, if both are far enough.
-fn open_slot(
-    work: &mut [u32],
-    q: Measures,
-    heights: &[u32],
-    bounds: &[u32],
-    parts: &[u8],
-    counts: &[u8],
-    left: &[u8],
-    p: Strip,
-    s: Site,
-    base: usize,
-    low: usize,
-    k: u32,
-)
+// Fills a level, where the site s comes next, from the level below it.
+fn fill_level(work: &mut [u32], q: Measures, heights: &[u32], bounds: &[u32], parts: &[u8], counts: &[u8], left: &[u8], s: Site, base: usize, low: usize)
     requires { ⌜ Ready q (now heights) (now bounds) (now parts) (now counts) (now left) (length (now work)) base low (pointOf s) ⌝ }
-    requires { ⌜ Lies (length (now heights)) (q .colours) (stripOf p) × (k + 1 < p .b) ⌝ }
-    ensures { λ _. ⌜ Others (now (work .entry)) (now (work .exit)) base (q .budgets) ⌝ }
-    ensures { λ _. ⌜ ((v : ℕ) → v < q .budgets → getD (now (work .exit)) (base + v) 0 ≡ min (getD (now (work .entry)) (base + v) 0) (slotTerm q (now (heights .entry)) (now (bounds .entry)) (now (parts .entry)) (now (counts .entry)) (now (left .entry)) (rowIn (now (work .entry)) low (length (now (heights .entry))) (q .colours) (q .budgets)) (stripOf p) (pointOf s) k v)) ⌝ }
-{
-    if !strips::leaves_gap(q, heights, bounds, p, s, k) {
-        return;
-    }
-    let m = heights.len();
-    let c = s.c + 1;
-    let upper = low
-        + row_place(
-            q,
-            m,
-            Strip {
-                a: p.a,
-                ca: p.ca,
-                b: k + 1,
-                cb: c,
-            },
-        );
-    let lower = low
-        + row_place(
-            q,
-            m,
-            Strip {
-                a: k + 1,
-                ca: c,
-                b: p.b,
-                cb: p.cb,
-            },
-        );
-    let n = q.budgets as usize;
-    open_row(
-        work,
-        parts,
-        counts,
-        left,
-        base,
-        upper,
-        lower,
-        n,
-        strips::open_cost(q, heights, s, k),
-    );
-}
-
-// Opens a label at each slot between the strip's ends.
-fn open_slots(
-    work: &mut [u32],
-    q: Measures,
-    heights: &[u32],
-    bounds: &[u32],
-    parts: &[u8],
-    counts: &[u8],
-    left: &[u8],
-    p: Strip,
-    s: Site,
-    base: usize,
-    low: usize,
-)
-    requires { ⌜ Ready q (now heights) (now bounds) (now parts) (now counts) (now left) (length (now work)) base low (pointOf s) ⌝ }
-    requires { ⌜ Lies (length (now heights)) (q .colours) (stripOf p) ⌝ }
-    ensures { λ _. ⌜ Others (now (work .entry)) (now (work .exit)) base (q .budgets) ⌝ }
-    ensures { λ _. ⌜ ((v : ℕ) → v < q .budgets → getD (now (work .exit)) (base + v) 0 ≡ min (getD (now (work .entry)) (base + v) 0) (slotsLeast q (now (heights .entry)) (now (bounds .entry)) (now (parts .entry)) (now (counts .entry)) (now (left .entry)) (rowIn (now (work .entry)) low (length (now (heights .entry))) (q .colours) (q .budgets)) (stripOf p) (pointOf s) (p .b - 1 - p .a) v)) ⌝ }
-{
-    let end = monus(p.b, 1);
-    let mut k = p.a;
-    while k < end {
-        open_slot(
-            work,
-            q,
-            heights,
-            bounds,
-            parts,
-            counts,
-            left,
-            p,
-            s,
-            base,
-            low,
-            k,
-        );
-        k += 1;
-    }
-}
-
-// The least that joining a label costs.
-fn join_least(q: Measures, heights: &[u32], bounds: &[u32], p: Strip, s: Site) -> u32
-    requires { ⌜ Framed q (now heights) (now bounds) ⌝ }
-    requires { ⌜ Lies (length (now heights)) (q .colours) (stripOf p) × Stands (q .colours) (pointOf s) ⌝ }
-    ensures { λ r. ⌜ r ≡ joinLeast q (now (heights .entry)) (now (bounds .entry)) (stripOf p) (pointOf s) ⌝ }
-{
-    let up = monus(p.a, 1);
-    let down = monus(p.b, 1);
-    let slot = (up as usize) < heights.len();
-    let above = both(slot, strips::joins_up(q, heights, bounds, p, s, up));
-    let below = strips::joins_down(q, heights, bounds, p, s, down);
-    let rise = choose(above, strips::join_cost(q, heights, s, up), NONE);
-    lesser(
-        rise,
-        choose(below, strips::join_cost(q, heights, s, down), NONE),
-    )
-}
-
-// Fills the row of a strip from the level below.
-fn fill_row(
-    work: &mut [u32],
-    q: Measures,
-    heights: &[u32],
-    bounds: &[u32],
-    parts: &[u8],
-    counts: &[u8],
-    left: &[u8],
-    p: Strip,
-    s: Site,
-    base: usize,
-    low: usize,
-)
-    requires { ⌜ Ready q (now heights) (now bounds) (now parts) (now counts) (now left) (length (now work)) base low (pointOf s) ⌝ }
-    requires { ⌜ Lies (length (now heights)) (q .colours) (stripOf p) ⌝ }
-    ensures { λ _. ⌜ Others (now (work .entry)) (now (work .exit)) base (q .budgets) ⌝ }
-    ensures { λ _. ⌜ ((v : ℕ) → v < q .budgets → getD (now (work .exit)) (base + v) 0 ≡ entryBy q (now (heights .entry)) (now (bounds .entry)) (now (parts .entry)) (now (counts .entry)) (now (left .entry)) (rowIn (now (work .entry)) low (length (now (heights .entry))) (q .colours) (q .budgets)) (stripOf p) (pointOf s) v) ⌝ }
+    ensures { λ _. ⌜ Filled q (now (heights .entry)) (now (bounds .entry)) (now (parts .entry)) (now (counts .entry)) (now (left .entry)) (now (work .entry)) (now (work .exit)) base low (pointOf s) (rowsOf (length (now (heights .entry))) (q .colours)) ⌝ }
 {
     let n = q.budgets as usize;
-    let same = low + row_place(q, heights.len(), p);
-    if !strips::is_inside(q, heights, bounds, p, s) {
-        copy_row(work, base, same, n);
-        return;
+    let rows = rows_of(q, heights.len());
+    let mut r: usize = 0;
+    while r < rows {
+        let at = base + r * n;
+        let p = entries::strip_at(q, heights.len(), r);
+        entries::fill_row(work, q, heights, bounds, parts, counts, left, p, s, at, low);
+        r += 1;
     }
-    start_row(work, base, same, n, join_least(q, heights, bounds, p, s));
-    if strips::site_opens(q, heights, bounds, p, s) {
-        open_slots(
-            work,
-            q,
-            heights,
-            bounds,
-            parts,
-            counts,
-            left,
-            p,
-            s,
-            base,
-            low,
-        );
+}
+
+// Zeros a level.
+fn zero_level(work: &mut [u32], base: usize, size: usize)
+    requires { ⌜ base + size ≤ length (now work) ⌝ }
+    ensures { λ _. ⌜ Others (now (work .entry)) (now (work .exit)) base size ⌝ }
+    ensures { λ _. ⌜ ((i : ℕ) → i < size → getD (now (work .exit)) (base + i) 0 ≡ 0) ⌝ }
+{
+    let mut i: usize = 0;
+    while i < size {
+        work[base + i] = 0;
+        i += 1;
+    }
+}
+
+// Fills level j, where the site of rank j comes next, from level j + 1.
+fn fill_site(work: &mut [u32], q: Measures, heights: &[u32], bounds: &[u32], radices: &[u32], draws: &[u32], parts: &[u8], counts: &[u8], xs: &[u32], ys: &[u32], cs: &[u32], size: usize, j: usize)
+    requires { ⌜ Given q (now heights) (now bounds) (now radices) (now draws) (now xs) (now ys) (now cs) (length (now work)) ⌝ }
+    requires { ⌜ Splits (now radices) (q .budgets) (now parts) (now counts) ⌝ }
+    requires { ⌜ (j < length (now xs)) × (size ≡ levelSize q (now heights)) ⌝ }
+    ensures { λ _. ⌜ Others (now (work .entry)) (now (work .exit)) (j * size) size ⌝ }
+    ensures { λ _. ⌜ (LevelRight (instanceBy q (now (heights .entry)) (now (bounds .entry)) (now (radices .entry)) (now (draws .entry))) q (now (heights .entry)) (drop (j + 1) (pointsBy (now (xs .entry)) (now (ys .entry)) (now (cs .entry)))) (now (work .entry)) ((j + 1) * size) → LevelRight (instanceBy q (now (heights .entry)) (now (bounds .entry)) (now (radices .entry)) (now (draws .entry))) q (now (heights .entry)) (drop j (pointsBy (now (xs .entry)) (now (ys .entry)) (now (cs .entry)))) (now (work .exit)) (j * size)) ⌝ }
+{
+    let c = cs[j];
+    let s = Site { x: xs[j], y: ys[j], c: c };
+    let draw = words::get(draws, c);
+    let mut left = [0u8; 64];
+    budgets::list_left(radices, draw, q.budgets as usize, &mut left);
+    fill_level(work, q, heights, bounds, parts, counts, &left, s, j * size, (j + 1) * size);
+}
+
+// Fills the table of the sites by rising rank, whatever the work words held.
+pub fn fill_table(work: &mut [u32], q: Measures, heights: &[u32], bounds: &[u32], radices: &[u32], draws: &[u32], xs: &[u32], ys: &[u32], cs: &[u32])
+    requires { ⌜ Given q (now heights) (now bounds) (now radices) (now draws) (now xs) (now ys) (now cs) (length (now work)) ⌝ }
+    ensures { λ _. ⌜ TableOf (instanceBy q (now (heights .entry)) (now (bounds .entry)) (now (radices .entry)) (now (draws .entry))) (q .colours) (q .budgets) (pointsBy (now (xs .entry)) (now (ys .entry)) (now (cs .entry))) (now (work .exit)) ⌝ }
+    ensures { λ _. ⌜ drop ((length (now (xs .entry)) + 1) * levelSize q (now (heights .entry))) (now (work .exit)) ≡ drop ((length (now (xs .entry)) + 1) * levelSize q (now (heights .entry))) (now (work .entry)) ⌝ }
+{
+    let mut parts = [0u8; 4096];
+    let mut counts = [0u8; 64];
+    budgets::list_splits(radices, q.budgets as usize, &mut parts, &mut counts);
+    let size = rows_of(q, heights.len()) * (q.budgets as usize);
+    let mut j = xs.len();
+    zero_level(work, j * size, size);
+    while 0 < j {
+        j -= 1;
+        fill_site(work, q, heights, bounds, radices, draws, &parts, &counts, xs, ys, cs, size, j);
     }
 }

@@ -1,6 +1,6 @@
 use Rattle.search.specs.Cost.{plus}
 use Rattle.optimum.specs.OneSided.{topWord}
-use Rattle.table.proofs.Written.{Written, written-none, written-more, written-others}
+use Rattle.entries.proofs.Written.{Written, written-none, written-more, written-others}
 use mathlib.Core.Path.{_≡_, refl, ap, sym, _∙_}
 use mathlib.Core.List.{List, [], _∷_, _++_}
 use mathlib.Core.Logic.{⊎-elim}
@@ -10,10 +10,10 @@ use native.Mathlib.Numerals.{add-one}
 use lib.ListN.{length, getD, take, drop, set, length-set}
 use borrow.Author.Tests.{eq-eqb, ne-eqb, lt-ltb, le-ltb, le-leb, lt-leb}
 use borrow.Author.Needs.{needs}
-use Rattle.table.proofs.start_row.Statement.{statement}
-use Rattle.table.proofs.start_row.Tie as tie
-use Rattle.table.proofs.start_row.Reads as reads
-use Rattle.table.proofs.start_row.Lts as lts
+use Rattle.entries.proofs.start_row.Statement.{statement}
+use Rattle.entries.proofs.start_row.Tie as tie
+use Rattle.entries.proofs.start_row.Reads as reads
+use Rattle.entries.proofs.start_row.Lts as lts
 use Rattle.words.proofs.plus_of.Reads as plus-of-reads
 
 abbrev Inv-loop : tie.InvT-loop

@@ -1,4 +1,4 @@
-use Rattle.table.proofs.Lesser.{opened-past, opened-by}
+use Rattle.entries.proofs.Lesser.{opened-past, opened-by}
 use mathlib.Core.Path.{_≡_, refl, ap, sym, _∙_}
 use mathlib.Core.List.{List, [], _∷_, _++_}
 use mathlib.Core.Logic.{⊎-elim}
@@ -8,10 +8,10 @@ use native.Mathlib.Numerals.{add-one}
 use lib.ListN.{length, getD, take, drop, set, length-set}
 use borrow.Author.Tests.{eq-eqb, ne-eqb, lt-ltb, le-ltb, le-leb, lt-leb}
 use borrow.Author.Needs.{needs}
-use Rattle.table.proofs.opened.Statement.{statement}
-use Rattle.table.proofs.opened.Tie as tie
-use Rattle.table.proofs.opened.Reads as reads
-use Rattle.table.proofs.opened.Lts as lts
+use Rattle.entries.proofs.opened.Statement.{statement}
+use Rattle.entries.proofs.opened.Tie as tie
+use Rattle.entries.proofs.opened.Reads as reads
+use Rattle.entries.proofs.opened.Lts as lts
 use Rattle.budgets.proofs.least_share.Reads as least-share-reads
 
 -- src/lib.rt:80:9

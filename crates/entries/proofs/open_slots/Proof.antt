@@ -1,6 +1,6 @@
 use Rattle.optimum.specs.OneSided.{topWord}
 use Rattle.strips.specs.Strips.{stripOf, pointOf}
-use Rattle.table.proofs.Terms.{Tried, tried-none, tried-more}
+use Rattle.entries.proofs.Terms.{Tried, tried-none, tried-more}
 use mathlib.Core.Path.{_≡_, refl, ap, sym, _∙_}
 use mathlib.Core.List.{List, [], _∷_, _++_}
 use mathlib.Core.Logic.{⊎-elim}
@@ -10,11 +10,11 @@ use native.Mathlib.Numerals.{add-one}
 use lib.ListN.{length, getD, take, drop, set, length-set}
 use borrow.Author.Tests.{eq-eqb, ne-eqb, lt-ltb, le-ltb, le-leb, lt-leb}
 use borrow.Author.Needs.{needs}
-use Rattle.table.proofs.open_slots.Statement.{statement}
-use Rattle.table.proofs.open_slots.Tie as tie
-use Rattle.table.proofs.open_slots.Reads as reads
-use Rattle.table.proofs.open_slots.Lts as lts
-use Rattle.table.proofs.open_slot.Reads as open-slot-reads
+use Rattle.entries.proofs.open_slots.Statement.{statement}
+use Rattle.entries.proofs.open_slots.Tie as tie
+use Rattle.entries.proofs.open_slots.Reads as reads
+use Rattle.entries.proofs.open_slots.Lts as lts
+use Rattle.entries.proofs.open_slot.Reads as open-slot-reads
 use Rattle.words.proofs.monus.Reads as monus-reads
 
 abbrev Inv-loop : tie.InvT-loop

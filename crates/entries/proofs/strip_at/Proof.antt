@@ -1,4 +1,4 @@
-use Rattle.table.specs.Rows.{stripOfRow}
+use Rattle.entries.specs.Rows.{stripOfRow}
 use mathlib.Core.Path.{_≡_, refl, ap, sym, _∙_}
 use mathlib.Core.List.{List, [], _∷_, _++_}
 use mathlib.Core.Logic.{⊎-elim}
@@ -8,10 +8,10 @@ use native.Mathlib.Numerals.{add-one}
 use lib.ListN.{length, getD, take, drop, set, length-set}
 use borrow.Author.Tests.{eq-eqb, ne-eqb, lt-ltb, le-ltb, le-leb, lt-leb}
 use borrow.Author.Needs.{needs}
-use Rattle.table.proofs.strip_at.Statement.{statement}
-use Rattle.table.proofs.strip_at.Tie as tie
-use Rattle.table.proofs.strip_at.Reads as reads
-use Rattle.table.proofs.strip_at.Lts as lts
+use Rattle.entries.proofs.strip_at.Statement.{statement}
+use Rattle.entries.proofs.strip_at.Tie as tie
+use Rattle.entries.proofs.strip_at.Reads as reads
+use Rattle.entries.proofs.strip_at.Lts as lts
 
 -- src/lib.rt:32:19
 add-colours : tie.Need-add-colours

@@ -1,5 +1,5 @@
 use Rattle.strips.specs.Strips.{stripOf}
-use Rattle.table.proofs.Places.{Sized, sized}
+use Rattle.entries.proofs.Places.{Sized, sized}
 use mathlib.Core.Path.{_≡_, refl, ap, sym, _∙_}
 use mathlib.Core.List.{List, [], _∷_, _++_}
 use mathlib.Core.Logic.{⊎-elim}
@@ -9,10 +9,10 @@ use native.Mathlib.Numerals.{add-one}
 use lib.ListN.{length, getD, take, drop, set, length-set}
 use borrow.Author.Tests.{eq-eqb, ne-eqb, lt-ltb, le-ltb, le-leb, lt-leb}
 use borrow.Author.Needs.{needs}
-use Rattle.table.proofs.row_place.Statement.{statement}
-use Rattle.table.proofs.row_place.Tie as tie
-use Rattle.table.proofs.row_place.Reads as reads
-use Rattle.table.proofs.row_place.Lts as lts
+use Rattle.entries.proofs.row_place.Statement.{statement}
+use Rattle.entries.proofs.row_place.Tie as tie
+use Rattle.entries.proofs.row_place.Reads as reads
+use Rattle.entries.proofs.row_place.Lts as lts
 
 -- the products are small
 size : (c : tie.After-struct-known) → Sized (c .before .args .m) (c .before .args .q .colours) (c .before .args .q .budgets) (stripOf (c .before .args .p))

@@ -24,7 +24,7 @@ use Rattle.strips.specs.Strips.{instanceOn, gapLeft, siteOpens, openCost, joinC
 use Rattle.strips.proofs.Decisions.{inside-on, opens-on, joins-up-on, joins-down-on, opens-split}
 use Rattle.budgets.specs.Budgets.{Within, Splits, shareBy, leftBy}
 use Rattle.budgets.proofs.Sharing.{share-by}
-use Rattle.table.specs.Rows.{rowOf, rowsOf, rowIn, Lies, openBy, upperPart, lowerPart, joinLeast, slotTerm, slotsLeast, insideEntry, entryBy, entryIn}
+use Rattle.entries.specs.Rows.{rowOf, rowsOf, rowIn, Lies, openBy, upperPart, lowerPart, joinLeast, slotTerm, slotsLeast, insideEntry, entryBy, entryIn}
 
 -- what opening asks, taken apart
 pub record Opening (q : Measures) (hs bs : List ℕ) (p : Strip) (s : Point) (k : ℕ) : Type 0 where

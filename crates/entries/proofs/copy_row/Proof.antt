@@ -1,4 +1,4 @@
-use Rattle.table.proofs.Written.{Written, written-none, written-more, written-others}
+use Rattle.entries.proofs.Written.{Written, written-none, written-more, written-others}
 use mathlib.Core.Path.{_≡_, refl, ap, sym, _∙_}
 use mathlib.Core.List.{List, [], _∷_, _++_}
 use mathlib.Core.Logic.{⊎-elim}
@@ -8,10 +8,10 @@ use native.Mathlib.Numerals.{add-one}
 use lib.ListN.{length, getD, take, drop, set, length-set}
 use borrow.Author.Tests.{eq-eqb, ne-eqb, lt-ltb, le-ltb, le-leb, lt-leb}
 use borrow.Author.Needs.{needs}
-use Rattle.table.proofs.copy_row.Statement.{statement}
-use Rattle.table.proofs.copy_row.Tie as tie
-use Rattle.table.proofs.copy_row.Reads as reads
-use Rattle.table.proofs.copy_row.Lts as lts
+use Rattle.entries.proofs.copy_row.Statement.{statement}
+use Rattle.entries.proofs.copy_row.Tie as tie
+use Rattle.entries.proofs.copy_row.Reads as reads
+use Rattle.entries.proofs.copy_row.Lts as lts
 
 abbrev Inv-loop : tie.InvT-loop
 Inv-loop work₀ base from n v₀ work v = (v ≤ n) × Written work₀ work base v (λ k. getD work₀ (from + k) 0)

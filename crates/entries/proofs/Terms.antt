@@ -12,7 +12,7 @@ use Rattle.optimum.specs.OneSided.{topWord}
 use Rattle.arrays.specs.declared.Measures.{Measures}
 use Rattle.strips.specs.Strips.{instanceOn, gapLeft, siteOpens, openCost}
 use Rattle.budgets.specs.Budgets.{Others}
-use Rattle.table.specs.Rows.{rowOf, rowIn, openBy, upperPart, lowerPart, joinLeast, slotTerm, slotsLeast, insideEntry, entryBy}
+use Rattle.entries.specs.Rows.{rowOf, rowIn, openBy, upperPart, lowerPart, joinLeast, slotTerm, slotsLeast, insideEntry, entryBy}
 
 module _ (q : Measures) (hs bs parts counts left : List ℕ) where
   -- a slot too near an end of the strip

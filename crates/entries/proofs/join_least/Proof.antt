@@ -1,4 +1,4 @@
-use Rattle.table.specs.Rows.{joinLeast}
+use Rattle.entries.specs.Rows.{joinLeast}
 use mathlib.Core.Path.{_≡_, refl, ap, sym, _∙_}
 use mathlib.Core.List.{List, [], _∷_, _++_}
 use mathlib.Core.Logic.{⊎-elim}
@@ -8,10 +8,10 @@ use native.Mathlib.Numerals.{add-one}
 use lib.ListN.{length, getD, take, drop, set, length-set}
 use borrow.Author.Tests.{eq-eqb, ne-eqb, lt-ltb, le-ltb, le-leb, lt-leb}
 use borrow.Author.Needs.{needs}
-use Rattle.table.proofs.join_least.Statement.{statement}
-use Rattle.table.proofs.join_least.Tie as tie
-use Rattle.table.proofs.join_least.Reads as reads
-use Rattle.table.proofs.join_least.Lts as lts
+use Rattle.entries.proofs.join_least.Statement.{statement}
+use Rattle.entries.proofs.join_least.Tie as tie
+use Rattle.entries.proofs.join_least.Reads as reads
+use Rattle.entries.proofs.join_least.Lts as lts
 use Rattle.strips.proofs.join_cost.Reads as join-cost-reads
 use Rattle.strips.proofs.joins_down.Reads as joins-down-reads
 use Rattle.strips.proofs.joins_up.Reads as joins-up-reads

@@ -1,8 +1,8 @@
 use Rattle.budgets.specs.Budgets.{Others}
 use Rattle.lists.proofs.Tests.{not-e, not-f}
 use Rattle.strips.specs.Strips.{stripOf, pointOf}
-use Rattle.table.proofs.Places.{upper-lies, lower-lies, upper-fits, lower-fits}
-use Rattle.table.proofs.Terms.{slot-closed, slot-open}
+use Rattle.entries.proofs.Places.{upper-lies, lower-lies, upper-fits, lower-fits}
+use Rattle.entries.proofs.Terms.{slot-closed, slot-open}
 use mathlib.Core.Path.{_≡_, refl, ap, sym, _∙_}
 use mathlib.Core.List.{List, [], _∷_, _++_}
 use mathlib.Core.Logic.{⊎-elim}
@@ -12,14 +12,14 @@ use native.Mathlib.Numerals.{add-one}
 use lib.ListN.{length, getD, take, drop, set, length-set}
 use borrow.Author.Tests.{eq-eqb, ne-eqb, lt-ltb, le-ltb, le-leb, lt-leb}
 use borrow.Author.Needs.{needs}
-use Rattle.table.proofs.open_slot.Statement.{statement}
-use Rattle.table.proofs.open_slot.Tie as tie
-use Rattle.table.proofs.open_slot.Reads as reads
-use Rattle.table.proofs.open_slot.Lts as lts
+use Rattle.entries.proofs.open_slot.Statement.{statement}
+use Rattle.entries.proofs.open_slot.Tie as tie
+use Rattle.entries.proofs.open_slot.Reads as reads
+use Rattle.entries.proofs.open_slot.Lts as lts
 use Rattle.strips.proofs.leaves_gap.Reads as leaves-gap-reads
 use Rattle.strips.proofs.open_cost.Reads as open-cost-reads
-use Rattle.table.proofs.open_row.Reads as open-row-reads
-use Rattle.table.proofs.row_place.Reads as row-place-reads
+use Rattle.entries.proofs.open_row.Reads as open-row-reads
+use Rattle.entries.proofs.row_place.Reads as row-place-reads
 
 -- src/lib.rt:112:9
 leaves-gap-requires : tie.Need-leaves-gap-requires

@@ -1,6 +1,6 @@
 use mathlib.Core.Path.{ap₂, fun-ext}
-use Rattle.table.specs.Rows.{openBy}
-use Rattle.table.proofs.Written.{Written, written-none, written-more, written-others}
+use Rattle.entries.specs.Rows.{openBy}
+use Rattle.entries.proofs.Written.{Written, written-none, written-more, written-others}
 use mathlib.Core.Path.{_≡_, refl, ap, sym, _∙_}
 use mathlib.Core.List.{List, [], _∷_, _++_}
 use mathlib.Core.Logic.{⊎-elim}
@@ -10,11 +10,11 @@ use native.Mathlib.Numerals.{add-one}
 use lib.ListN.{length, getD, take, drop, set, length-set}
 use borrow.Author.Tests.{eq-eqb, ne-eqb, lt-ltb, le-ltb, le-leb, lt-leb}
 use borrow.Author.Needs.{needs}
-use Rattle.table.proofs.open_row.Statement.{statement}
-use Rattle.table.proofs.open_row.Tie as tie
-use Rattle.table.proofs.open_row.Reads as reads
-use Rattle.table.proofs.open_row.Lts as lts
-use Rattle.table.proofs.opened.Reads as opened-reads
+use Rattle.entries.proofs.open_row.Statement.{statement}
+use Rattle.entries.proofs.open_row.Tie as tie
+use Rattle.entries.proofs.open_row.Reads as reads
+use Rattle.entries.proofs.open_row.Lts as lts
+use Rattle.entries.proofs.opened.Reads as opened-reads
 
 abbrev Inv-loop : tie.InvT-loop
 Inv-loop work₀ parts counts left base upper lower n cost v₀ work v = (v ≤ n) × Written work₀ work base v (λ k. min (getD work₀ (base + k) 0) (openBy parts counts n cost (getD left k 0) (λ w. getD work₀ (upper + w) 0) (λ w. getD work₀ (lower + w) 0)))

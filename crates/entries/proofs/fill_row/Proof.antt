@@ -3,8 +3,8 @@ use Rattle.lists.proofs.Tests.{not-e, not-f}
 use Rattle.optimum.specs.OneSided.{topWord}
 use Rattle.strips.specs.Strips.{stripOf, pointOf}
 use Rattle.budgets.specs.Budgets.{Others}
-use Rattle.table.proofs.Places.{own-fits}
-use Rattle.table.proofs.Terms.{row-copied, row-joined, row-opened}
+use Rattle.entries.proofs.Places.{own-fits}
+use Rattle.entries.proofs.Terms.{row-copied, row-joined, row-opened}
 use mathlib.Core.Path.{_≡_, refl, ap, sym, _∙_}
 use mathlib.Core.List.{List, [], _∷_, _++_}
 use mathlib.Core.Logic.{⊎-elim}
@@ -14,17 +14,17 @@ use native.Mathlib.Numerals.{add-one}
 use lib.ListN.{length, getD, take, drop, set, length-set}
 use borrow.Author.Tests.{eq-eqb, ne-eqb, lt-ltb, le-ltb, le-leb, lt-leb}
 use borrow.Author.Needs.{needs}
-use Rattle.table.proofs.fill_row.Statement.{statement}
-use Rattle.table.proofs.fill_row.Tie as tie
-use Rattle.table.proofs.fill_row.Reads as reads
-use Rattle.table.proofs.fill_row.Lts as lts
+use Rattle.entries.proofs.fill_row.Statement.{statement}
+use Rattle.entries.proofs.fill_row.Tie as tie
+use Rattle.entries.proofs.fill_row.Reads as reads
+use Rattle.entries.proofs.fill_row.Lts as lts
 use Rattle.strips.proofs.is_inside.Reads as is-inside-reads
 use Rattle.strips.proofs.site_opens.Reads as site-opens-reads
-use Rattle.table.proofs.copy_row.Reads as copy-row-reads
-use Rattle.table.proofs.join_least.Reads as join-least-reads
-use Rattle.table.proofs.open_slots.Reads as open-slots-reads
-use Rattle.table.proofs.row_place.Reads as row-place-reads
-use Rattle.table.proofs.start_row.Reads as start-row-reads
+use Rattle.entries.proofs.copy_row.Reads as copy-row-reads
+use Rattle.entries.proofs.join_least.Reads as join-least-reads
+use Rattle.entries.proofs.open_slots.Reads as open-slots-reads
+use Rattle.entries.proofs.row_place.Reads as row-place-reads
+use Rattle.entries.proofs.start_row.Reads as start-row-reads
 
 -- src/lib.rt:160:13
 cast-n : tie.Need-cast-n
