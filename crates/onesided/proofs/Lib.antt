@@ -1,1 +1,4 @@
 mod Finished
+mod Called
+mod Facts
+mod Parts

@@ -52,3 +52,10 @@ pub record TableFilled (q : Measures) (heights bounds radices draws parts counts
   pub someBudget : 0 < q .budgets
   pub noLabel : labels ≡ replicate (length heights) 0
   pub room : length order < length out
+
+-- the order names each site, there is a budget, and there is room for the answer
+pub record Ranked (q : Measures) (xs order out : List ℕ) : Type 0 where
+  pub long : length order ≡ length xs
+  pub low : (i : ℕ) → i < length order → getD order i 0 < length order
+  pub someBudget : 0 < q .budgets
+  pub room : length order < length out

@@ -1,13 +1,27 @@
 // The layout of a one-sided sheet: the arrays, the table, the walk, and the areas as they are left.
 ghost use mathlib.Core.Path.{_≡_};
-ghost use mathlib.Core.Bool.{cond};
+ghost use mathlib.Core.Bool.{false, cond};
 ghost use mathlib.Core.List.{_++_};
 ghost use Prim.Native.Nat.{ℕ, _+_, _-_, _*_, _<_, _≤_};
 ghost use lib.ListN.{length, getD, drop, replicate};
 ghost use Rattle.arrays.specs.Arrays.{instanceBy, pointsBy};
 ghost use Rattle.optimum.specs.OneSided.{topWord};
-ghost use Rattle.onesided.specs.Laid.{leastCost, headWord, written, laidFault, laidOut, wiped, TableFilled};
+ghost use Rattle.sheet.specs.Sheet.{sheetIn, productOf};
+ghost use Rattle.labelling.specs.Entry.{makeFault, makeAnswer, makeWork};
+ghost use Rattle.labelling.specs.Promise.{takesSheet};
+ghost use Rattle.table.specs.Rows.{Given};
+ghost use Rattle.onesided.specs.Laid.{Ranked, leastCost, headWord, written, laidFault, laidOut, wiped, TableFilled};
 use arrays::Measures;
+use arrays::bounds_of;
+use arrays::colours_of;
+use arrays::draws_of;
+use arrays::gathered_of;
+use arrays::heights_of;
+use arrays::measures_of;
+use arrays::order_of;
+use arrays::radices_of;
+use arrays::xs_of;
+use arrays::ys_of;
 use walk::Left;
 
 // Zeros the first n words.
@@ -129,4 +143,93 @@ fn finish(
     );
     clear(work, need);
     0
+}
+
+// Lays out the sites by rising rank, from arrays that are a sheet's.
+fn lay_ranked(
+    q: Measures,
+    heights: &[u32],
+    bounds: &[u32],
+    radices: &[u32],
+    draws: &[u32],
+    xs: &[u32],
+    ys: &[u32],
+    colours: &[u32],
+    order: &[u32],
+    work: &mut [u32],
+    out: &mut [u32],
+) -> u8
+    requires { ⌜ Given q (now heights) (now bounds) (now radices) (now draws) (now xs) (now ys) (now colours) (length (now work)) ⌝ }
+    requires { ⌜ Ranked q (now xs) (now order) (now out) ⌝ }
+    ensures { λ r. ⌜ r ≡ laidFault (instanceBy q (now (heights .entry)) (now (bounds .entry)) (now (radices .entry)) (now (draws .entry))) (q .budgets) (pointsBy (now (xs .entry)) (now (ys .entry)) (now (colours .entry))) ⌝ }
+    ensures { λ r. ⌜ now (work .exit) ≡ wiped (instanceBy q (now (heights .entry)) (now (bounds .entry)) (now (radices .entry)) (now (draws .entry))) q (pointsBy (now (xs .entry)) (now (ys .entry)) (now (colours .entry))) (now (work .entry)) ⌝ }
+    ensures { λ r. ⌜ now (out .exit) ≡ laidOut (instanceBy q (now (heights .entry)) (now (bounds .entry)) (now (radices .entry)) (now (draws .entry))) q (pointsBy (now (xs .entry)) (now (ys .entry)) (now (colours .entry))) (now (order .entry)) (now (out .entry)) ⌝ }
+{
+    table::fill_table(work, q, heights, bounds, radices, draws, xs, ys, colours);
+    let mut parts = [0u8; 4096];
+    let mut counts = [0u8; 64];
+    budgets::list_splits(radices, q.budgets as usize, &mut parts, &mut counts);
+    let mut labels = [0u32; 48];
+    let m = heights.len();
+    finish(
+        &parts,
+        &counts,
+        q,
+        heights,
+        bounds,
+        radices,
+        draws,
+        xs,
+        ys,
+        colours,
+        order,
+        &mut labels[..m],
+        work,
+        out,
+    )
+}
+
+// What the layout maker does with an accepted one-sided sheet of these sizes, its areas long enough.
+pub fn lay_one_sided(
+    sheet: &[u32],
+    slots: usize,
+    colours: u32,
+    sites: usize,
+    budgets: u32,
+    work: &mut [u32],
+    out: &mut [u32],
+) -> u8
+    requires { ⌜ takesSheet (now sheet) (now work) (now out) ⌝ }
+    requires { ⌜ sheetIn (now sheet) .isTwoSided ≡ false ⌝ }
+    requires { ⌜ (slots ≡ length (sheetIn (now sheet) .slots)) × (colours ≡ length (sheetIn (now sheet) .colours)) × (sites ≡ length (sheetIn (now sheet) .sites)) × (budgets ≡ productOf (sheetIn (now sheet) .colours)) ⌝ }
+    ensures { λ r. ⌜ r ≡ makeFault (now (sheet .entry)) (now (work .entry)) (now (out .entry)) ⌝ }
+    ensures { λ _. ⌜ now (work .exit) ≡ makeWork (now (sheet .entry)) (now (work .entry)) (now (out .entry)) ⌝ }
+    ensures { λ _. ⌜ now (out .exit) ≡ makeAnswer (now (sheet .entry)) (now (work .entry)) (now (out .entry)) ⌝ }
+{
+    let q = measures_of(sheet, colours, budgets);
+    let heights = heights_of(sheet);
+    let bounds = bounds_of(sheet);
+    let kinds = colours as usize;
+    let radices = radices_of(&bounds[..kinds]);
+    let draws = draws_of(&bounds[..kinds]);
+    let ranks = xs_of(sheet);
+    let ys = ys_of(sheet);
+    let codes = colours_of(sheet);
+    let order = order_of(&ranks[..sites]);
+    let ranked_xs = gathered_of(&ranks[..sites], &order[..sites]);
+    let ranked_ys = gathered_of(&ys[..sites], &order[..sites]);
+    let ranked_colours = gathered_of(&codes[..sites], &order[..sites]);
+    lay_ranked(
+        q,
+        &heights[..slots],
+        &bounds[..kinds],
+        &radices[..kinds],
+        &draws[..kinds],
+        &ranked_xs[..sites],
+        &ranked_ys[..sites],
+        &ranked_colours[..sites],
+        &order[..sites],
+        work,
+        out,
+    )
 }

@@ -22,6 +22,7 @@ use Rattle.labelling.proofs.Maker.{Result, cleared}
 use Rattle.optimum.specs.Sums.{listing}
 use Rattle.optimum.specs.UsedSlots.{Instance, put, value, leftmost, choose, capAll, ties}
 use Rattle.optimum.specs.TwoSided.{radicesOf, instanceOf}
+use Rattle.optimum.specs.CostWord.{countIn, lengthIn}
 use Rattle.optimum.proofs.Halve.{halve}
 use Rattle.optimum.proofs.TwoSidedAnswer.{choose-halved, step-keeps}
 use Rattle.optimum.proofs.TwoSidedCall.{leastOf, capsOf, two-sided-call, two-sided-none}
@@ -216,6 +217,7 @@ module _ (ws k o : List ℕ) (t : takesSheet ws k o) (two : (sheetIn ws) .isTwoS
   -- what the arrays' call leaves is what the maker is to leave
   made-from : (fault : ℕ) (work out : List ℕ) →
       Laid (measuresOf (sheetIn ws)) (instanceOf (sheetIn ws)) (workFor (sheetIn ws)) k o fault work out → Result ws k o fault out work
+  unfolding countIn lengthIn
   made-from fault work out l =
       by-order none (leastOf (sheetIn ws))
       (λ h.

@@ -41,7 +41,7 @@ module _ (q : Measures) (hs bs rs ds : List ℕ) (p : Strip) (s : Point) (k : �
 -- what the decisions ask for
 pub small : (q : Measures) (hs bs rs ds : List ℕ) (s : Point) (k : ℕ) → SheetArrays q hs bs rs ds → SiteIn q s → k < 48 → Small bs (s .c) k
 small q hs bs rs ds s k a i l =
-    record { colourBound = omega (arith, a .bounded, i .colourLow); coloursFew = omega (arith, a .fewColours, i .colourLow); slotLow = l }
+    record { colourBound = omega (arith, a .bounded, i .colourLow); coloursFew = omega (arith, a .fewColours, i .colourLow); slotLow = omega arith }
 
 pub measured : (q : Measures) (hs bs rs ds : List ℕ) (s : Point) → SheetArrays q hs bs rs ds → SiteIn q s → Measured q hs (s .y)
 measured q hs bs rs ds s a i = record { narrow = a .narrow; heightLow = a .heightLow; yLow = i .yLow }

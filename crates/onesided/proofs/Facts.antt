@@ -1,0 +1,177 @@
+-- The arrays of an accepted sheet are as the table and the walk ask. Assumes nothing.
+use mathlib.Core.Path.{_≡_, refl, sym, ap, ap₂, _∙_}
+use mathlib.Core.Bool.{Bool, true, false, cond}
+use mathlib.Core.List.{List, [], _∷_, _++_}
+use Prim.Native.Nat.{ℕ, zero, suc, _+_, _-_, _*_, _≤_, _<_}
+use native.Mathlib.Omega.{arith}
+use lib.Dec.{eqb, ltb}
+use lib.ListN.{length, getD, take, drop, replicate}
+use borrow.Author.Tests.{ltb-true}
+use Rattle.lists.proofs.Tests.{by-test}
+use Rattle.sheet.specs.Sheet.{all, Site, Colour, Sheet, sheetIn, sheetFault, productOf, workFor}
+use Rattle.sheet.proofs.Accepted.{Sound, sound, lowY, colourLow}
+use Rattle.labelling.specs.Layout.{noSite}
+use Rattle.labelling.proofs.Members.{all-at, used-at, rise-at}
+use Rattle.labelling.proofs.Words.{height-low}
+use Rattle.optimum.specs.OneSided.{order}
+use Rattle.optimum.specs.Budgets.{radicesOf}
+use Rattle.optimum.proofs.Order.{Ordered, ordered}
+use Rattle.optimum.proofs.OneSidedAnswer.{work-cells}
+use Rattle.arrays.specs.declared.Measures.{Measures}
+use Rattle.arrays.specs.Arrays.{measuresOf, boundsOf, tabulate, drawsList, xsOf, ysOf, coloursOf, gathered, instanceBy, pointsBy}
+use Rattle.arrays.proofs.Instances.{ys-at, colours-at}
+use Rattle.arrays.proofs.Fields.{bounds-long}
+use Rattle.arrays.proofs.Ordered.{gathered-long, radix-pos}
+use Rattle.table.specs.Rows.{Given, levelSize}
+use Rattle.budgets.specs.Budgets.{Splits}
+use Rattle.optimum.specs.Reached.{TableOf}
+use Rattle.walk.specs.Walk.{WalkArrays}
+use Rattle.walk.proofs.Tying.{points-long}
+use Rattle.onesided.specs.Laid.{Ranked, TableFilled, wiped}
+
+gathered-get : (l os : List ℕ) (i : ℕ) → i < length os → getD (gathered l os) i 0 ≡ getD l (getD os i 0) 0
+unfolding gathered
+gathered-get l [] i h = absurd (omega arith)
+gathered-get l (o ∷ os) zero h = refl
+gathered-get l (o ∷ os) (suc i) h = gathered-get l os i (omega arith)
+
+radices-positive : (ks : List Colour) (k : ℕ) → k < length (radicesOf ks) → 0 < getD (radicesOf ks) k 0
+unfolding radicesOf
+radices-positive [] k h = absurd (omega arith)
+radices-positive (c ∷ ks) zero h = by-test (eqb (c .bound) 255) (λ e. rw e (omega arith)) (λ e. rw e (omega arith))
+radices-positive (c ∷ ks) (suc k) h = radices-positive ks k (omega arith)
+
+tabulate-long : (f : ℕ → ℕ) (k n : ℕ) → length (tabulate f k n) ≡ n
+unfolding tabulate
+tabulate-long f k zero = refl
+tabulate-long f k (suc n) = ap suc (tabulate-long f (suc k) n)
+
+pub product-some : (ks : List Colour) → 0 < productOf ks
+unfolding productOf
+product-some [] = omega arith
+product-some (k ∷ ks) = go (cond (eqb (k .bound) 255) 1 (k .bound + 1)) (productOf ks) (radix-pos (k .bound)) (product-some ks)
+  where
+    go : (a c : ℕ) → 1 ≤ a → 0 < c → 0 < a * c
+    go a c h k = let e : a ≡ suc (a - 1) = omega arith in omega (arith, ap (λ (z : ℕ). z * c) e)
+
+module _ (ws : List ℕ) (f : sheetFault ws ≡ 0) where
+  abbrev s : Sheet
+  s = sheetIn ws
+
+  o : Sound (sheetIn ws)
+  o = sound ws f
+
+  n-is : length (order s) ≡ length (s .sites)
+  n-is = ordered s o .long
+
+  order-low : (i : ℕ) → i < length (order s) → getD (order s) i 0 < length (s .sites)
+  order-low i h = ordered s o .low (getD (order s) i 0) (used-at (order s) i h) .0
+
+  ys-low : (i : ℕ) → i < length (order s) → getD (gathered (ysOf (s .sites)) (order s)) i 0 < 16384
+  ys-low i h =
+      let e = gathered-get (ysOf (s .sites)) (order s) i h ∙ ys-at (s .sites) (getD (order s) i 0) in
+      let l : (getD (s .sites) (getD (order s) i 0) noSite) .y < 16384 = ltb-true _ _ (all-at lowY noSite (s .sites) (o .ys) (getD (order s) i 0) (order-low i h)) in
+      omega arith
+
+  colours-low : (i : ℕ) → i < length (order s) → getD (gathered (coloursOf (s .sites)) (order s)) i 0 < length (s .colours)
+  colours-low i h =
+      let e = gathered-get (coloursOf (s .sites)) (order s) i h ∙ colours-at (s .sites) (getD (order s) i 0) in
+      let l : (getD (s .sites) (getD (order s) i 0) noSite) .colour < length (s .colours) = ltb-true _ _ (all-at (colourLow (length (s .colours))) noSite (s .sites) (o .coloured) (getD (order s) i 0) (order-low i h)) in
+      omega arith
+
+  given-sheet : (area : ℕ) → s .isTwoSided ≡ false → workFor s ≤ area
+      → Given (measuresOf s) (s .slots) (boundsOf (s .colours)) (radicesOf (s .colours)) (drawsList s)
+      (gathered (xsOf (s .sites)) (order s)) (gathered (ysOf (s .sites)) (order s)) (gathered (coloursOf (s .sites)) (order s)) area
+  given-sheet area one h =
+      let gx = gathered-long (xsOf (s .sites)) (order s) in
+      let gy = gathered-long (ysOf (s .sites)) (order s) in
+      let gc = gathered-long (coloursOf (s .sites)) (order s) in
+      record {
+        framed = record {
+          slotsFew = o .few-slots;
+          coloursFew = o .few-colours;
+          bounded = bounds-long (s .colours);
+          budgetsFew = o .product;
+          budgetsSome = product-some (s .colours);
+          narrow = o .narrow;
+          heightLow = λ k. height-low (s .slots) k (o .heights);
+        };
+        rising = λ j k p q. rise-at (s .slots) (o .rise) j k p q;
+        divides = radices-positive (s .colours);
+        drawn = tabulate-long _ 0 (length (s .colours));
+        sitesFew = omega (arith, gx, n-is, o .few-sites);
+        ysLong = gy ∙ sym gx;
+        csLong = gc ∙ sym gx;
+        ysLow = λ i l. ys-low i (omega (arith, gx));
+        csLow = λ i l. colours-low i (omega (arith, gx));
+        within = fits (length (s .slots) + 2) (length (s .colours) + 1) (productOf (s .colours)) (omega (arith, gx, n-is)) (work-cells s one);
+      }
+    where
+      fits : (a b p : ℕ) → length (gathered (xsOf (s .sites)) (order s)) ≡ length (s .sites) → workFor s ≡ (length (s .sites) + 1) * (a * b * a * b * 1 * p)
+          → (length (gathered (xsOf (s .sites)) (order s)) + 1) * (a * b * a * b * p) ≤ area
+      fits a b p e w =
+          let z : a * b * a * b * 1 * p ≡ a * b * a * b * p = ap (λ (y : ℕ). y * p) (omega arith) in
+          let y = ap₂ (λ (n c : ℕ). (n + 1) * c) e (sym z) in
+          omega arith
+
+  -- the same for arrays that are equal to these
+  pub given-is : (q : Measures) (hs bs rs ds xs ys cs : List ℕ) (area : ℕ) → q ≡ measuresOf s → hs ≡ s .slots → bs ≡ boundsOf (s .colours) → rs ≡ radicesOf (s .colours)
+      → ds ≡ drawsList s → xs ≡ gathered (xsOf (s .sites)) (order s) → ys ≡ gathered (ysOf (s .sites)) (order s) → cs ≡ gathered (coloursOf (s .sites)) (order s)
+      → s .isTwoSided ≡ false → workFor s ≤ area → Given q hs bs rs ds xs ys cs area
+  given-is q hs bs rs ds xs ys cs area eq eh eb er ed ex ey ec one h = rw (eq, eh, eb, er, ed, ex, ey, ec) (given-sheet area one h)
+
+  pub ranked-is : (q : Measures) (xs os out : List ℕ) → q ≡ measuresOf s → xs ≡ gathered (xsOf (s .sites)) (order s) → os ≡ order s → length (s .sites) + 1 ≤ length out
+      → Ranked q xs os out
+  ranked-is q xs os out eq ex eo h =
+      rw (eq, ex, eo)
+      (record {
+        long = sym (gathered-long (xsOf (s .sites)) (order s));
+        low = λ i l. omega (arith, order-low i l, n-is);
+        someBudget = product-some (s .colours);
+        room = omega (arith, n-is);
+      })
+
+-- what the walk asks, from what the table was given
+pub filled-is : (q : Measures) (hs bs rs ds parts counts work xs ys cs os labels out : List ℕ) (area : ℕ) → length work ≡ area → Given q hs bs rs ds xs ys cs area → Ranked q xs os out
+    → Splits rs (q .budgets) parts counts → TableOf (instanceBy q hs bs rs ds) (q .colours) (q .budgets) (pointsBy xs ys cs) work → labels ≡ replicate (length hs) 0
+    → TableFilled q hs bs rs ds parts counts work xs ys cs os labels out
+filled-is q hs bs rs ds parts counts work xs ys cs os labels out area e g r splits table none =
+    record {
+      arrays = record {
+        sheet = record {
+          fewSlots = g .framed .slotsFew;
+          fewColours = g .framed .coloursFew;
+          divides = g .divides;
+          bounded = g .framed .bounded;
+          drawn = g .drawn;
+          narrow = g .framed .narrow;
+          heightLow = g .framed .heightLow;
+        };
+        splits = splits;
+        fewSites = omega (arith, r .long, g .sitesFew);
+        xsLong = sym (r .long);
+        ysLong = g .ysLong ∙ sym (r .long);
+        coloursLong = g .csLong ∙ sym (r .long);
+        siteIn = λ i l. record { yLow = g .ysLow i (omega (arith, r .long)); colourLow = g .csLow i (omega (arith, r .long)) };
+        orderLow = r .low;
+        whole = omega (arith, g .within, ap (λ (n : ℕ). (n + 1) * levelSize q hs) (r .long));
+      };
+      rising = g .rising;
+      table = table;
+      someBudget = r .someBudget;
+      noLabel = none;
+      room = r .room;
+    }
+
+pub zeros-part : (m n : ℕ) → m ≤ n → take m (replicate {A = ℕ} n 0) ≡ replicate m 0
+zeros-part zero n h = refl
+zeros-part (suc m) zero h = absurd (omega arith)
+zeros-part (suc m) (suc n) h = ap (λ (l : List ℕ). 0 ∷ l) (zeros-part m n (omega arith))
+
+-- the words of the table are wiped alike where the rest of the area is the same
+pub wiped-same : (q : Measures) (hs bs rs ds xs ys cs old new : List ℕ) (area : ℕ) → Given q hs bs rs ds xs ys cs area
+    → drop ((length xs + 1) * levelSize q hs) new ≡ drop ((length xs + 1) * levelSize q hs) old
+    → wiped (instanceBy q hs bs rs ds) q (pointsBy xs ys cs) new ≡ wiped (instanceBy q hs bs rs ds) q (pointsBy xs ys cs) old
+wiped-same q hs bs rs ds xs ys cs old new area g e =
+    let n : length (pointsBy xs ys cs) ≡ length xs = points-long xs ys cs (length xs) refl (g .ysLong) (g .csLong) in
+    rw n (ap (λ (l : List ℕ). replicate ((length xs + 1) * levelSize q hs) 0 ++ l) e)

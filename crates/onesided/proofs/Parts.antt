@@ -1,0 +1,86 @@
+-- The front parts of the arrays that are decoded from an accepted sheet are its lists, and as long as they are said to be. Assumes nothing.
+use mathlib.Core.Path.{_≡_, refl, sym, ap, ap₂, _∙_}
+use mathlib.Core.List.{List, [], _∷_}
+use Prim.Native.Nat.{ℕ, zero, suc, _+_, _-_, _*_, _/_, _%_, _≤_, _<_}
+use native.Mathlib.Omega.{arith}
+use lib.Dec.{eqb}
+use lib.ListN.{length, getD, take, drop, length-take}
+use native.Mathlib.Nat.{mod-lt}
+use Rattle.lists.proofs.Tests.{by-test}
+use Rattle.sheet.specs.Sheet.{kindOf, bits, Colour, Sheet, bodyOf, coloursIn, sheetIn, sheetFault, productOf}
+use Rattle.sheet.proofs.Accepted.{Sound, sound}
+use Rattle.optimum.specs.OneSided.{order}
+use Rattle.optimum.specs.Budgets.{radicesOf}
+use Rattle.optimum.proofs.Order.{Ordered, ordered}
+use Rattle.arrays.specs.Arrays.{padded, boundsOf, drawsList, xsOf, ysOf, coloursOf, gathered, orderBy, radicesBy, drawsBy, productBy, collected}
+use Rattle.arrays.proofs.Whole.{front}
+use Rattle.arrays.proofs.Fields.{bounds-long, xs-long, ys-long, colours-long, bounds-are}
+use Rattle.arrays.proofs.Ordered.{order-is, order-long, gathered-long, radices-are, radices-long, draws-are, draws-long, product-are}
+
+-- an array's front part, where its length is known
+pub part : (n : ℕ) (l r : List ℕ) (k : ℕ) → r ≡ padded n l → k ≡ length l → (take k r ≡ l) × (k ≡ length (take k r))
+part n l r k e h = let f : take k r ≡ l = ap (take k) e ∙ front n l k h in (f, h ∙ sym (ap length f))
+
+collected-low : (k d q : ℕ) → 0 < q → (ws : List ℕ) (i : ℕ) → getD (collected k d q ws) i 0 < q
+unfolding collected
+collected-low k d q h [] i = h
+collected-low k d q h (w ∷ ws) i = by-test (eqb (kindOf w) k) (λ e. rw e (first (λ j. collected-low k d q h ws j) i)) (λ e. rw e (collected-low k d q h ws i))
+  where
+    first : ((j : ℕ) → getD (collected k d q ws) j 0 < q) → (i : ℕ) → getD ((w / d % q) ∷ collected k d q ws) i 0 < q
+    first r zero = mod-lt (w / d) h
+    first r (suc i) = r i
+
+module _ (ws : List ℕ) (f : sheetFault ws ≡ 0) where
+  abbrev s : Sheet
+  s = sheetIn ws
+
+  pub heights : (r : List ℕ) (k : ℕ) → r ≡ padded 48 (s .slots) → k ≡ length (s .slots) → (take k r ≡ s .slots) × (k ≡ length (take k r))
+  heights r k e h = part 48 (s .slots) r k e h
+
+  pub bounds : (r : List ℕ) (k : ℕ) → r ≡ padded 8 (boundsOf (s .colours)) → k ≡ length (s .colours) → (take k r ≡ boundsOf (s .colours)) × (k ≡ length (take k r))
+  bounds r k e h = part 8 (boundsOf (s .colours)) r k e (h ∙ sym (bounds-long (s .colours)))
+
+  pub bounds-low : (i : ℕ) → getD (boundsOf (s .colours)) i 0 < 256
+  bounds-low i = rw (← (bounds-are (bodyOf ws))) (collected-low 3 1 256 (omega arith) (bodyOf ws) i)
+
+  -- what the budget arrays ask of the bounds
+  pub bounds-fit : (l : List ℕ) → l ≡ boundsOf (s .colours) → (length l ≤ 8) × ((i : ℕ) → getD l i 0 < 256) × (productBy l ≤ 64)
+  bounds-fit l e =
+      rw e (omega (arith, bounds-long (s .colours), sound ws f .few-colours), bounds-low, omega (arith, product-are (s .colours), sound ws f .product))
+
+  pub radices : (b r : List ℕ) (k : ℕ) → take k b ≡ boundsOf (s .colours) → k ≡ length (s .colours) → r ≡ padded 8 (radicesBy (take k b))
+      → (take k r ≡ radicesOf (s .colours)) × (k ≡ length (take k r))
+  radices b r k e h g =
+      part 8 (radicesOf (s .colours)) r k (g ∙ ap (λ (l : List ℕ). padded 8 (radicesBy l)) e ∙ ap (padded 8) (radices-are (s .colours)))
+      (h ∙ sym (bounds-long (s .colours)) ∙ sym (radices-long (boundsOf (s .colours))) ∙ ap length (radices-are (s .colours)))
+
+  pub draws : (b r : List ℕ) (k : ℕ) → take k b ≡ boundsOf (s .colours) → k ≡ length (s .colours) → r ≡ padded 8 (drawsBy 1 (take k b))
+      → (take k r ≡ drawsList s) × (k ≡ length (take k r))
+  draws b r k e h g =
+      part 8 (drawsList s) r k (g ∙ ap (λ (l : List ℕ). padded 8 (drawsBy 1 l)) e ∙ ap (padded 8) (draws-are s))
+      (h ∙ sym (bounds-long (s .colours)) ∙ sym (draws-long 1 (boundsOf (s .colours))) ∙ ap length (draws-are s))
+
+  pub xs : (r : List ℕ) (k : ℕ) → r ≡ padded 32 (xsOf (s .sites)) → k ≡ length (s .sites) → (take k r ≡ xsOf (s .sites)) × (k ≡ length (take k r))
+  xs r k e h = part 32 (xsOf (s .sites)) r k e (h ∙ sym (xs-long (s .sites)))
+
+  pub ys : (r : List ℕ) (k : ℕ) → r ≡ padded 32 (ysOf (s .sites)) → k ≡ length (s .sites) → (take k r ≡ ysOf (s .sites)) × (k ≡ length (take k r))
+  ys r k e h = part 32 (ysOf (s .sites)) r k e (h ∙ sym (ys-long (s .sites)))
+
+  pub codes : (r : List ℕ) (k : ℕ) → r ≡ padded 32 (coloursOf (s .sites)) → k ≡ length (s .sites) → (take k r ≡ coloursOf (s .sites)) × (k ≡ length (take k r))
+  codes r k e h = part 32 (coloursOf (s .sites)) r k e (h ∙ sym (colours-long (s .sites)))
+
+  pub orders : (b r : List ℕ) (k : ℕ) → take k b ≡ xsOf (s .sites) → k ≡ length (s .sites) → r ≡ padded 32 (orderBy (take k b) (length (take k b)) 0)
+      → (take k r ≡ order s) × (k ≡ length (take k r))
+  orders b r k e h g =
+      part 32 (order s) r k (g ∙ ap (λ (l : List ℕ). padded 32 (orderBy l (length l) 0)) e ∙ ap (padded 32) (order-is s)) (h ∙ sym (ordered s (sound ws f) .long))
+
+  -- numbers of the sites by rank
+  pub ranked : (l b d r : List ℕ) (k : ℕ) → take k b ≡ l → take k d ≡ order s → k ≡ length (s .sites) → r ≡ padded 32 (gathered (take k b) (take k d))
+      → (take k r ≡ gathered l (order s)) × (k ≡ length (take k r))
+  ranked l b d r k e o h g =
+      part 32 (gathered l (order s)) r k (g ∙ ap₂ (λ (x y : List ℕ). padded 32 (gathered x y)) e o)
+      (h ∙ sym (ordered s (sound ws f) .long) ∙ sym (gathered-long l (order s)))
+
+-- a part that is as long as asked stands in its array
+pub stands : (k : ℕ) (r : List ℕ) → k ≡ length (take k r) → k ≤ length r
+stands k r h = omega (arith, h, length-take k r)
