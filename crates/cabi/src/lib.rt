@@ -2,6 +2,7 @@
 ghost use mathlib.Core.Path.{_≡_};
 ghost use Rattle.reader.specs.Read.{readPost};
 ghost use Rattle.judge.specs.Judge.{judgePost};
+ghost use Rattle.labelling.specs.Entry.{makeFault, makeAnswer, makeWork};
 use judge::Verdict;
 use reader::Sizes;
 
@@ -17,4 +18,13 @@ pub extern "C" fn backbone_judge(stored: &[u32]) -> Verdict
     ensures { λ r. ⌜ r ≡ judgePost (now (stored .entry)) ⌝ }
 {
     judge::judge_layout(stored)
+}
+
+#[no_mangle]
+pub extern "C" fn backbone_make(sheet: &[u32], work: &mut [u32], out: &mut [u32]) -> u32
+    ensures { λ r. ⌜ r ≡ makeFault (now (sheet .entry)) (now (work .entry)) (now (out .entry)) ⌝ }
+    ensures { λ _. ⌜ now (work .exit) ≡ makeWork (now (sheet .entry)) (now (work .entry)) (now (out .entry)) ⌝ }
+    ensures { λ _. ⌜ now (out .exit) ≡ makeAnswer (now (sheet .entry)) (now (work .entry)) (now (out .entry)) ⌝ }
+{
+    maker::make_layout(sheet, work, out) as u32
 }

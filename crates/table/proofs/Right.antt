@@ -172,7 +172,7 @@ module _ (q : Measures) (hs bs rs ds xs ys cs : List ℕ) (area : ℕ) (g : Give
   done-all first old new size e l o d = (
     whole-right new (λ j l. rw e at (d .levels j (omega arith) l)),
     ext-getD 0 _ _ (length-drop _ new ∙ ap (λ (n : ℕ). n - (length xs + 1) * levelSize q hs) (d .long ∙ l) ∙ sym (length-drop _ first))
-    (λ i h. at-drop new _ i ∙ past i ∙ sym (at-drop first _ i)),
+        (λ i h. at-drop new _ i ∙ past i ∙ sym (at-drop first _ i)),
   )
     where
       past : (i : ℕ) → getD new ((length xs + 1) * levelSize q hs + i) 0 ≡ getD first ((length xs + 1) * levelSize q hs + i) 0

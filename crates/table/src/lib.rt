@@ -22,7 +22,18 @@ fn rows_of(q: Measures, m: usize) -> usize
 }
 
 // Fills a level, where the site s comes next, from the level below it.
-fn fill_level(work: &mut [u32], q: Measures, heights: &[u32], bounds: &[u32], parts: &[u8], counts: &[u8], left: &[u8], s: Site, base: usize, low: usize)
+fn fill_level(
+    work: &mut [u32],
+    q: Measures,
+    heights: &[u32],
+    bounds: &[u32],
+    parts: &[u8],
+    counts: &[u8],
+    left: &[u8],
+    s: Site,
+    base: usize,
+    low: usize,
+)
     requires { ⌜ Ready q (now heights) (now bounds) (now parts) (now counts) (now left) (length (now work)) base low (pointOf s) ⌝ }
     ensures { λ _. ⌜ Filled q (now (heights .entry)) (now (bounds .entry)) (now (parts .entry)) (now (counts .entry)) (now (left .entry)) (now (work .entry)) (now (work .exit)) base low (pointOf s) (rowsOf (length (now (heights .entry))) (q .colours)) ⌝ }
 {
@@ -51,7 +62,21 @@ fn zero_level(work: &mut [u32], base: usize, size: usize)
 }
 
 // Fills level j, where the site of rank j comes next, from level j + 1.
-fn fill_site(work: &mut [u32], q: Measures, heights: &[u32], bounds: &[u32], radices: &[u32], draws: &[u32], parts: &[u8], counts: &[u8], xs: &[u32], ys: &[u32], cs: &[u32], size: usize, j: usize)
+fn fill_site(
+    work: &mut [u32],
+    q: Measures,
+    heights: &[u32],
+    bounds: &[u32],
+    radices: &[u32],
+    draws: &[u32],
+    parts: &[u8],
+    counts: &[u8],
+    xs: &[u32],
+    ys: &[u32],
+    cs: &[u32],
+    size: usize,
+    j: usize,
+)
     requires { ⌜ Given q (now heights) (now bounds) (now radices) (now draws) (now xs) (now ys) (now cs) (length (now work)) ⌝ }
     requires { ⌜ Splits (now radices) (q .budgets) (now parts) (now counts) ⌝ }
     requires { ⌜ (j < length (now xs)) × (size ≡ levelSize q (now heights)) ⌝ }
@@ -59,15 +84,40 @@ fn fill_site(work: &mut [u32], q: Measures, heights: &[u32], bounds: &[u32], rad
     ensures { λ _. ⌜ (LevelRight (instanceBy q (now (heights .entry)) (now (bounds .entry)) (now (radices .entry)) (now (draws .entry))) q (now (heights .entry)) (drop (j + 1) (pointsBy (now (xs .entry)) (now (ys .entry)) (now (cs .entry)))) (now (work .entry)) ((j + 1) * size) → LevelRight (instanceBy q (now (heights .entry)) (now (bounds .entry)) (now (radices .entry)) (now (draws .entry))) q (now (heights .entry)) (drop j (pointsBy (now (xs .entry)) (now (ys .entry)) (now (cs .entry)))) (now (work .exit)) (j * size)) ⌝ }
 {
     let c = cs[j];
-    let s = Site { x: xs[j], y: ys[j], c: c };
+    let s = Site {
+        x: xs[j],
+        y: ys[j],
+        c: c,
+    };
     let draw = words::get(draws, c);
     let mut left = [0u8; 64];
     budgets::list_left(radices, draw, q.budgets as usize, &mut left);
-    fill_level(work, q, heights, bounds, parts, counts, &left, s, j * size, (j + 1) * size);
+    fill_level(
+        work,
+        q,
+        heights,
+        bounds,
+        parts,
+        counts,
+        &left,
+        s,
+        j * size,
+        (j + 1) * size,
+    );
 }
 
 // Fills the table of the sites by rising rank, whatever the work words held.
-pub fn fill_table(work: &mut [u32], q: Measures, heights: &[u32], bounds: &[u32], radices: &[u32], draws: &[u32], xs: &[u32], ys: &[u32], cs: &[u32])
+pub fn fill_table(
+    work: &mut [u32],
+    q: Measures,
+    heights: &[u32],
+    bounds: &[u32],
+    radices: &[u32],
+    draws: &[u32],
+    xs: &[u32],
+    ys: &[u32],
+    cs: &[u32],
+)
     requires { ⌜ Given q (now heights) (now bounds) (now radices) (now draws) (now xs) (now ys) (now cs) (length (now work)) ⌝ }
     ensures { λ _. ⌜ TableOf (instanceBy q (now (heights .entry)) (now (bounds .entry)) (now (radices .entry)) (now (draws .entry))) (q .colours) (q .budgets) (pointsBy (now (xs .entry)) (now (ys .entry)) (now (cs .entry))) (now (work .exit)) ⌝ }
     ensures { λ _. ⌜ drop ((length (now (xs .entry)) + 1) * levelSize q (now (heights .entry))) (now (work .exit)) ≡ drop ((length (now (xs .entry)) + 1) * levelSize q (now (heights .entry))) (now (work .entry)) ⌝ }
@@ -80,6 +130,20 @@ pub fn fill_table(work: &mut [u32], q: Measures, heights: &[u32], bounds: &[u32]
     zero_level(work, j * size, size);
     while 0 < j {
         j -= 1;
-        fill_site(work, q, heights, bounds, radices, draws, &parts, &counts, xs, ys, cs, size, j);
+        fill_site(
+            work,
+            q,
+            heights,
+            bounds,
+            radices,
+            draws,
+            &parts,
+            &counts,
+            xs,
+            ys,
+            cs,
+            size,
+            j,
+        );
     }
 }

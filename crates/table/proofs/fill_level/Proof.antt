@@ -69,12 +69,17 @@ fill-row-requires : tie.Need-fill-row-requires Inv-loop μ-loop
 fill-row-requires c κs =
     let a = c .before .before .before .before .before .before .before .before .before .before .before .before .args in
     let g = c .before .before .before .before .before .before .before .before .before .before .before .before .pre in
-    let l : c .before .before .before .loop .r < rowsOf (length (a .heights .now)) (a .q .colours) = omega (arith, c .before .before .loop-test .taken, c .before .before .before .before .rows-of .ensures) in
-    (record {
-      framed = g .framed; listed = g .listed; leftLong = g .leftLong; stands = g .stands;
-      apart = omega (arith, row-room _ _ (a .q .budgets) l, g .apart);
-      within = omega (arith, g .within, c .before .before .before .loop .inv .1);
-    }, subst⁻¹ (Lies _ _) (c .before .strip-at .ensures) (strip-lies _ _ _ l))
+    let l : c .before .before .before .loop .r < rowsOf (length (a .heights .now)) (a .q .colours) = omega (arith, c .before .before .loop-test .taken, c .before .before .before .before .rows-of .ensures) in (
+      record {
+        framed = g .framed;
+        listed = g .listed;
+        leftLong = g .leftLong;
+        stands = g .stands;
+        apart = omega (arith, row-room _ _ (a .q .budgets) l, g .apart);
+        within = omega (arith, g .within, c .before .before .before .loop .inv .1);
+      },
+      subst⁻¹ (Lies _ _) (c .before .strip-at .ensures) (strip-lies _ _ _ l),
+    )
 
 -- src/lib.rt:33:9
 add-r : tie.Need-add-r Inv-loop μ-loop
@@ -90,9 +95,11 @@ loop-again c =
     let a = c .before .before .before .before .before .before .before .before .before .before .before .before .before .before .before .args in
     let g = c .before .before .before .before .before .before .before .before .before .before .before .before .before .before .before .pre in
     let l : c .before .before .before .before .before .before .loop .r < rowsOf (length (a .heights .now)) (a .q .colours) = omega (arith, c .before .before .before .before .before .loop-test .taken, c .before .before .before .before .before .before .before .rows-of .ensures) in
-    let f = c .before .before .fill-row .ensures in
-    (omega arith, c .before .before .fill-row .kept .0 ∙ c .before .before .before .before .before .before .loop .inv .1,
-    filled-more _ _ _ _ _ _ _ _ _ _ _ _ _ (omega (arith, row-room _ _ (a .q .budgets) l, g .apart)) (c .before .before .before .before .before .before .loop .inv .2) (f .0) (rw (← (c .before .before .before .before .strip-at .ensures)) (f .1)))
+    let f = c .before .before .fill-row .ensures in (
+      omega arith,
+      c .before .before .fill-row .kept .0 ∙ c .before .before .before .before .before .before .loop .inv .1,
+      filled-more _ _ _ _ _ _ _ _ _ _ _ _ _ (omega (arith, row-room _ _ (a .q .budgets) l, g .apart)) (c .before .before .before .before .before .before .loop .inv .2) (f .0) (rw (← (c .before .before .before .before .strip-at .ensures)) (f .1)),
+    )
 
 -- src/lib.rt:22:1
 same-length : tie.Need-same-length Inv-loop μ-loop

@@ -92,7 +92,9 @@ fill-level-requires c κs =
     let p = c .before .before .before .before .before .before .before .before .before .before .before .before .before .before .before .before .before .before .before .before .pre in
     let r = level-room (a .j) _ (a .size) _ _ (p .1 .1 .1) (p .1 .1 .0) (p .0 .within) in
     record {
-      framed = p .0 .framed; listed = p .1 .0 .within; leftLong = omega (arith, p .0 .framed .budgetsFew, c .before .before .before .list-left .kept);
+      framed = p .0 .framed;
+      listed = p .1 .0 .within;
+      leftLong = omega (arith, p .0 .framed .budgetsFew, c .before .before .before .list-left .kept);
       stands = record { colourLow = p .0 .csLow (a .j) (p .1 .1 .0); yLow = p .0 .ysLow (a .j) (p .1 .1 .0) };
       apart = omega (arith, next-level (a .j) (a .size), p .1 .1 .1);
       within = omega (arith, r .1, p .1 .1 .1);
@@ -107,9 +109,10 @@ returns : tie.Need-returns
 returns c =
     let a = c .before .before .before .before .before .before .before .before .before .before .before .before .before .before .before .before .before .before .before .before .before .before .before .args in
     let p = c .before .before .before .before .before .before .before .before .before .before .before .before .before .before .before .before .before .before .before .before .before .before .before .pre in
-    let f = c .before .before .fill-level .ensures in
-    (others-of _ _ _ _ _ (p .1 .1 .1) (f .others),
-    λ h. site-right _ _ _ _ _ _ _ _ _ (p .0) _ _ _ _ _ (a .j) _ _ (p .1 .0) (p .1 .1 .0) (rw (← (c .before .before .before .before .before .before .before .before .before .get .ensures)) (c .before .before .before .before .before .before .list-left .ensures)) f h)
+    let f = c .before .before .fill-level .ensures in (
+      others-of _ _ _ _ _ (p .1 .1 .1) (f .others),
+      λ h. site-right _ _ _ _ _ _ _ _ _ (p .0) _ _ _ _ _ (a .j) _ _ (p .1 .0) (p .1 .1 .0) (rw (← (c .before .before .before .before .before .before .before .before .before .get .ensures)) (c .before .before .before .before .before .before .list-left .ensures)) f h,
+    )
 
 pub fill-site-spec : {M : Type 1} → statement M
 fill-site-spec =

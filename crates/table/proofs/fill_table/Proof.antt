@@ -94,11 +94,21 @@ fill-site-requires : tie.Need-fill-site-requires Inv-loop μ-loop
 fill-site-requires c κs =
     let a = c .before .before .before .before .before .before .before .before .before .before .before .before .before .before .before .before .before .before .before .before .before .before .before .before .before .args in
     let p = c .before .before .before .before .before .before .before .before .before .before .before .before .before .before .before .before .before .before .before .before .before .before .before .before .before .pre in
-    let l = c .before .before .before .before .loop in
-    (record {
-      framed = p .framed; rising = p .rising; divides = p .divides; drawn = p .drawn; sitesFew = p .sitesFew; ysLong = p .ysLong; csLong = p .csLong;
-      ysLow = p .ysLow; csLow = p .csLow; within = omega (arith, p .within, l .inv .2, c .before .before .before .before .before .before .before .zero-level .kept);
-    }, (c .before .before .before .before .before .before .before .before .before .before .before .before .before .list-splits .ensures, (omega (arith, c .before .before .before .loop-test, l .inv .1), l .inv .0)))
+    let l = c .before .before .before .before .loop in (
+      record {
+        framed = p .framed;
+        rising = p .rising;
+        divides = p .divides;
+        drawn = p .drawn;
+        sitesFew = p .sitesFew;
+        ysLong = p .ysLong;
+        csLong = p .csLong;
+        ysLow = p .ysLow;
+        csLow = p .csLow;
+        within = omega (arith, p .within, l .inv .2, c .before .before .before .before .before .before .before .zero-level .kept);
+      },
+      (c .before .before .before .before .before .before .before .before .before .before .before .before .before .list-splits .ensures, (omega (arith, c .before .before .before .loop-test, l .inv .1), l .inv .0)),
+    )
 
 -- src/lib.rt:81:5
 loop-less : tie.Need-loop-less Inv-loop μ-loop
@@ -109,9 +119,12 @@ loop-again : tie.Need-loop-again Inv-loop μ-loop
 loop-again c =
     let p = c .before .before .before .before .before .before .before .before .before .before .before .before .before .before .before .before .before .before .before .before .before .before .before .before .before .before .before .before .pre in
     let l = c .before .before .before .before .before .before .before .loop in
-    let f = c .before .before .fill-site .ensures in
-    (l .inv .0, omega (arith, l .inv .1), c .before .before .fill-site .kept .0 ∙ l .inv .2,
-    λ area g. done-more _ _ _ _ _ _ _ _ area g _ _ _ _ (l .j) _ (l .inv .0) (omega (arith, c .before .before .before .before .before .before .loop-test)) (l .inv .1) (c .before .before .fill-site .kept .0) (f .0) (f .1) (l .inv .3 area g))
+    let f = c .before .before .fill-site .ensures in (
+      l .inv .0,
+      omega (arith, l .inv .1),
+      c .before .before .fill-site .kept .0 ∙ l .inv .2,
+      λ area g. done-more _ _ _ _ _ _ _ _ area g _ _ _ _ (l .j) _ (l .inv .0) (omega (arith, c .before .before .before .before .before .before .loop-test)) (l .inv .1) (c .before .before .fill-site .kept .0) (f .0) (f .1) (l .inv .3 area g),
+    )
 
 -- src/lib.rt:70:1
 same-length : tie.Need-same-length Inv-loop μ-loop
