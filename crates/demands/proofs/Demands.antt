@@ -65,9 +65,10 @@ demand-one = (
   read-so,
   served,
   λ ws k o r k' o' m l p q l' p' u a f wk no wl np.
-      let c = areas-kept .0 ws k o l p (a, f, wk, no) (a, f, wl, np) in
-      (m .0 ∙ c .0 ∙ sym (u .0),
-      λ z. ap (take (wordsFor (sheetIn ws))) (m .2) ∙ c .1 (sym (m .0) ∙ z) ∙ sym (ap (take (wordsFor (sheetIn ws))) (u .2))),
+      let c = areas-kept .0 ws k o l p (a, f, wk, no) (a, f, wl, np) in (
+        m .0 ∙ c .0 ∙ sym (u .0),
+        λ z. ap (take (wordsFor (sheetIn ws))) (m .2) ∙ c .1 (sym (m .0) ∙ z) ∙ sym (ap (take (wordsFor (sheetIn ws))) (u .2)),
+      ),
 )
 
 -- ---- demand 2
@@ -76,19 +77,24 @@ pub demand-two : DemandTwo
 demand-two ws r e =
     let j = judged-so .1 ws in
     let f : r .refusal ≡ judgeFault ws = ap (λ (v : Verdict). v .refusal) e in
-    let g : r .rule ≡ cond (eqb (judgeFault ws) 0) (judged ws) 0 = ap (λ (v : Verdict). v .rule) e in
-    (λ n l u. rw f (j .1 n l u), rw f (j .2), rw f (j .3), λ z.
-    let h : judgeFault ws ≡ 0 = sym f ∙ z in
-    let i : r .rule ≡ judged ws = g ∙ ap (λ (b : Bool). cond b (judged ws) 0) (eq-eqb (judgeFault ws) 0 h) in
-    rw i (j .5 h))
+    let g : r .rule ≡ cond (eqb (judgeFault ws) 0) (judged ws) 0 = ap (λ (v : Verdict). v .rule) e in (
+      λ n l u. rw f (j .1 n l u),
+      rw f (j .2),
+      rw f (j .3),
+      λ z.
+          let h : judgeFault ws ≡ 0 = sym f ∙ z in
+          let i : r .rule ≡ judged ws = g ∙ ap (λ (b : Bool). cond b (judged ws) 0) (eq-eqb (judgeFault ws) 0 h) in
+          rw i (j .5 h),
+    )
 
 -- ---- demand 3
 
 pub demand-three : DemandThree
 demand-three ws k o r k' o' m a f w n =
-    let b = best-of-all ws k o (a, f, w, n) in
-    ((λ e. b .0 (sym (m .0) ∙ e), λ h. m .0 ∙ b .1 h),
-    λ h.
-    let t = b .2 (ne-eqb (makeFault ws k o) 10 (λ (e : makeFault ws k o ≡ 10). h (m .0 ∙ e))) in
-    let s : take (wordsFor (sheetIn ws)) o' ≡ take (wordsFor (sheetIn ws)) (makeAnswer ws k o) = ap (take (wordsFor (sheetIn ws))) (m .2) in
-    (m .0 ∙ t .0, rw s (t .1), rw s (t .2)))
+    let b = best-of-all ws k o (a, f, w, n) in (
+      (λ e. b .0 (sym (m .0) ∙ e), λ h. m .0 ∙ b .1 h),
+      λ h.
+          let t = b .2 (ne-eqb (makeFault ws k o) 10 (λ (e : makeFault ws k o ≡ 10). h (m .0 ∙ e))) in
+          let s : take (wordsFor (sheetIn ws)) o' ≡ take (wordsFor (sheetIn ws)) (makeAnswer ws k o) = ap (take (wordsFor (sheetIn ws))) (m .2) in
+          (m .0 ∙ t .0, rw s (t .1), rw s (t .2)),
+    )
