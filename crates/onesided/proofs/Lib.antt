@@ -1,2 +1,1 @@
 mod Finished
-mod Called
