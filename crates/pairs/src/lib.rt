@@ -90,9 +90,10 @@ fn misses_pass(h: Head, t: TiedSite, u: TiedSite) -> bool
 fn clears_pass(h: Head, t: TiedSite, u: TiedSite) -> bool
     ensures { λ r. ⌜ r ≡ clearsPass h t u ⌝ }
 {
+    let own = t.slot == u.slot;
     let counted = start_of(h, u) <= t.x;
     let clear = h.gap <= apart_of(u.height, t.y);
-    either(either(same(t.slot, u.slot), is_not(counted)), clear)
+    either(either(own, is_not(counted)), clear)
 }
 
 // Whether u does not come before t on the same slot.

@@ -29,11 +29,11 @@ pub record Measured (q : Measures) (heights : List ℕ) (y : ℕ) : Type 0 where
   pub heightLow : (k : ℕ) → getD heights k 0 < 16384
   pub yLow : y < 16384
 
--- a site's colour is one of the sheet's, which are at most 8; a slot is below 48
+-- a site's colour is one of the sheet's, which are at most 8; a slot, or an edge, has a small number
 pub record Small (bounds : List ℕ) (colour slot : ℕ) : Type 0 where
   pub colourBound : colour < length bounds
   pub coloursFew : colour < 8
-  pub slotLow : slot < 48
+  pub slotLow : slot < 64
 
 -- of what `opens` asks: both ends of the strip are far enough from slot k; and that which does not turn on the slot
 unfoldable pub gapLeft : Instance → Strip → Point → ℕ → Bool

@@ -131,7 +131,7 @@ pub fn site_opens(q: Measures, heights: &[u32], bounds: &[u32], p: Strip, s: Sit
 
 // Slot k stands between the strip's ends.
 fn is_between(heights: &[u32], p: Strip, k: u32) -> bool
-    requires { ⌜ k < 48 ⌝ }
+    requires { ⌜ k < 64 ⌝ }
     ensures { λ r. ⌜ r ≡ ltb (p .a) (k + 1) && ltb (k + 1) (p .b) && ltb k (length (now (heights .entry))) ⌝ }
 {
     let low = (k as usize) < heights.len();
@@ -151,7 +151,7 @@ pub fn opens(q: Measures, heights: &[u32], bounds: &[u32], p: Strip, s: Site, k:
 }
 
 // It may join the label above, at slot k; the label below.
-fn joins_up(q: Measures, heights: &[u32], bounds: &[u32], p: Strip, s: Site, k: u32) -> bool
+pub fn joins_up(q: Measures, heights: &[u32], bounds: &[u32], p: Strip, s: Site, k: u32) -> bool
     requires { ⌜ Small (now bounds) (s .c) k ⌝ }
     ensures { λ r. ⌜ r ≡ model.joinsUp (instanceOn q (now (heights .entry)) (now (bounds .entry))) (stripOf p) (pointOf s) k ⌝ }
 {
@@ -159,7 +159,7 @@ fn joins_up(q: Measures, heights: &[u32], bounds: &[u32], p: Strip, s: Site, k: 
     both(own, is_clear(q, heights, bounds, p.b, s.y))
 }
 
-fn joins_down(q: Measures, heights: &[u32], bounds: &[u32], p: Strip, s: Site, k: u32) -> bool
+pub fn joins_down(q: Measures, heights: &[u32], bounds: &[u32], p: Strip, s: Site, k: u32) -> bool
     requires { ⌜ Small (now bounds) (s .c) k ⌝ }
     ensures { λ r. ⌜ r ≡ model.joinsDown (instanceOn q (now (heights .entry)) (now (bounds .entry))) (stripOf p) (pointOf s) k ⌝ }
 {

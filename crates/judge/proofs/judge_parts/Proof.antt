@@ -1,3 +1,5 @@
+use Rattle.labelling.specs.Layout.{brokenBy}
+use Rattle.judge.specs.declared.Verdict.{Verdict}
 use mathlib.Core.Bool.{true, false}
 use lib.Dec.{eqb}
 use borrow.Author.Tests.{not-true, not-false}
@@ -22,6 +24,10 @@ use Rattle.judge.proofs.broken_by.Reads as broken-by-reads
 use Rattle.judge.proofs.is_layout.Reads as is-layout-reads
 use Rattle.reader.proofs.sheet_fault.Reads as sheet-fault-reads
 use Rattle.rules.proofs.head_of.Reads as head-of-reads
+
+-- no refusal
+unrefused : ℕ → Verdict
+unrefused k = record { refusal = 0; rule = k }
 
 -- src/lib.rt:153:9
 sheet-fault-requires : tie.Need-sheet-fault-requires
@@ -67,11 +73,12 @@ broken-by-requires c κs =
 
 -- src/lib.rt:150:1
 returns-3 : tie.Need-returns-3
+unfolding unrefused
 returns-3 c =
     let a = c .before .before .before .before .before .before .before .before .args in
     let f : sheetFault (a .sheet .now) ≡ 0 = omega (arith, c .before .before .before .before .before .sheet-fault .ensures, c .before .before .before .before .if1 .left) in
     let l : isLayout (sheetIn (a .sheet .now)) (a .layout .now) ≡ true = sym (c .before .before .before .is-layout .ensures) ∙ not-false _ (c .before .before .if2 .left) in
-    rw (eq-eqb (sheetFault (a .sheet .now)) 0 f, l, c .broken-by .ensures) refl
+    rw (eq-eqb (sheetFault (a .sheet .now)) 0 f, l) (ap unrefused (c .broken-by .ensures))
 
 pub judge-parts-spec : {M : Type 1} → statement M
 judge-parts-spec =

@@ -15,35 +15,31 @@ use Rattle.drops.proofs.apart_of.Reads as apart-of-reads
 use Rattle.pairs.proofs.start_of.Reads as start-of-reads
 use Rattle.words.proofs.either.Reads as either-reads
 use Rattle.words.proofs.is_not.Reads as is-not-reads
-use Rattle.words.proofs.same.Reads as same-reads
 
--- src/lib.rt:90:19
+-- src/lib.rt:94:19
 start-of-requires : tie.Need-start-of-requires
 start-of-requires c κs = search needs
 
--- src/lib.rt:91:26
+-- src/lib.rt:95:26
 apart-of-requires : tie.Need-apart-of-requires
 apart-of-requires c κs = search needs
 
--- src/lib.rt:92:19
-same-requires : tie.Need-same-requires
-same-requires c κs = search needs
-
--- src/lib.rt:92:41
+-- src/lib.rt:96:24
 is-not-requires : tie.Need-is-not-requires
 is-not-requires c κs = search needs
 
--- src/lib.rt:92:12
+-- src/lib.rt:96:12
 either-requires : tie.Need-either-requires
 either-requires c κs = search needs
 
--- src/lib.rt:92:5
+-- src/lib.rt:96:5
 either-requires-2 : tie.Need-either-requires-2
 either-requires-2 c κs = search needs
 
--- src/lib.rt:87:1
+-- src/lib.rt:90:1
 returns : tie.Need-returns
-returns c = cc
+returns c =
+    rw (c .either2 .ensures, c .before .either .ensures, c .before .before .is-not .ensures, c .before .before .before .before .apart-of .ensures, c .before .before .before .before .before .before .start-of .ensures) refl
 
 pub clears-pass-spec : {M : Type 1} → statement M
 clears-pass-spec =
@@ -51,7 +47,6 @@ clears-pass-spec =
     (tie.spec
     start-of-requires
     apart-of-requires
-    same-requires
     is-not-requires
     either-requires
     either-requires-2

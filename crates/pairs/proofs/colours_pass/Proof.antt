@@ -29,7 +29,8 @@ either-requires c κs = search needs
 
 -- src/lib.rt:48:1
 returns : tie.Need-returns
-returns c = cc
+returns c =
+    rw (c .either .ensures, c .before .is-not .ensures, c .before .before .same .ensures) refl
 
 pub colours-pass-spec : {M : Type 1} → statement M
 colours-pass-spec = tie.close (tie.spec same-requires is-not-requires either-requires returns)

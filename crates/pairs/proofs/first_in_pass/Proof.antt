@@ -29,7 +29,8 @@ both-requires c κs = search needs
 
 -- src/lib.rt:104:1
 returns : tie.Need-returns
-returns c = cc
+returns c =
+    rw (c .both .ensures, c .before .either .ensures, c .before .before .first-pass .ensures) refl
 
 pub first-in-pass-spec : {M : Type 1} → statement M
 first-in-pass-spec = tie.close (tie.spec first-pass-requires either-requires both-requires returns)

@@ -29,7 +29,8 @@ is-not-requires c κs = search needs
 
 -- src/lib.rt:96:1
 returns : tie.Need-returns
-returns c = cc
+returns c =
+    rw (c .is-not .ensures, c .before .both .ensures, c .before .before .same .ensures) refl
 
 pub first-pass-spec : {M : Type 1} → statement M
 first-pass-spec = tie.close (tie.spec same-requires both-requires is-not-requires returns)

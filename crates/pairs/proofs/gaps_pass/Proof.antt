@@ -29,7 +29,8 @@ either-requires c κs = search needs
 
 -- src/lib.rt:56:1
 returns : tie.Need-returns
-returns c = cc
+returns c =
+    rw (c .either .ensures, c .before .same .ensures, c .before .before .before .apart-of .ensures) refl
 
 pub gaps-pass-spec : {M : Type 1} → statement M
 gaps-pass-spec = tie.close (tie.spec apart-of-requires same-requires either-requires returns)

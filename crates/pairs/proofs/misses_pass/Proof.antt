@@ -44,7 +44,8 @@ either-requires c κs = search needs
 
 -- src/lib.rt:78:1
 returns : tie.Need-returns
-returns c = cc
+returns c =
+    rw (c .either .ensures, c .before .is-not .ensures, c .before .before .same .ensures, c .before .before .before .both .ensures, c .before .before .before .before .vertical-has .ensures, c .before .before .before .before .before .before .start-of .ensures) refl
 
 pub misses-pass-spec : {M : Type 1} → statement M
 misses-pass-spec =

@@ -28,7 +28,8 @@ over-requires c κs = search needs
 
 -- src/lib.rt:81:1
 returns : tie.Need-returns
-returns c = cc
+returns c =
+    rw (c .over .ensures, c .before .choose2 .ensures, c .before .before .choose .ensures) refl
 
 pub vertical-has-spec : {M : Type 1} → statement M
 vertical-has-spec = tie.close (tie.spec choose-requires choose-requires-2 over-requires returns)
