@@ -1,3 +1,4 @@
 pub mod Instances
 pub mod Fields
 pub mod Ordered
+pub mod Whole

@@ -20,6 +20,7 @@ use words::kind_of;
 use words::same;
 
 // refusal: 1 to 7 or 11, 0 for none. rule: the least broken one, 0 for none and beside a refusal.
+#[repr(C)]
 pub struct Verdict {
     pub refusal: u8,
     pub rule: u8,

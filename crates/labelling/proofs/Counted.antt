@@ -103,7 +103,7 @@ colour-taken s js long c k =
     (λ h. let (i, l, p, e) = taken-at (ofColour s c) js k (length (s .sites)) h in slots-at c k (s .sites) js i long l e (eqb-true ((siteAt s i) .colour) c p))
 
 -- SUMS over the used slots, by the numbers from a on, so many
-unfoldable sumOver : (share : ℕ → ℕ) → List ℕ → ℕ
+unfoldable pub sumOver : (share : ℕ → ℕ) → List ℕ → ℕ
 sumOver f [] = 0
 sumOver f (k ∷ ks) = f k + sumOver f ks
 
@@ -116,12 +116,12 @@ unfolding usedFrom sumOver sumWhere
 over-used f a zero js = refl
 over-used f a (suc n) js = by-test (isUsed a js) (λ e. rw e (omega (arith, over-used f (suc a) n js))) λ e. rw e (omega (arith, over-used f (suc a) n js))
 
-length-over : (ks : List ℕ) → length ks ≡ sumOver (λ k. 1) ks
+pub length-over : (ks : List ℕ) → length ks ≡ sumOver (λ k. 1) ks
 unfolding sumOver
 length-over [] = refl
 length-over (k ∷ ks) = omega (arith, length-over ks)
 
-backbones-over : (s : Sheet) (js ks : List ℕ) → backbones s js ks ≡ sumOver (λ k. s .width - leftEnd s js k) ks
+pub backbones-over : (s : Sheet) (js ks : List ℕ) → backbones s js ks ≡ sumOver (λ k. s .width - leftEnd s js k) ks
 unfolding backbones sumOver
 backbones-over s js [] = refl
 backbones-over s js (k ∷ ks) = ap (λ (z : ℕ). s .width - leftEnd s js k + z) (backbones-over s js ks)

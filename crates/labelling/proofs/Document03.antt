@@ -1,6 +1,6 @@
--- Document 03's text where specs/ has another, and that the two are one: rule 1 there tests each site against the later ones, rule 3
--- neighbours among the used slots; the order goes by x, here by rank; a site's share is written out. Equal on every accepted sheet:
--- the least broken rule, the length, which of two is better, the answer and every call. Assumes nothing.
+-- Document 03's text where the definitions have another, and that the two are one: rule 1 there tests each site against the later
+-- ones, rule 3 neighbours among the used slots; the order goes by x, here by rank; a site's share is written out. Equal: refusals and
+-- calls on every list, and on every accepted sheet the least broken rule, which of two is better and the answer. Assumes nothing.
 use mathlib.Core.Path.{_≡_, refl, sym, _∙_, ap, ap₂, subst, fun-ext}
 use mathlib.Core.Logic.{_⊎_, inl, inr}
 use mathlib.Core.Bool.{Bool, true, false, _&&_, _||_, not, false≢true, cond}
@@ -11,8 +11,8 @@ use native.Mathlib.Omega.{arith}
 use lib.Dec.{ltb, leb, eqb}
 use lib.ListN.{length, getD, drop, replicate, length-append}
 use borrow.Author.Tests.{ltb-true, ltb-false, leb-true, eqb-true, eqb-false, lt-ltb, le-leb, eq-eqb, ne-eqb}
-use Rattle.sheet.specs.Sheet.{all, Sheet, rising, rankOf, sheetIn, sheetFault, workFor}
-use Rattle.labelling.specs.Layout.{tiesIn, Tied, tieAt, tied, apart, heightOf, isUsed, usedOf, leftEnd, colourKept, coloursOf, coloursKept, boundsKept, gapKept, gapsOf, gapsKept, verticalHas, missesAll, clearsAll, countOf, backbones, siteShare, drops, lengthOf, brokenIn, layoutWords, statedCount, statedLength, isLayout, brokenBy, nextRank, slotAt, byRank, comesFirst, isBetter, betterOf, bestOver, bestFrom, best, answer, answerBy, sheetPart, layoutPart, judgeFault, judged, layoutBody, layoutTies}
+use Rattle.sheet.specs.Sheet.{all, inOrder, Site, Sheet, sheetIn, productOf, rising, rankOf, hasRank, ranksDiffer, isHead, countsFit, insideBy, sheetFault, workFor}
+use Rattle.labelling.specs.Layout.{tiesIn, Tied, tieAt, tied, apart, heightOf, isUsed, usedOf, leftEnd, colourKept, coloursOf, coloursKept, boundsKept, gapKept, gapsOf, gapsKept, verticalHas, missesAll, clearsAll, countOf, backbones, siteShare, drops, lengthOf, brokenIn, layoutWords, statedCount, statedLength, isLayout, isLawful, brokenBy, nextRank, slotAt, byRank, comesFirst, isBetter, betterOf, bestOver, bestFrom, best, answer, answerBy, sheetPart, layoutPart, judgeFault, judged, layoutBody, layoutTies}
 use Rattle.labelling.specs.Entry.{isNone, makeFault, makeAnswer, makeWork}
 use Rattle.lists.proofs.Tests.{eqb-self, same-test, by-test, by-equal, and-l, and-r, and-i, or-e, tests}
 use Rattle.labelling.proofs.Members.{each, every, rise-at, all-used, used-head, used-tail, used-from, from-used, used-at, at-used, head-rise, tail-rise, used-rise}
@@ -23,6 +23,24 @@ use Rattle.labelling.proofs.Judge.{judged-so}
 use Rattle.sheet.proofs.Accepted.{Sound, sound}
 
 -- ---- document 03's text (`pick` is mathlib's `cond`); a name with 03 stands for the name without
+
+-- refusal 6: two sites with equal x
+unfoldable pub hasX : ℕ → List Site → Bool
+hasX x [] = false
+hasX x (s ∷ ss) = eqb (s .x) x || hasX x ss
+
+unfoldable pub xsDiffer : List Site → Bool
+xsDiffer [] = true
+xsDiffer (s ∷ ss) = not (hasX (s .x) ss) && xsDiffer ss
+
+abbrev pub sheetFault03 : (words : List ℕ) → ℕ
+sheetFault03 ws =
+    cond (not (isHead ws)) 1
+    (cond (not (inOrder 0 (drop 1 ws))) 2
+    (cond (not (countsFit (sheetIn ws))) 3
+    (cond (not (rising (sheetIn ws .slots))) 4
+    (cond (not (all (insideBy (sheetIn ws .width)) (sheetIn ws .sites))) 5
+    (cond (not (xsDiffer (sheetIn ws .sites))) 6 (cond (ltb 64 (productOf (sheetIn ws .colours))) 7 0))))))
 
 -- 1: sites that share a slot share a colour
 unfoldable pub colourAgrees : Tied → List Tied → Bool
@@ -75,6 +93,9 @@ abbrev pub brokenBy03 : Sheet → (words : List ℕ) → ℕ
 brokenBy03 s ws =
     cond (not (eqb (brokenIn03 s (tiesIn (drop 1 ws))) 0)) (brokenIn03 s (tiesIn (drop 1 ws)))
     (cond (eqb (statedCount ws) (countOf s (tiesIn (drop 1 ws))) && eqb (statedLength ws) (lengthOf03 s (tiesIn (drop 1 ws)))) 0 6)
+
+abbrev pub isLawful03 : Sheet → (words : List ℕ) → Bool
+isLawful03 s ws = isLayout s ws && eqb (brokenBy03 s ws) 0
 
 -- WHICH COMES FIRST: by the aim, then the other number, then by sites of rising x the lower slot number
 unfoldable pub nextX : (after best : ℕ) → List Tied → ℕ
@@ -132,13 +153,18 @@ answerBy03 s (some js) = answerOf03 s js
 abbrev pub answer03 : Sheet → List ℕ
 answer03 s = answerBy03 s (best03 s)
 
+abbrev pub judgeFault03 : (words : List ℕ) → ℕ
+judgeFault03 ws =
+    cond (not (eqb (sheetFault03 (sheetPart ws)) 0)) (sheetFault03 (sheetPart ws))
+    (cond (isLayout (sheetIn (sheetPart ws)) (layoutPart ws)) 0 11)
+
 abbrev pub judged03 : (words : List ℕ) → ℕ
 judged03 ws = brokenBy03 (sheetIn (sheetPart ws)) (layoutPart ws)
 
 -- what the maker's call answers and leaves
 abbrev pub makeFault03 : (sheet work out : List ℕ) → ℕ
 makeFault03 ws k o =
-    cond (not (eqb (sheetFault ws) 0)) (sheetFault ws)
+    cond (not (eqb (sheetFault03 ws) 0)) (sheetFault03 ws)
     (cond (ltb (length k) (workFor (sheetIn ws))) 8
     (cond (ltb (length o) (length (sheetIn ws .sites) + 1)) 9 (cond (isNone (best03 (sheetIn ws))) 10 0)))
 
@@ -149,6 +175,28 @@ makeAnswer03 ws k o =
 abbrev pub makeWork03 : (sheet work out : List ℕ) → List ℕ
 makeWork03 ws k o =
     cond (eqb (makeFault03 ws k o) 0 || eqb (makeFault03 ws k o) 10) (replicate (workFor (sheetIn ws)) 0 ++ drop (workFor (sheetIn ws)) k) k
+
+-- ---- refusal 6, for every list
+
+has-agrees : (x : ℕ) (ss : List Site) → hasRank x ss ≡ hasX x ss
+unfolding hasRank hasX rankOf
+has-agrees x [] = refl
+has-agrees x (s ∷ ss) = ap (λ (b : Bool). eqb (s .x) x || b) (has-agrees x ss)
+
+differ-agrees : (ss : List Site) → ranksDiffer ss ≡ xsDiffer ss
+unfolding ranksDiffer xsDiffer rankOf
+differ-agrees [] = refl
+differ-agrees (s ∷ ss) = ap₂ (λ (p q : Bool). not p && q) (has-agrees (s .x) ss) (differ-agrees ss)
+
+pub sheet-agrees : (ws : List ℕ) → sheetFault ws ≡ sheetFault03 ws
+sheet-agrees ws =
+    ap (λ (b : Bool). cond (not (isHead ws)) 1
+    (cond (not (inOrder 0 (drop 1 ws))) 2
+    (cond (not (countsFit (sheetIn ws))) 3
+    (cond (not (rising (sheetIn ws .slots))) 4
+    (cond (not (all (insideBy (sheetIn ws .width)) (sheetIn ws .sites))) 5
+    (cond (not b) 6 (cond (ltb 64 (productOf (sheetIn ws .colours))) 7 0)))))))
+    (differ-agrees (sheetIn ws .sites))
 
 -- ---- rule 1, for every list of tied sites
 
@@ -297,7 +345,7 @@ unfolding slotAt slotAt03 rankOf
 slot-agrees x [] = refl
 slot-agrees x (t ∷ ts) = ap (λ (n : ℕ). cond (eqb (t .site .x) x) (t .slot) n) (slot-agrees x ts)
 
-order-agrees : (n a : ℕ) (ts : List Tied) → byRank n a ts ≡ byX n a ts
+pub order-agrees : (n a : ℕ) (ts : List Tied) → byRank n a ts ≡ byX n a ts
 unfolding byRank byX
 order-agrees zero a ts = refl
 order-agrees (suc n) a ts = rw (next-agrees a 16384 ts, slot-agrees (nextX a 16384 ts) ts, order-agrees n (nextX a 16384 ts + 1) ts)
@@ -353,13 +401,23 @@ verdict-agrees s o b h =
     ap₂ (λ (v l : ℕ). cond (not (eqb v 0)) v (cond (eqb (statedCount b) (countOf s js) && eqb (statedLength b) l) 0 6))
     (broken-agrees s o js (formed-long s b f) (ties-low s (layoutBody b) (f .ties))) (length-agrees s js)
 
+pub lawful-agrees : (s : Sheet) → Sound s → (b : List ℕ) → isLawful s b ≡ isLawful03 s b
+lawful-agrees s o b =
+    by-test (isLayout s b) (λ e. ap (λ (v : ℕ). isLayout s b && eqb v 0) (verdict-agrees s o b e)) λ e. neither (isLayout s b) _ _ e
+  where
+    neither : (p q r : Bool) → p ≡ false → (p && q) ≡ (p && r)
+    neither p q r e = rw e
+
 pub fault-agrees : (ws k o : List ℕ) → makeFault ws k o ≡ makeFault03 ws k o
 fault-agrees ws k o =
-    by-equal (sheetFault ws) 0
-    (λ e. ap (λ (r : Option (List ℕ)). cond (not (eqb (sheetFault ws) 0)) (sheetFault ws) (cond (ltb (length k) (workFor (sheetIn ws))) 8
-    (cond (ltb (length o) (length (sheetIn ws .sites) + 1)) 9 (cond (isNone r) 10 0)))) (best-agrees (sheetIn ws) (sound ws e)))
-    λ e. early (sheetFault ws) _ _ e
+    ap (λ (f : ℕ). cond (not (eqb f 0)) f (late (best (sheetIn ws)))) (sheet-agrees ws) ∙
+    by-equal (sheetFault03 ws) 0
+    (λ e. ap (λ (r : Option (List ℕ)). cond (not (eqb (sheetFault03 ws) 0)) (sheetFault03 ws) (late r)) (best-agrees (sheetIn ws) (sound ws (sheet-agrees ws ∙ e))))
+    λ e. early (sheetFault03 ws) _ _ e
   where
+    late : Option (List ℕ) → ℕ
+    late r = cond (ltb (length k) (workFor (sheetIn ws))) 8 (cond (ltb (length o) (length (sheetIn ws .sites) + 1)) 9 (cond (isNone r) 10 0))
+
     early : (f a b : ℕ) → (f ≡ 0 → ⊥) → cond (not (eqb f 0)) f a ≡ cond (not (eqb f 0)) f b
     early f a b e = rw (ne-eqb f 0 e)
 
@@ -367,7 +425,7 @@ pub answer-area-agrees : (ws k o : List ℕ) → makeAnswer ws k o ≡ makeAnswe
 answer-area-agrees ws k o =
     ap (λ (f : ℕ). cond (eqb f 0) (answer (sheetIn ws) ++ rest) o) (fault-agrees ws k o) ∙
     by-test (eqb (makeFault03 ws k o) 0)
-    (λ e. ap (λ (a : List ℕ). cond (eqb (makeFault03 ws k o) 0) (a ++ rest) o) (answer-agrees (sheetIn ws) (sound ws (accepted (sheetFault ws) _ e))))
+    (λ e. ap (λ (a : List ℕ). cond (eqb (makeFault03 ws k o) 0) (a ++ rest) o) (answer-agrees (sheetIn ws) (sound ws (sheet-agrees ws ∙ accepted (sheetFault03 ws) _ e))))
     λ e. unwritten (eqb (makeFault03 ws k o) 0) _ _ e
   where
     rest : List ℕ
@@ -382,6 +440,9 @@ answer-area-agrees ws k o =
 pub work-area-agrees : (ws k o : List ℕ) → makeWork ws k o ≡ makeWork03 ws k o
 work-area-agrees ws k o =
     ap (λ (f : ℕ). cond (eqb f 0 || eqb f 10) (replicate (workFor (sheetIn ws)) 0 ++ drop (workFor (sheetIn ws)) k) k) (fault-agrees ws k o)
+
+pub judge-agrees : (ws : List ℕ) → judgeFault ws ≡ judgeFault03 ws
+judge-agrees ws = ap (λ (f : ℕ). cond (not (eqb f 0)) f (cond (isLayout (sheetIn (sheetPart ws)) (layoutPart ws)) 0 11)) (sheet-agrees (sheetPart ws))
 
 pub judged-agrees : (ws : List ℕ) → judgeFault ws ≡ 0 → judged ws ≡ judged03 ws
 judged-agrees ws h =

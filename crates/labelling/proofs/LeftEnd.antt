@@ -16,10 +16,7 @@ use Rattle.labelling.proofs.Members.{all-at, at-used, leastX-width, lea
 use Rattle.labelling.proofs.Earlier.{xAt}
 use Rattle.sheet.proofs.Accepted.{Sound}
 
--- where a site alone would have its label begin: two-sided at 0, one-sided at its x
-pub start-two : (s : Sheet) → s .isTwoSided ≡ true → (t : Site) → startOf s t ≡ 0
-start-two s e t = ap (λ (b : Bool). cond b 0 (t .x)) e
-
+-- where a site alone would have its label begin, on a one-sided sheet: at its x
 pub start-one : (s : Sheet) → s .isTwoSided ≡ false → (t : Site) → startOf s t ≡ t .x
 start-one s e t = ap (λ (b : Bool). cond b 0 (t .x)) e
 

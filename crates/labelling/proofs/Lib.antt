@@ -12,6 +12,7 @@ pub mod Maker
 pub mod Members
 pub mod Order
 pub mod Pairs
+pub mod Promise03
 pub mod Rules
 pub mod Verdict
 pub mod Words

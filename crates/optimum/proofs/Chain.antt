@@ -1,18 +1,16 @@
--- What a choice of labels costs: the labels, and each site its cost in the strip that holds it. Assumes nothing.
-use mathlib.Core.Path.{_≡_, refl, sym, ap, ap₂, _∙_}
-use mathlib.Core.Logic.{_⊎_, inl, inr, _≢_}
-use mathlib.Core.Bool.{Bool, true, false, cond, _&&_, _||_, not}
-use mathlib.Core.List.{List, [], _∷_}
+-- What a choice of labels costs: the labels, and each site its cost in the strip that holds it.
+use mathlib.Core.Path.{_≡_, refl, sym}
+use mathlib.Core.Bool.{Bool, true, false, cond, _&&_, not}
 use Prim.Native.Nat.{ℕ, zero, suc, _+_, _*_, _-_, _≤_, _<_, min}
 use native.Mathlib.Nat.{le-refl}
 use native.Mathlib.Omega.{arith}
-use lib.Dec.{ltb, leb, eqb}
-use borrow.Author.Tests.{ltb-true, ltb-false, leb-true, leb-false, eqb-true, eqb-false, lt-ltb, le-ltb, le-leb, lt-leb, eq-eqb, ne-eqb}
-use Rattle.lists.proofs.Tests.{by-test, by-order, by-either, by-equal, clash, and-both, and-of, tests}
+use lib.Dec.{ltb, eqb}
+use borrow.Author.Tests.{leb-true, lt-ltb, le-ltb, le-leb, lt-leb, ne-eqb}
+use Rattle.lists.proofs.Tests.{by-test, by-order, and-both}
 use Rattle.search.specs.Cost.{plus, plus-le, plus-zero, plus-top, top-plus}
-use Rattle.search.specs.Walk.{Process, costOf}
-use Rattle.optimum.specs.Sums.{listing, oneIf, tally, tally-in, tally-out, sumTo, sum-le, sum-split, sum-cong}
-use Rattle.optimum.specs.UsedSlots.{Instance, at, over, under, farUp, clearDown, may, draw, siteCost, inside, strip, price, next, final, labels}
+use Rattle.search.specs.Walk.{costOf}
+use Rattle.optimum.specs.Sums.{listing, tally, tally-in, tally-out, sumTo, sum-le, sum-split, sum-cong}
+use Rattle.optimum.specs.UsedSlots.{Instance, over, under, farUp, may, draw, siteCost, inside, strip, price, next, final, labels}
 
 -- a code: none, or a colour's
 pub by-code {ℓ} : {P : Type ℓ} (d : ℕ) → (d ≡ 0 → P) → ((c : ℕ) → d ≡ suc c → P) → P
@@ -22,10 +20,10 @@ by-code (suc c) f g = g c refl
 unfoldable pub is-label : ℕ → Bool
 is-label d = not (eqb d 0)
 
-module _ (G : Instance) (fx : ℕ → ℕ) (code : ℕ → ℕ) where
-  open Instance G using (top, m, n, colours, dist, each, unit, share, budget, radices, unbounded, height, x, y, colour)
+module _ (G : Instance) (caps : ℕ → ℕ) (code : ℕ → ℕ) where
+  open Instance G using (top, m, n, colours, dist, each, height, y)
 
-  -- the labels are far enough apart, of the page's colours, and within the budget
+  -- the labels are far enough apart, of the sheet's colours, and within the budget
   unfoldable pub fits : (a ca v k c : ℕ) → Bool
   fits a ca v k zero = true
   fits a ca v k (suc c) =
@@ -34,10 +32,10 @@ module _ (G : Instance) (fx : ℕ → ℕ) (code : ℕ → ℕ) where
 
   -- what site i costs: the strip that holds it is found downwards
   unfoldable pub tie : (a ca k c i : ℕ) → ℕ
-  tie a ca k zero i = siteCost G fx a ca (suc m) 0 i
+  tie a ca k zero i = siteCost G caps a ca (suc m) 0 i
   tie a ca k (suc c) i =
       cond (eqb (code k) 0) (tie a ca (suc k) c i)
-      (cond (ltb (y i) (height k)) (siteCost G fx a ca (suc k) (code k) i) (tie (suc k) (code k) (suc k) c i))
+      (cond (ltb (y i) (height k)) (siteCost G caps a ca (suc k) (code k) i) (tie (suc k) (code k) (suc k) c i))
 
   unfoldable pub sites : (a ca k c : ℕ) → ℕ
   sites a ca k c = sumTo top (λ i. cond (over G a (y i)) (tie a ca k c i) 0) n
@@ -52,7 +50,7 @@ module _ (G : Instance) (fx : ℕ → ℕ) (code : ℕ → ℕ) where
   unfolding tie
   tie-skip a ca k c i e = rw e
 
-  pub tie-in : (a ca k c d i : ℕ) → code k ≡ suc d → y i < height k → tie a ca k (suc c) i ≡ siteCost G fx a ca (suc k) (suc d) i
+  pub tie-in : (a ca k c d i : ℕ) → code k ≡ suc d → y i < height k → tie a ca k (suc c) i ≡ siteCost G caps a ca (suc k) (suc d) i
   unfolding tie
   tie-in a ca k c d i e h = rw (e, no-zero d, lt-ltb (y i) (height k) h)
 
@@ -82,9 +80,9 @@ module _ (G : Instance) (fx : ℕ → ℕ) (code : ℕ → ℕ) where
   whole-le a ca v k c = by-test (fits a ca v k c) (λ e. rw e (plus-le top _ _)) (λ e. rw e (le-refl top))
 
   -- at the bottom edge
-  last : (a ca : ℕ) → strip G fx a ca (suc m) 0 ≡ sites a ca m 0
+  last : (a ca : ℕ) → strip G caps a ca (suc m) 0 ≡ sites a ca m 0
   unfolding strip sites tie inside under
-  last a ca = sum-cong top _ _ n (λ i l. rw (le-leb m m (le-refl m)) (and-true (over G a (y i)) (siteCost G fx a ca (suc m) 0 i)))
+  last a ca = sum-cong top _ _ n (λ i l. rw (le-leb m m (le-refl m)) (and-true (over G a (y i)) (siteCost G caps a ca (suc m) 0 i)))
     where
       and-true : (b : Bool) (z : ℕ) → cond (b && true) z 0 ≡ cond b z 0
       and-true true z = refl
@@ -93,12 +91,12 @@ module _ (G : Instance) (fx : ℕ → ℕ) (code : ℕ → ℕ) where
   -- a label at k parts the sites below a
   part-at : (a ca k c d i : ℕ) → k < m → code k ≡ suc d → farUp G a ca k (suc d) ≡ true →
       min (cond (over G a (y i)) (tie a ca k (suc c) i) 0) top ≡
-      plus top (cond (inside G fx a (suc k) i) (siteCost G fx a ca (suc k) (suc d) i) 0) (cond (over G (suc k) (y i)) (tie (suc k) (suc d) (suc k) c i) 0)
+      plus top (cond (inside G caps a (suc k) i) (siteCost G caps a ca (suc k) (suc d) i) 0) (cond (over G (suc k) (y i)) (tie (suc k) (suc d) (suc k) c i) 0)
   unfolding inside under over
   part-at a ca k c d i l e u =
       by-order (height k) (y i)
       (λ h. rw (tie-on a ca k c d i e h, lt-leb m k l, le-ltb (y i) (height k) h, le-leb (height k) (y i) h, over-yes a u h) (unfold plus in omega arith))
-      (λ h. rw (tie-in a ca k c d i e h, lt-ltb (y i) (height k) h, lt-leb m k l, lt-leb (height k) (y i) h) (unfold plus in both (over G a (y i)) (siteCost G fx a ca (suc k) (suc d) i)))
+      (λ h. rw (tie-in a ca k c d i e h, lt-ltb (y i) (height k) h, lt-leb m k l, lt-leb (height k) (y i) h) (unfold plus in both (over G a (y i)) (siteCost G caps a ca (suc k) (suc d) i)))
     where
       over-yes : (a : ℕ) → farUp G a ca k (suc d) ≡ true → height k ≤ y i → over G a (y i) ≡ true
       over-yes zero u h = unfold over in refl
@@ -109,7 +107,7 @@ module _ (G : Instance) (fx : ℕ → ℕ) (code : ℕ → ℕ) where
       both false z = omega arith
 
   parted : (a ca k c d : ℕ) → k < m → code k ≡ suc d → farUp G a ca k (suc d) ≡ true →
-      sites a ca k (suc c) ≡ plus top (strip G fx a ca (suc k) (suc d)) (sites (suc k) (suc d) (suc k) c)
+      sites a ca k (suc c) ≡ plus top (strip G caps a ca (suc k) (suc d)) (sites (suc k) (suc d) (suc k) c)
   unfolding sites strip
   parted a ca k c d l e u = sum-split top _ _ _ n (λ i q. part-at a ca k c d i l e u)
 
@@ -126,13 +124,13 @@ module _ (G : Instance) (fx : ℕ → ℕ) (code : ℕ → ℕ) where
   whole-skip a ca v k c e = rw (fits-skip a ca v k c e, same-sites a ca k c e, tally-out (λ j. is-label (code j)) k c (label-no k e))
 
   whole-label : (a ca v k c d : ℕ) → k < m → code k ≡ suc d → ltb (suc d) (suc colours) ≡ true → farUp G a ca k (suc d) ≡ true → may G (suc d) v ≡ true →
-      whole a ca v k (suc c) ≡ plus top (plus top each (strip G fx a ca (suc k) (suc d))) (whole (suc k) (suc d) (v - draw G (suc d)) (suc k) c)
+      whole a ca v k (suc c) ≡ plus top (plus top each (strip G caps a ca (suc k) (suc d))) (whole (suc k) (suc d) (v - draw G (suc d)) (suc k) c)
   unfolding whole
   whole-label a ca v k c d l e p q r =
       rw (fits-label a ca v k c d e, p, q, r, parted a ca k c d l e q, tally-in (λ j. is-label (code j)) k c (label-yes k d e))
       (by-test (fits (suc k) (suc d) (v - draw G (suc d)) (suc k) c)
-      (λ f. rw f (sym (sum4 (tally (λ j. is-label (code j)) (suc k) c) (strip G fx a ca (suc k) (suc d)) (sites (suc k) (suc d) (suc k) c))))
-      (λ f. rw f (sym (plus-top top (plus top each (strip G fx a ca (suc k) (suc d)))))))
+      (λ f. rw f (sym (sum4 (tally (λ j. is-label (code j)) (suc k) c) (strip G caps a ca (suc k) (suc d)) (sites (suc k) (suc d) (suc k) c))))
+      (λ f. rw f (sym (plus-top top (plus top each (strip G caps a ca (suc k) (suc d)))))))
 
   whole-not : (a ca v k c d : ℕ) → code k ≡ suc d → (ltb (suc d) (suc colours) && (farUp G a ca k (suc d) && may G (suc d) v)) ≡ false → whole a ca v k (suc c) ≡ top
   unfolding whole
@@ -145,28 +143,28 @@ module _ (G : Instance) (fx : ℕ → ℕ) (code : ℕ → ℕ) where
 
   -- THE EQUATION
   pub chain-cost : (c k a ca v : ℕ) → k + c ≡ m →
-      costOf (labels G fx) (a, ca, v) (listing (λ j. j) k c) (listing code k c) ≡ whole a ca v k c
+      costOf (labels G caps) (a, ca, v) (listing (λ j. j) k c) (listing code k c) ≡ whole a ca v k c
   unfolding costOf listing price next
   chain-cost zero k a ca v e = start (sub-zero′ e)
     where
       sub-zero′ : k + 0 ≡ m → k ≡ m
       sub-zero′ e = omega arith
 
-      start : k ≡ m → min (final G fx (a, ca, v)) top ≡ whole a ca v k 0
+      start : k ≡ m → min (final G caps (a, ca, v)) top ≡ whole a ca v k 0
       start q = unfold whole fits final tally plus in rw (q, last a ca) (unfold sites in omega (arith, sum-le top (λ i. cond (over G a (y i)) (tie a ca m 0 i) 0) n))
   chain-cost (suc c) k a ca v e =
       by-code (code k)
       (λ z. none z (chain-cost c (suc k) a ca v (omega arith)))
       (λ d z. some d z (chain-cost c (suc k) (suc k) (suc d) (v - draw G (suc d)) (omega arith)))
     where
-      none : code k ≡ 0 → costOf (labels G fx) (a, ca, v) (listing (λ j. j) (suc k) c) (listing code (suc k) c) ≡ whole a ca v (suc k) c →
-          costOf (labels G fx) (a, ca, v) (listing (λ j. j) k (suc c)) (listing code k (suc c)) ≡ whole a ca v k (suc c)
+      none : code k ≡ 0 → costOf (labels G caps) (a, ca, v) (listing (λ j. j) (suc k) c) (listing code (suc k) c) ≡ whole a ca v (suc k) c →
+          costOf (labels G caps) (a, ca, v) (listing (λ j. j) k (suc c)) (listing code k (suc c)) ≡ whole a ca v k (suc c)
       none z ih =
           rw (whole-skip a ca v k c z, z, lt-ltb 0 (suc colours) (omega arith), ih) (plus-zero top (whole a ca v (suc k) c) (whole-le a ca v (suc k) c))
 
       some : (d : ℕ) → code k ≡ suc d →
-          costOf (labels G fx) (suc k, suc d, v - draw G (suc d)) (listing (λ j. j) (suc k) c) (listing code (suc k) c) ≡ whole (suc k) (suc d) (v - draw G (suc d)) (suc k) c →
-          costOf (labels G fx) (a, ca, v) (listing (λ j. j) k (suc c)) (listing code k (suc c)) ≡ whole a ca v k (suc c)
+          costOf (labels G caps) (suc k, suc d, v - draw G (suc d)) (listing (λ j. j) (suc k) c) (listing code (suc k) c) ≡ whole (suc k) (suc d) (v - draw G (suc d)) (suc k) c →
+          costOf (labels G caps) (a, ca, v) (listing (λ j. j) k (suc c)) (listing code k (suc c)) ≡ whole a ca v k (suc c)
       some d z ih =
           by-test (ltb (suc d) (suc colours))
           (λ p. by-test (farUp G a ca k (suc d) && may G (suc d) v)

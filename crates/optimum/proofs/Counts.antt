@@ -1,38 +1,33 @@
--- Count, length and the labels of a colour are sums over the steps of the walk: the leftmost site of a label is the one that
--- opens it. Assumes nothing but that the sheet is accepted and one-sided.
+-- Theorem 1, the numbers: count, length and the labels of a colour are sums over the steps of the walk, since the leftmost site of a
+-- label is the one that opens it.
 use mathlib.Core.Path.{_≡_, refl, sym, ap, ap₂, _∙_, subst}
-use mathlib.Core.Bool.{Bool, true, false, cond}
+use mathlib.Core.Bool.{Bool, true, false, cond, false≢true}
 use mathlib.Core.List.{List, [], _∷_}
 use Prim.Native.Nat.{ℕ, zero, suc, _+_, _-_, _≤_, _<_}
 use native.Mathlib.Omega.{arith}
 use lib.Dec.{eqb}
 use lib.ListN.{length, getD, replicate, length-replicate}
 use borrow.Author.Tests.{eqb-true, eqb-false, eq-eqb, ne-eqb}
-use Rattle.lists.proofs.Tests.{by-test, by-equal, by-either}
-use mathlib.Core.Bool.{false≢true}
+use Rattle.lists.proofs.Tests.{by-test, by-equal, by-either, or-e, is-false}
+use Rattle.search.specs.Sums.{sum}
+use Rattle.search.proofs.Sums.{sum-cong, sum-front}
 use Rattle.sheet.specs.Sheet.{Site, Sheet}
-use Rattle.labelling.specs.Layout.{tiedOf, tied, siteShare, heightOf, isUsed, usedFrom, usedOf, leftEnd, slotsOf, countOf, backbones, drops}
-use Rattle.lists.proofs.Tests.{or-e, is-false}
-use Rattle.labelling.proofs.Members.{noSite, used-at, at-used, used-head, used-tail}
 use Rattle.sheet.proofs.Accepted.{Sound}
+use Rattle.labelling.specs.Layout.{tiedOf, tied, siteShare, heightOf, isUsed, usedFrom, usedOf, leftEnd, slotsOf, countOf, backbones, drops}
+use Rattle.labelling.proofs.Members.{noSite, used-at, at-used, used-head, used-tail}
 use Rattle.labelling.proofs.Earlier.{rankAt}
 use Rattle.labelling.proofs.LeftEnd.{left-end}
-use Rattle.labelling.proofs.Counted.{slots-at, at-slots}
+use Rattle.labelling.proofs.Counted.{slots-at, at-slots, sumOver, length-over, backbones-over}
 use Rattle.optimum.specs.Strips.{Point}
+use Rattle.optimum.specs.OneSided.{shareOf, leadOf, xOf, order, pointAt, pointsAt, instanceOf}
 use Rattle.optimum.proofs.Steps.{Steps, isFree, opened, shares}
 use Rattle.optimum.proofs.Pairs.{zeros}
-use Rattle.optimum.proofs.Sum.{sum, sum-cong, firstOf, opened-sum}
-use Rattle.optimum.proofs.Budget.{isOf}
-use Rattle.optimum.specs.OneSided.{shareOf, leadOf, xOf, order, pointAt, pointsAt, instanceOf}
-use Rattle.optimum.proofs.Order.{rank-x, Rise, ordered, gather, sumOver, sum-order}
-use Rattle.optimum.proofs.Zero.{yOf, colourOf}
+use Rattle.optimum.proofs.Opened.{firstOf, opened-sum}
+use Rattle.optimum.proofs.Pays.{isOf}
+use Rattle.optimum.proofs.Order.{rank-x, Rise, ordered, gather, sum-order}
+use Rattle.optimum.proofs.RankedPairs.{yOf, colourOf}
 
 -- ---- sums
-
-sum-front : (n : ℕ) (f : ℕ → ℕ) → sum (suc n) f ≡ f 0 + sum n (λ k. f (suc k))
-unfolding sum
-sum-front zero f = omega arith
-sum-front (suc n) f = omega (arith, sum-front n f)
 
 used-sum : (w : ℕ → ℕ) (n a : ℕ) (js : List ℕ) → sumOver w (usedFrom a n js) ≡ sum n (λ k. cond (isUsed (a + k) js) (w (a + k)) 0)
 unfolding usedFrom sumOver
@@ -50,16 +45,6 @@ used-sum w (suc n) a js =
 
 used-sum-0 : (w : ℕ → ℕ) (n : ℕ) (js : List ℕ) → sumOver w (usedFrom 0 n js) ≡ sum n (λ k. cond (isUsed k js) (w k) 0)
 used-sum-0 w n js = used-sum w n 0 js ∙ sum-cong n _ _ (λ k _. ap (λ (z : ℕ). cond (isUsed z js) (w z) 0) (omega arith))
-
-length-sum : (l : List ℕ) → length l ≡ sumOver (λ k. 1) l
-unfolding sumOver
-length-sum [] = refl
-length-sum (k ∷ l) = omega (arith, length-sum l)
-
-backbones-sum : (s : Sheet) (js l : List ℕ) → backbones s js l ≡ sumOver (λ k. s .width - leftEnd s js k) l
-unfolding backbones sumOver
-backbones-sum s js [] = refl
-backbones-sum s js (k ∷ l) = ap (λ (z : ℕ). s .width - leftEnd s js k + z) (backbones-sum s js l)
 
 drops-sum : (s : Sheet) (ss : List Site) (js : List ℕ) → length js ≡ length ss
     → drops s (tiedOf ss js) ≡ sum (length ss) (λ i. siteShare s (heightOf s (getD js i 0)) ((getD ss i noSite) .y))
@@ -160,17 +145,17 @@ module _ (s : Sheet) (o : Sound s) (one : s .isTwoSided ≡ false) (js : List �
     count-is =
         opened-all (λ t. 1)
         ∙ sum-cong (length (s .slots)) _ _ (λ k _. first-used k 1 (λ t. 1) (λ p h e f. refl))
-        ∙ sym (length-sum (usedOf s js) ∙ used-sum-0 (λ k. 1) (length (s .slots)) js)
+        ∙ sym (length-over (usedOf s js) ∙ used-sum-0 (λ k. 1) (length (s .slots)) js)
 
     pub lead-is : opened (instanceOf s) (λ t. leadOf s (t .x)) (replicate (length (s .slots)) 0) (pointsAt s (order s)) (gather js (order s)) ≡ backbones s js (usedOf s js)
     lead-is =
         opened-all (λ t. leadOf s (t .x))
         ∙ sum-cong (length (s .slots)) _ _ (λ k _. first-lead k)
-        ∙ sym (backbones-sum s js (usedOf s js) ∙ used-sum-0 (λ k. s .width - leftEnd s js k) (length (s .slots)) js)
+        ∙ sym (backbones-over s js (usedOf s js) ∙ used-sum-0 (λ k. s .width - leftEnd s js k) (length (s .slots)) js)
 
     pub colour-is : ((i j : ℕ) → i < length (s .sites) → j < length (s .sites) → getD js i 0 ≡ getD js j 0 → colourOf s i ≡ colourOf s j) → (c : ℕ)
         → opened (instanceOf s) (isOf c) (replicate (length (s .slots)) 0) (pointsAt s (order s)) (gather js (order s)) ≡ length (usedOf s (slotsOf c (tied s js)))
     colour-is agree c =
         opened-all (isOf c)
         ∙ sum-cong (length (s .slots)) _ _ (λ k _. first-colour agree c k)
-        ∙ sym (length-sum (usedOf s (slotsOf c (tied s js))) ∙ used-sum-0 (λ k. 1) (length (s .slots)) (slotsOf c (tied s js)))
+        ∙ sym (length-over (usedOf s (slotsOf c (tied s js))) ∙ used-sum-0 (λ k. 1) (length (s .slots)) (slotsOf c (tied s js)))

@@ -1,24 +1,23 @@
--- The labels fit exactly if they are far apart, of the page's colours, and as many of each colour as the budget has.
--- Assumes nothing but how one is drawn from a digit.
-use mathlib.Core.Path.{_≡_, refl, sym, ap, ap₂, _∙_, subst}
-use mathlib.Core.Logic.{_⊎_, inl, inr, _≢_}
-use mathlib.Core.Bool.{Bool, true, false, cond, _&&_, _||_, not}
-use Prim.Native.Nat.{ℕ, zero, suc, _+_, _*_, _-_, _≤_, _<_, min}
+-- Labels fit exactly if they are far enough apart, of the sheet's colours, and as many of each colour as the budget has.
+use mathlib.Core.Path.{_≡_, refl, sym, ap, _∙_, subst}
+use mathlib.Core.Logic.{_≢_}
+use mathlib.Core.Bool.{Bool, true, false, _&&_}
+use Prim.Native.Nat.{ℕ, zero, suc, _+_, _-_, _≤_, _<_}
 use native.Mathlib.Omega.{arith}
-use lib.Dec.{ltb, leb, eqb}
-use borrow.Author.Tests.{ltb-true, ltb-false, leb-true, leb-false, eqb-true, eqb-false, lt-ltb, le-ltb, le-leb, lt-leb, eq-eqb, ne-eqb}
-use Rattle.lists.proofs.Tests.{by-test, by-order, by-either, by-equal, clash, and-both, and-of, tests}
-use Rattle.search.specs.Radix.{digitOf, place}
+use lib.Dec.{ltb, eqb}
+use borrow.Author.Tests.{ltb-true, leb-true, lt-ltb, le-leb, eq-eqb, ne-eqb}
+use Rattle.lists.proofs.Tests.{by-test, by-equal, and-both, and-of}
+use Rattle.search.specs.Radix.{digitOf}
+use Rattle.search.proofs.Digits.{Drawn}
 use Rattle.optimum.specs.Sums.{tally, tally-in, tally-out}
-use Rattle.optimum.specs.UsedSlots.{Instance, over, farUp, may, draw}
+use Rattle.optimum.specs.UsedSlots.{Instance, farUp, may, draw}
 use Rattle.optimum.proofs.Chain.{by-code, fits, fits-skip, fits-label}
-use Rattle.optimum.proofs.Digits.{Drawn}
 
 pub coded : (d c : ℕ) → d ≡ suc c → d ≢ 0
 coded d c e = λ f. omega arith
 
-module _ (G : Instance) (fx : ℕ → ℕ) (code : ℕ → ℕ) (draws : (c v : ℕ) → 0 < digitOf (G .radices) c v → Drawn (G .radices) c v) where
-  open Instance G using (top, m, n, colours, dist, each, unit, share, budget, radices, unbounded, height, x, y, colour)
+module _ (G : Instance) (caps : ℕ → ℕ) (code : ℕ → ℕ) (draws : (c v : ℕ) → 0 < digitOf (G .radices) c v → Drawn (G .radices) c v) where
+  open Instance G using (m, n, colours, dist, radices, unbounded, height)
 
   ofColour : ℕ → ℕ → Bool
   ofColour c j = eqb (code j) (suc c)
@@ -77,7 +76,7 @@ module _ (G : Instance) (fx : ℕ → ℕ) (code : ℕ → ℕ) (draws : (c v : 
             (omega (arith, drawn-other d v e h r, f .within e b)));
       }
 
-  pub fits-to : (c k a ca v : ℕ) → fits G fx code a ca v k c ≡ true → Fitting a ca v k c
+  pub fits-to : (c k a ca v : ℕ) → fits G caps code a ca v k c ≡ true → Fitting a ca v k c
   fits-to zero k a ca v h =
       record {
         low = λ q l u. absurd (omega arith);
@@ -87,9 +86,9 @@ module _ (G : Instance) (fx : ℕ → ℕ) (code : ℕ → ℕ) (draws : (c v : 
       }
   fits-to (suc c) k a ca v h =
       by-code (code k)
-      (λ z. fit-skip a ca v k c z (fits-to c (suc k) a ca v (sym (fits-skip G fx code a ca v k c z) ∙ h)))
+      (λ z. fit-skip a ca v k c z (fits-to c (suc k) a ca v (sym (fits-skip G caps code a ca v k c z) ∙ h)))
       (λ d z.
-      let t = and-both (ltb (suc d) (suc colours)) ((farUp G a ca k (suc d) && may G (suc d) v) && fits G fx code (suc k) (suc d) (v - draw G (suc d)) (suc k) c) (sym (fits-label G fx code a ca v k c d z) ∙ h) in
+      let t = and-both (ltb (suc d) (suc colours)) ((farUp G a ca k (suc d) && may G (suc d) v) && fits G caps code (suc k) (suc d) (v - draw G (suc d)) (suc k) c) (sym (fits-label G caps code a ca v k c d z) ∙ h) in
       let u = and-both _ _ (t .1) in
       let w = and-both _ _ (u .0) in
       fit-label a ca v k c d z (omega (arith, ltb-true (suc d) (suc colours) (t .0))) (w .0) (w .1)
@@ -113,18 +112,18 @@ module _ (G : Instance) (fx : ℕ → ℕ) (code : ℕ → ℕ) (draws : (c v : 
     far-here (suc j) ca k l h n = subst (λ (z : ℕ). farUp G (suc j) z k (code k) ≡ true) (h .2) (apart j k (h .0) l (h .1) n)
 
     pub fits-from : (c k a ca v : ℕ) → k + c ≤ m → Anchored a ca k →
-        ((e : ℕ) → e < colours → unbounded e ≡ false → tally (λ j. eqb (code j) (suc e)) k c ≤ digitOf radices e v) → fits G fx code a ca v k c ≡ true
+        ((e : ℕ) → e < colours → unbounded e ≡ false → tally (λ j. eqb (code j) (suc e)) k c ≤ digitOf radices e v) → fits G caps code a ca v k c ≡ true
     unfolding fits
     fits-from zero k a ca v l h w = refl
     fits-from (suc c) k a ca v l h w =
         by-code (code k)
-        (λ z. fits-skip G fx code a ca v k c z ∙ fits-from c (suc k) a ca v (omega arith) (anchored-on a ca k h)
+        (λ z. fits-skip G caps code a ca v k c z ∙ fits-from c (suc k) a ca v (omega arith) (anchored-on a ca k h)
         (λ e s b. rw (tally-out (λ j. eqb (code j) (suc e)) k c (rw z (ne-eqb 0 (suc e) (omega arith)))) at (w e s b)))
         (λ d z.
         let s : d < colours = omega (arith, low k (omega arith)) in
         let r : may G (suc d) v ≡ true = by-test (unbounded d) (λ u. unfold may in rw u)
         (λ u. unfold may in rw u (lt-ltb 0 (digitOf radices d v) (omega (arith, w d s u, tally-in (λ j. eqb (code j) (suc d)) k c (eq-eqb (code k) (suc d) z))))) in
-        fits-label G fx code a ca v k c d z ∙ and-of _ _ (lt-ltb (suc d) (suc colours) (omega arith))
+        fits-label G caps code a ca v k c d z ∙ and-of _ _ (lt-ltb (suc d) (suc colours) (omega arith))
         (and-of _ _ (and-of _ _ (subst (λ (z : ℕ). farUp G a ca k z ≡ true) z (far-here a ca k (omega arith) h (coded (code k) d z))) r)
         (fits-from c (suc k) (suc k) (suc d) (v - draw G (suc d)) (omega arith) (unfold Anchored in (omega arith, coded (code k) d z, z))
         (λ e t b. by-equal e d

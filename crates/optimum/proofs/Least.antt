@@ -1,24 +1,22 @@
--- The table's value is the least cost over choices of labels and slots that suit the sites. Assumes nothing but the laws of drawing.
-use mathlib.Core.Path.{_≡_, refl, sym, ap, ap₂, _∙_, subst}
-use mathlib.Core.Logic.{_⊎_, inl, inr, _≢_}
-use mathlib.Core.Bool.{Bool, true, false, cond, _&&_, _||_, not}
+-- The two-sided table's value is the least cost over choices of labels and of slots that suit the sites.
+use mathlib.Core.Path.{_≡_, refl, sym, ap, _∙_, subst}
+use mathlib.Core.Bool.{true, false}
 use mathlib.Core.List.{List, [], _∷_}
-use Prim.Native.Nat.{ℕ, zero, suc, _+_, _*_, _-_, _≤_, _<_, min}
-use native.Mathlib.Nat.{le-refl, le-trans, le-of-eq}
+use Prim.Native.Nat.{ℕ, zero, suc, _+_, _*_, _-_, _≤_, _<_}
+use native.Mathlib.Nat.{le-trans, le-of-eq}
 use native.Mathlib.Omega.{arith}
-use lib.Dec.{ltb, leb, eqb}
+use lib.Dec.{ltb}
 use lib.ListN.{length, getD}
-use borrow.Author.Tests.{ltb-true, ltb-false, lt-ltb, le-ltb}
-use Rattle.lists.proofs.Tests.{by-test, by-order, by-either, by-equal, clash}
+use Rattle.lists.proofs.Tests.{by-test}
 use Rattle.search.specs.Cost.{plus, plus-mono, plus-below}
-use Rattle.search.specs.Radix.{digitOf, place}
-use Rattle.search.specs.Walk.{Process, best, costOf, walk, best-least, walk-cost}
-use Rattle.optimum.specs.Sums.{listing, listing-of, listing-cong, length-listing, tally, sumTo, sum-cong, sum-mono, sum-below}
+use Rattle.search.specs.Radix.{digitOf}
+use Rattle.search.specs.Walk.{best, costOf, walk, best-least, walk-cost}
+use Rattle.search.proofs.Digits.{Drawn}
+use Rattle.optimum.specs.Sums.{listing, listing-of, listing-cong, tally, sumTo, sum-cong, sum-mono, sum-below}
 use Rattle.optimum.specs.UsedSlots.{Instance, over, labels, below, T, value}
 use Rattle.optimum.proofs.Chain.{is-label, fits, tie, sites, whole, chain-cost}
-use Rattle.optimum.proofs.Digits.{Drawn}
 use Rattle.optimum.proofs.Fits.{Fitting, fits-to}
-use Rattle.optimum.proofs.Ties.{Suits, Found, tie-found, tie-lowest, behind-start}
+use Rattle.optimum.proofs.Ties.{Suits, tie-found, tie-lowest, behind-start}
 
 -- one for each number below c: a list of them
 pub collect : (P : ℕ → ℕ → Type 0) (c k : ℕ) → ((i : ℕ) → k ≤ i → i < k + c → (j : ℕ) × P i j) →
@@ -42,10 +40,10 @@ collect-all P c f = go (collect P c 0 (λ i l u. f i (omega arith)))
     go : (js : List ℕ) × ((length js ≡ c) × ((i : ℕ) → i < c → P (0 + i) (getD js i 0))) → (js : List ℕ) × ((length js ≡ c) × ((i : ℕ) → i < c → P i (getD js i 0)))
     go (js, (l, g)) = (js, (l, λ i q. subst (λ (z : ℕ). P z (getD js i 0)) (omega arith) (g i q)))
 
-module _ (G : Instance) (fx : ℕ → ℕ) (draws : (c v : ℕ) → 0 < digitOf (G .radices) c v → Drawn (G .radices) c v) (wide : 0 < G .dist) where
-  open Instance G using (top, m, n, colours, dist, each, unit, share, budget, radices, unbounded, height, x, y, colour)
+module _ (G : Instance) (caps : ℕ → ℕ) (draws : (c v : ℕ) → 0 < digitOf (G .radices) c v → Drawn (G .radices) c v) (wide : 0 < G .dist) where
+  open Instance G using (top, m, n, colours, dist, each, unit, share, budget, radices, height, y)
 
-  value-is : value G fx ≡ best (labels G fx) (0, 0, budget) (listing (λ j. j) 0 m)
+  value-is : value G caps ≡ best (labels G caps) (0, 0, budget) (listing (λ j. j) 0 m)
   unfolding value T below
   value-is = let e : m - 0 ≡ m = omega arith in rw e
 
@@ -53,29 +51,29 @@ module _ (G : Instance) (fx : ℕ → ℕ) (draws : (c v : ℕ) → 0 < digitOf 
   abbrev pub comes : (ℕ → ℕ) → List ℕ → ℕ
   comes code js = plus top (tally (λ j. is-label (code j)) 0 m * each) (sumTo top (λ i. share (height (getD js i 0)) (y i) * unit) n)
 
-  whole-is : (code : ℕ → ℕ) → fits G fx code 0 0 budget 0 m ≡ true →
-      whole G fx code 0 0 budget 0 m ≡ plus top (tally (λ j. is-label (code j)) 0 m * each) (sumTo top (tie G fx code 0 0 0 m) n)
+  whole-is : (code : ℕ → ℕ) → fits G caps code 0 0 budget 0 m ≡ true →
+      whole G caps code 0 0 budget 0 m ≡ plus top (tally (λ j. is-label (code j)) 0 m * each) (sumTo top (tie G caps code 0 0 0 m) n)
   unfolding whole sites over
   whole-is code h = rw h (ap (plus top (tally (λ j. is-label (code j)) 0 m * each)) (sum-cong top _ _ n (λ i l. refl)))
 
-  pub value-low : (code : ℕ → ℕ) (js : List ℕ) → fits G fx code 0 0 budget 0 m ≡ true →
-      ((i : ℕ) → i < n → Suits G fx code draws wide i (getD js i 0)) → value G fx ≤ comes code js
+  pub value-low : (code : ℕ → ℕ) (js : List ℕ) → fits G caps code 0 0 budget 0 m ≡ true →
+      ((i : ℕ) → i < n → Suits G caps code draws wide i (getD js i 0)) → value G caps ≤ comes code js
   value-low code js h s =
-      let a : value G fx ≤ whole G fx code 0 0 budget 0 m =
-      rw (value-is, ← (chain-cost G fx code m 0 0 0 budget (omega arith))) (best-least (labels G fx) (listing (λ j. j) 0 m) (0, 0, budget) (listing code 0 m)) in
+      let a : value G caps ≤ whole G caps code 0 0 budget 0 m =
+      rw (value-is, ← (chain-cost G caps code m 0 0 0 budget (omega arith))) (best-least (labels G caps) (listing (λ j. j) 0 m) (0, 0, budget) (listing code 0 m)) in
       le-trans a (le-trans (le-of-eq (whole-is code h))
-      (plus-mono top _ _ _ (sum-mono top (tie G fx code 0 0 0 m) _ n
-      (λ i l. tie-lowest G fx code draws wide m 0 0 0 budget i (getD js i 0) (omega arith) (behind-start G fx code draws wide) (unfold over in refl) h (s i l)))))
+      (plus-mono top _ _ _ (sum-mono top (tie G caps code 0 0 0 m) _ n
+      (λ i l. tie-lowest G caps code draws wide m 0 0 0 budget i (getD js i 0) (omega arith) (behind-start G caps code draws wide) (unfold over in refl) h (s i l)))))
 
-  pub record Hit : Type 0 where
+  pub record Attained : Type 0 where
     pub code : ℕ → ℕ
     pub js : List ℕ
     pub long : length js ≡ n
-    pub fit : Fitting G fx code draws 0 0 budget 0 m
-    pub suits : (i : ℕ) → i < n → Suits G fx code draws wide i (getD js i 0)
-    pub cost : comes code js ≡ value G fx
+    pub fit : Fitting G caps code draws 0 0 budget 0 m
+    pub suits : (i : ℕ) → i < n → Suits G caps code draws wide i (getD js i 0)
+    pub cost : comes code js ≡ value G caps
 
-  lengths : (c k : ℕ) (s : ℕ × ℕ × ℕ) (us : List ℕ) → costOf (labels G fx) s (listing (λ j. j) k c) us < top → length us ≡ c
+  lengths : (c k : ℕ) (s : ℕ × ℕ × ℕ) (us : List ℕ) → costOf (labels G caps) s (listing (λ j. j) k c) us < top → length us ≡ c
   unfolding costOf listing
   lengths zero k s [] h = refl
   lengths zero k s (u ∷ us) h = absurd (omega arith)
@@ -86,42 +84,42 @@ module _ (G : Instance) (fx : ℕ → ℕ) (draws : (c v : ℕ) → 0 < digitOf 
       (λ e. absurd (let z : top < top = rw e at h in omega arith))
 
   abbrev Tied : (code : ℕ → ℕ) (i j : ℕ) → Type 0
-  Tied code i j = Suits G fx code draws wide i j × (share (height j) (y i) * unit ≡ tie G fx code 0 0 0 m i)
+  Tied code i j = Suits G caps code draws wide i j × (share (height j) (y i) * unit ≡ tie G caps code 0 0 0 m i)
 
-  hit-by : (code : ℕ → ℕ) → fits G fx code 0 0 budget 0 m ≡ true → whole G fx code 0 0 budget 0 m ≡ value G fx →
-      (js : List ℕ) × ((length js ≡ n) × ((i : ℕ) → i < n → Tied code i (getD js i 0))) → Hit
-  hit-by code f w (js, (l, g)) =
+  attained-by : (code : ℕ → ℕ) → fits G caps code 0 0 budget 0 m ≡ true → whole G caps code 0 0 budget 0 m ≡ value G caps →
+      (js : List ℕ) × ((length js ≡ n) × ((i : ℕ) → i < n → Tied code i (getD js i 0))) → Attained
+  attained-by code f w (js, (l, g)) =
       record {
         code = code;
         js = js;
         long = l;
-        fit = fits-to G fx code draws m 0 0 0 budget f;
+        fit = fits-to G caps code draws m 0 0 0 budget f;
         suits = λ i q. g i q .0;
         cost = ap (plus top (tally (λ j. is-label (code j)) 0 m * each)) (sum-cong top _ _ n (λ i q. g i q .1)) ∙ sym (whole-is code f) ∙ w;
       }
 
-  hit-at : (code : ℕ → ℕ) → value G fx < top → whole G fx code 0 0 budget 0 m ≡ value G fx → Hit
-  hit-at code h w =
-      by-test (fits G fx code 0 0 budget 0 m)
+  attained-at : (code : ℕ → ℕ) → value G caps < top → whole G caps code 0 0 budget 0 m ≡ value G caps → Attained
+  attained-at code h w =
+      by-test (fits G caps code 0 0 budget 0 m)
       (λ f.
-      let q : plus top (tally (λ j. is-label (code j)) 0 m * each) (sumTo top (tie G fx code 0 0 0 m) n) ≡ value G fx = sym (whole-is code f) ∙ w in
-      let b : sumTo top (tie G fx code 0 0 0 m) n < top = plus-below top (tally (λ j. is-label (code j)) 0 m * each) _ (rw q h) .1 in
-      hit-by code f w (collect-all (Tied code) n (λ i l.
-      let t = tie-found G fx code draws wide m 0 0 0 budget i (omega arith) (behind-start G fx code draws wide) (unfold over in refl) f (sum-below top (tie G fx code 0 0 0 m) n b i (omega arith)) in
+      let q : plus top (tally (λ j. is-label (code j)) 0 m * each) (sumTo top (tie G caps code 0 0 0 m) n) ≡ value G caps = sym (whole-is code f) ∙ w in
+      let b : sumTo top (tie G caps code 0 0 0 m) n < top = plus-below top (tally (λ j. is-label (code j)) 0 m * each) _ (rw q h) .1 in
+      attained-by code f w (collect-all (Tied code) n (λ i l.
+      let t = tie-found G caps code draws wide m 0 0 0 budget i (omega arith) (behind-start G caps code draws wide) (unfold over in refl) f (sum-below top (tie G caps code 0 0 0 m) n b i (omega arith)) in
       (t .0, (t .1, t .2)))))
-      (λ f. absurd (let q : top ≡ value G fx = sym (unwhole code f) ∙ w in omega arith))
+      (λ f. absurd (let q : top ≡ value G caps = sym (unwhole code f) ∙ w in omega arith))
     where
-      unwhole : (code : ℕ → ℕ) → fits G fx code 0 0 budget 0 m ≡ false → whole G fx code 0 0 budget 0 m ≡ top
+      unwhole : (code : ℕ → ℕ) → fits G caps code 0 0 budget 0 m ≡ false → whole G caps code 0 0 budget 0 m ≡ top
       unwhole code f = unfold whole in rw f
 
-  pub value-hit : value G fx < top → Hit
-  value-hit h =
-      let us = walk (labels G fx) (0, 0, budget) (listing (λ j. j) 0 m) in
-      let w : costOf (labels G fx) (0, 0, budget) (listing (λ j. j) 0 m) us ≡ value G fx = walk-cost (labels G fx) (listing (λ j. j) 0 m) (0, 0, budget) ∙ sym value-is in
+  pub value-attained : value G caps < top → Attained
+  value-attained h =
+      let us = walk (labels G caps) (0, 0, budget) (listing (λ j. j) 0 m) in
+      let w : costOf (labels G caps) (0, 0, budget) (listing (λ j. j) 0 m) us ≡ value G caps = walk-cost (labels G caps) (listing (λ j. j) 0 m) (0, 0, budget) ∙ sym value-is in
       let l : length us ≡ m = lengths m 0 (0, 0, budget) us (omega arith) in
-      hit-at (λ j. getD us j 0) h
-      (sym (chain-cost G fx (λ j. getD us j 0) m 0 0 0 budget (omega arith)) ∙
-      ap (costOf (labels G fx) (0, 0, budget) (listing (λ j. j) 0 m)) (same us l) ∙ w)
+      attained-at (λ j. getD us j 0) h
+      (sym (chain-cost G caps (λ j. getD us j 0) m 0 0 0 budget (omega arith)) ∙
+      ap (costOf (labels G caps) (0, 0, budget) (listing (λ j. j) 0 m)) (same us l) ∙ w)
     where
       sub0 : (j : ℕ) → j ≡ j - 0
       sub0 j = omega arith

@@ -1,30 +1,26 @@
--- The cells hold the table, and the walk by cells is the walk by the table. Assumes nothing but that the colours of the sites
--- are below C.
-use mathlib.Core.Path.{_≡_, refl, sym, ap, ap₂, _∙_, subst, subst⁻¹}
-use mathlib.Core.Logic.{_⊎_, inl, inr, _↔_}
-use mathlib.Core.Bool.{Bool, true, false, cond, _&&_, _||_, not}
-use mathlib.Core.List.{List, [], _∷_, _++_}
-use Prim.Native.Nat.{ℕ, zero, suc, _+_, _-_, _*_, _/_, _%_, _≤_, _<_, min}
+-- The cells hold the table, and the walk by cells is the walk by the table, where the sites' colours are below C.
+use mathlib.Core.Path.{_≡_, refl, sym, ap, ap₂, _∙_, subst}
+use mathlib.Core.Logic.{_⊎_, inl, inr}
+use mathlib.Core.Bool.{true, cond, _||_}
+use mathlib.Core.List.{List, [], _∷_}
+use mathlib.Core.Option.{none, some}
+use Prim.Native.Nat.{ℕ, zero, suc, _+_, _-_, _*_, _≤_, _<_}
 use native.Mathlib.Omega.{arith}
-use lib.Dec.{eqb, leb, ltb}
-use lib.ListN.{length, getD, set, replicate, length-set, length-replicate}
-use borrow.Author.Tests.{leb-true, leb-false, ltb-true, ltb-false, le-leb, lt-leb, lt-ltb, le-ltb, eqb-true, eqb-false, eq-eqb, ne-eqb}
-use Rattle.lists.proofs.Tests.{by-test, by-order, by-equal, by-either, and-both, and-of, clash, tests}
-use mathlib.Core.Path.{fun-ext}
-use mathlib.Core.Option.{Option, none, some}
-use native.Mathlib.Nat.{mod-lt, div-lt-iff-lt-mul, le-antisymm}
+use lib.Dec.{eqb, ltb}
+use lib.ListN.{length, getD, set, replicate}
 use lib.Arith.{digits-div, digits-mod}
+use Rattle.lists.proofs.Tests.{by-test, by-order, by-equal, by-either}
 use Rattle.search.specs.Cost.{plus, least, least-cong, first-cong, top-plus}
-use Rattle.search.specs.Semi.{fold, fold-prod, prod, one-prod}
-use Rattle.search.specs.Share.{Sharing, conv, just, semiring, conv-one, conv-le-top}
+use Rattle.search.specs.Semi.{fold, fold-prod, one-prod}
+use Rattle.search.specs.Share.{conv, just, semiring}
 use Rattle.search.specs.Radix.{below, sharing}
-use Rattle.search.specs.Plan.{Laws, T, Rest, T-nil, T-in, T-out, T-le-top, Rest-one, Rest-two, Rest-cons}
+use Rattle.search.specs.Plan.{T, Rest, T-nil, T-in, T-out, Rest-one, Rest-two}
 use Rattle.search.specs.Walk.{answerBy, walkBy, chooseBy}
 use Rattle.optimum.specs.Strips.{Point, Strip, Instance, inside, marked, opens, joinsUp, joinsDown, cost, draw, children, rulesOf, stripsFrom, strips, State, next, labels, value}
-use Rattle.optimum.proofs.StripsHeld.{Rising, laws, set-other, set-same}
-use Rattle.optimum.proofs.Pairs.{zeros}
 use Rattle.optimum.specs.Reached.{In, steps, Asks}
 use Rattle.optimum.specs.Cells.{build, cells, cellOf, stripAt, shareAt, shareCells, stepCell, entryOf, level, joinCells, foldCells, startCells, valueCells}
+use Rattle.optimum.proofs.StripsHeld.{Rising, laws, set-other, set-same}
+use Rattle.optimum.proofs.Pairs.{zeros}
 
 pub build-at : (n : ℕ) (f : ℕ → ℕ) (i : ℕ) → i < n → getD (build n f) i 0 ≡ f i
 unfolding build

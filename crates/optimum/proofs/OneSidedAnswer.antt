@@ -1,67 +1,34 @@
--- WHAT THE CODE SHOWS of a one-sided sheet: with the levels filled and the walk walked, the answer, and the call as document 03
--- has it. Assumes nothing but that the sheet is accepted and one-sided.
-use mathlib.Core.Path.{_≡_, refl, sym, ap, ap₂, _∙_, subst, subst⁻¹}
-use mathlib.Core.Logic.{_⊎_, inl, inr, _↔_}
-use mathlib.Core.Bool.{Bool, true, false, cond, _&&_, _||_, not}
+-- One-sided, for the code: with the levels filled and the walk walked, the answer, and what the call gives and leaves.
+use mathlib.Core.Path.{_≡_, refl, sym, ap, ap₂, _∙_, subst}
+use mathlib.Core.Bool.{Bool, true, false, cond}
 use mathlib.Core.List.{List, [], _∷_, _++_}
-use Prim.Native.Nat.{ℕ, zero, suc, _+_, _-_, _*_, _/_, _%_, _≤_, _<_, min}
+use mathlib.Core.Option.{none, some}
+use Prim.Native.Nat.{ℕ, zero, suc, _+_, _*_, _≤_, _<_, _^_}
 use native.Mathlib.Omega.{arith}
-use lib.Dec.{eqb, leb, ltb}
-use lib.ListN.{length, getD, set, replicate, length-set, length-replicate}
-use borrow.Author.Tests.{leb-true, leb-false, ltb-true, ltb-false, le-leb, lt-leb, lt-ltb, le-ltb, eqb-true, eqb-false, eq-eqb, ne-eqb}
-use Rattle.lists.proofs.Tests.{by-test, by-order, by-equal, by-either, and-both, and-of, clash, tests}
-use mathlib.Core.Option.{Option, none, some}
-use lib.ListN.{drop}
 use native.Mathlib.Nat.{pow-suc, pow-zero}
-use Prim.Native.Nat.{_^_}
+use lib.ListN.{length, getD, replicate, drop}
+use borrow.Author.Tests.{ltb-true, lt-ltb, le-ltb, eq-eqb}
 use Rattle.search.specs.Plan.{T, Rest, Rest-one}
 use Rattle.search.specs.Walk.{answerBy, walkBy}
-use Rattle.sheet.specs.Sheet.{all, Site, Colour, Sheet, sheetIn, sheetFault, productOf, workFor}
-use Rattle.labelling.specs.Layout.{countOf, lengthOf, layoutWords, best, answer, answerBy as wordsBy, answerOf}
-use Rattle.labelling.specs.Promise.{takesSheet}
-use Rattle.lists.proofs.Tests.{is-false}
-use Rattle.labelling.specs.Layout.{isUsed}
-use Rattle.labelling.proofs.Members.{noSite, all-at, used-head, used-tail}
+use Rattle.sheet.specs.Sheet.{all, Sheet, sheetIn, productOf, workFor}
 use Rattle.sheet.proofs.Accepted.{Sound, sound, colourLow, sites-coloured}
-use Rattle.labelling.proofs.Words.{count-low, length-low}
+use Rattle.labelling.specs.Layout.{countOf, lengthOf, layoutWords, best, answer, answerBy as wordsBy, isUsed}
+use Rattle.labelling.specs.Promise.{takesSheet}
+use Rattle.labelling.proofs.Members.{noSite, all-at, used-head, used-tail}
 use Rattle.labelling.proofs.Maker.{First, best-some-iff, best-none-iff, Result, made, unmade, cleared}
-use Rattle.optimum.specs.Strips.{Point, Strip, Instance, rulesOf, stripsFrom, strips, labels, value, walked}
-use Rattle.optimum.proofs.StripsHeld.{laws, walked-first, walked-none, walked-cost}
-use Rattle.optimum.proofs.Pairs.{zeros}
-use Rattle.optimum.proofs.Budget.{product-pos}
-use Rattle.optimum.specs.OneSided.{turnOf, wordOf, topWord, instanceOf, order, pointAt, pointsAt, tiesOf, oneSided}
-use Rattle.optimum.proofs.Order.{Ordered, ordered}
-use Rattle.optimum.proofs.Instance.{good, positive, product-is}
-use Rattle.optimum.proofs.Join.{fullBudget, putBack, found-long, found-first, found-cost, one-sided-best, costs}
+use Rattle.optimum.specs.Strips.{Strip, Instance, rulesOf, stripsFrom, strips, labels, value, walked}
+use Rattle.optimum.specs.CostWord.{layoutCost}
+use Rattle.optimum.specs.OneSided.{topWord, instanceOf, order, pointsAt, tiesOf, oneSided}
 use Rattle.optimum.specs.Cells.{cells, cellOf, level, valueCells, oneSidedCells}
-use Rattle.optimum.proofs.Levels.{InRange, Level, Coloured, level-holds, value-cells, Kept, walk-cells, answer-cells}
-
--- count and length of a packed cost
-unfoldable pub countIn : Sheet → ℕ → ℕ
-countIn s w = cond (s .isShortest) (w % 64) (w / 33554432)
-
-unfoldable pub lengthIn : Sheet → ℕ → ℕ
-lengthIn s w = cond (s .isShortest) (w / 64) (w % 33554432)
-
-pub count-word : (s : Sheet) (c l : ℕ) → c < 64 → l < 33554432 → countIn s (wordOf s c l) ≡ c
-unfolding countIn wordOf
-count-word s c l h k = go (s .isShortest)
-  where
-    go : (b : Bool) → cond b (cond b (l * 64 + c) (c * 33554432 + l) % 64) (cond b (l * 64 + c) (c * 33554432 + l) / 33554432) ≡ c
-    go true = omega arith
-    go false = omega arith
-
-pub length-word : (s : Sheet) (c l : ℕ) → c < 64 → l < 33554432 → lengthIn s (wordOf s c l) ≡ l
-unfolding lengthIn wordOf
-length-word s c l h k = go (s .isShortest)
-  where
-    go : (b : Bool) → cond b (cond b (l * 64 + c) (c * 33554432 + l) / 64) (cond b (l * 64 + c) (c * 33554432 + l) % 33554432) ≡ l
-    go true = omega arith
-    go false = omega arith
-
-turn-low : (s : Sheet) (t : Point) (k : ℕ) → turnOf s t k < 1
-unfolding turnOf
-turn-low s t k = omega arith
+use Rattle.optimum.proofs.StripsHeld.{laws, walked-first, walked-cost}
+use Rattle.optimum.proofs.Pairs.{zeros}
+use Rattle.optimum.proofs.Budgets.{full-low}
+use Rattle.optimum.proofs.CostWord.{layout-count, layout-length}
+use Rattle.optimum.proofs.Order.{ordered}
+use Rattle.optimum.proofs.Instance.{good, turn-low}
+use Rattle.optimum.proofs.OneSidedBest.{fullBudget, putBack, found-long, found-first, found-cost, one-sided-best}
+use Rattle.optimum.proofs.Levels.{Coloured, level-holds, Kept, walk-cells, answer-cells}
+unfoldable pub use Rattle.optimum.specs.CostWord.{countIn, lengthIn}
 
 -- the whole sheet: the strip between the edges
 abbrev pub wholeStrip : Sheet → Strip
@@ -99,11 +66,8 @@ module _ (s : Sheet) (o : Sound s) (one : s .isTwoSided ≡ false) (low : all (c
   coloured =
       coloured-at s (length (s .colours)) (λ i h. ltb-true _ _ (all-at (colourLow (length (s .colours))) noSite (s .sites) low i h)) (order s) (λ i u. ordered s o .low i u .0)
 
-  full-low : fullBudget s < productOf (s .colours)
-  full-low = rw (product-is (s .colours)) (omega (arith, product-pos _ (positive (s .colours))))
-
   start-kept : Kept (instanceOf s) (length (s .colours)) (productOf (s .colours)) (good s o .rising) (turn-low s) (replicate (length (s .slots)) 0, fullBudget s, replicate (suc (length (s .slots))) 0)
-  start-kept = (λ j. omega (arith, zeros (length (s .slots)) j), full-low, λ j. omega (arith, zeros (suc (length (s .slots))) j))
+  start-kept = (λ j. omega (arith, zeros (length (s .slots)) j), full-low s, λ j. omega (arith, zeros (suc (length (s .slots))) j))
 
   -- THE BEST, by cells
   pub one-sided-cells : best s ≡ oneSidedCells s
@@ -117,14 +81,14 @@ module _ (s : Sheet) (o : Sound s) (one : s .isTwoSided ≡ false) (low : all (c
   unfolding firstCell
   first-cell =
       level-holds (instanceOf s) (length (s .colours)) (productOf (s .colours)) (good s o .rising) (turn-low s) (pointsAt s (order s)) coloured (wholeStrip s) (fullBudget s)
-      (record { ra = omega arith; rca = omega arith; rb = omega arith; rcb = omega arith; rd = omega arith }) full-low
+      (record { ra = omega arith; rca = omega arith; rb = omega arith; rcb = omega arith; rd = omega arith }) (full-low s)
 
   pub slots-walked : slotsWalked s ≡ walkBy (labels (instanceOf s)) (value (instanceOf s)) (replicate (length (s .slots)) 0, fullBudget s, replicate (suc (length (s .slots))) 0) (pointsAt s (order s))
   unfolding slotsWalked
   slots-walked = walk-cells (instanceOf s) (length (s .colours)) (productOf (s .colours)) (good s o .rising) (turn-low s) (pointsAt s (order s)) coloured _ start-kept
 
   -- the first cell is the value of the empty sheet
-  cell-value : firstCell s ≡ value (instanceOf s) (replicate (length (s .slots)) 0, fullBudget s, replicate (suc (length (s .slots))) 0) (pointsAt s (order s))
+  pub cell-value : firstCell s ≡ value (instanceOf s) (replicate (length (s .slots)) 0, fullBudget s, replicate (suc (length (s .slots))) 0) (pointsAt s (order s))
   unfolding firstCell value strips
   cell-value =
       first-cell
@@ -153,17 +117,17 @@ module _ (s : Sheet) (o : Sound s) (one : s .isTwoSided ≡ false) (low : all (c
   pub walk-long : firstCell s < topWord → length (slotsWalked s) ≡ length (s .sites)
   walk-long h = found-long s o one (slotsWalked s) (walked-first (instanceOf s) (good s o .rising) (fullBudget s) (pointsAt s (order s)) (slotsWalked s) (walked-some h))
 
-  cell-word : firstCell s < topWord → firstCell s ≡ wordOf s (countOf s (tiesWalked s)) (lengthOf s (tiesWalked s))
+  cell-word : firstCell s < topWord → firstCell s ≡ layoutCost s (tiesWalked s)
   cell-word h =
       let w = walked-cost (instanceOf s) (good s o .rising) (fullBudget s) (pointsAt s (order s)) (slotsWalked s) (walked-some h) in
       cell-value ∙ sym (w .0)
       ∙ found-cost s o one (slotsWalked s) (walked-first (instanceOf s) (good s o .rising) (fullBudget s) (pointsAt s (order s)) (slotsWalked s) (walked-some h))
 
   pub walk-count : firstCell s < topWord → countIn s (firstCell s) ≡ countOf s (tiesWalked s)
-  walk-count h = ap (countIn s) (cell-word h) ∙ count-word s _ _ (omega (arith, count-low s o (tiesWalked s))) (omega (arith, length-low s o (tiesWalked s)))
+  walk-count h = ap (countIn s) (cell-word h) ∙ layout-count s o (tiesWalked s)
 
   pub walk-length : firstCell s < topWord → lengthIn s (firstCell s) ≡ lengthOf s (tiesWalked s)
-  walk-length h = ap (lengthIn s) (cell-word h) ∙ length-word s _ _ (omega (arith, count-low s o (tiesWalked s))) (omega (arith, length-low s o (tiesWalked s)))
+  walk-length h = ap (lengthIn s) (cell-word h) ∙ layout-length s o (tiesWalked s)
 
   pub walk-best : firstCell s < topWord → best s ≡ some (tiesWalked s)
   walk-best h = best-some-iff s o (tiesWalked s) .1 (walk-first h)

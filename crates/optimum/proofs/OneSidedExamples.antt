@@ -1,8 +1,7 @@
--- The starred examples of document 01 by the walk: computed. Assumes nothing.
+-- The one-sided model on document 01's starred examples and on the sheets that tell a misreading, computed; and by cells on sheet A.
 use mathlib.Core.Path.{_≡_, refl}
-use mathlib.Core.List.{List, [], _∷_}
-use mathlib.Core.Option.{Option, none, some}
-use Prim.Native.Nat.{ℕ}
+use mathlib.Core.List.{[], _∷_}
+use mathlib.Core.Option.{some}
 use Rattle.search.specs.Cost.{plus, least, first}
 use Rattle.search.specs.Semi.{sum, prod}
 use Rattle.search.specs.Share.{conv, cheaper, never, just}
@@ -11,33 +10,20 @@ use Rattle.search.specs.Radix.{below, place}
 use Rattle.search.specs.Plan.{weight, T, Rest}
 use Rattle.search.specs.Walk.{chooseBy, walkBy, answerBy}
 use Rattle.sheet.specs.Sheet.{all, rankOf, sheetIn, slotsIn, coloursIn, sitesRun, sitesIn, productOf}
-use Rattle.labelling.specs.Promise.{sheetA, a, boundZero}
+use Rattle.labelling.specs.Promise.{a}
+use Rattle.labelling.specs.Layout.{siteShare, tiedOf, isUsed, usedFrom, leastX, slotsOf, boundsKept, backbones, drops, byRank, slotAt, comesFirst}
 use Rattle.optimum.specs.Strips.{marked, over, under, inside, farFrom, clearFrom, opens, joinsUp, joinsDown, cost, draw, children, stripsFrom, strips, holdFrom, hold, price, next, value, walked}
 use Rattle.optimum.specs.Cells.{build, cellOf, stripAt, shareAt, shareCells, stepCell, entryOf, level, joinCells, foldCells, startCells, valueCells, oneSidedCells}
-use Rattle.labelling.specs.Layout.{siteShare, tiedOf, isUsed, usedFrom, leastX, slotsOf, boundsKept, backbones, drops, byRank, slotAt, comesFirst}
-use Rattle.optimum.specs.Telling.{Telling}
+use Rattle.optimum.specs.Examples.{Starred, Telling}
 use Rattle.optimum.specs.OneSided.{farEnough, clearOf, shareOf, leadOf, mayOpen, tipClear, turnOf, heldOf, radicesOf, drawsOf, wordOf, nextRank, siteOf, orderFrom, order, pointsAt, scatter, oneSided}
 
-pub order-a : order (sheetIn a) ≡ 0 ∷ 2 ∷ 1 ∷ []
-unfolding least first slotsIn coloursIn sitesRun sitesIn productOf nextRank rankOf siteOf orderFrom order
-order-a = refl
+pub examples : Starred × Telling
+unfolding plus least first sum prod conv cheaper never just table rest below place weight T Rest chooseBy walkBy answerBy slotsIn coloursIn sitesRun sitesIn productOf over under inside farFrom clearFrom opens joinsUp joinsDown cost draw children stripsFrom strips holdFrom hold marked price next value walked farEnough clearOf siteShare shareOf leadOf mayOpen tipClear turnOf heldOf all radicesOf drawsOf wordOf nextRank rankOf siteOf orderFrom order pointsAt scatter oneSided tiedOf isUsed usedFrom leastX slotsOf boundsKept backbones drops byRank slotAt comesFirst Rattle.labelling.specs.Layout.nextRank
+examples = (
+  (refl, refl, refl, refl, refl, refl),
+  ((refl, refl, refl), (refl, refl), (refl, refl), (refl, refl, refl), (refl, refl, refl), refl),
+)
 
-pub walk-a : oneSided (sheetIn a) ≡ some (0 ∷ 0 ∷ 2 ∷ [])
-unfolding plus least first sum prod conv cheaper never just table rest below place weight T Rest chooseBy walkBy answerBy slotsIn coloursIn sitesRun sitesIn productOf over under inside farFrom clearFrom opens joinsUp joinsDown cost draw children stripsFrom strips holdFrom hold marked price next value walked farEnough clearOf siteShare shareOf leadOf mayOpen tipClear turnOf heldOf all radicesOf drawsOf wordOf nextRank rankOf siteOf orderFrom order pointsAt scatter oneSided
-walk-a = refl
-
-pub walk-more :
-    (oneSided (sheetIn (sheetA 335577096)) ≡ some (0 ∷ 1 ∷ 2 ∷ [])) × (oneSided (sheetIn (sheetA 268484616)) ≡ some (2 ∷ 2 ∷ 0 ∷ [])) ×
-    (oneSided (sheetIn (sheetA 268501000)) ≡ none) × (oneSided (sheetIn boundZero) ≡ none) × (oneSided (sheetIn (268468232 ∷ [])) ≡ some [])
-unfolding plus least first sum prod conv cheaper never just table rest below place weight T Rest chooseBy walkBy answerBy slotsIn coloursIn sitesRun sitesIn productOf over under inside farFrom clearFrom opens joinsUp joinsDown cost draw children stripsFrom strips holdFrom hold marked price next value walked farEnough clearOf siteShare shareOf leadOf mayOpen tipClear turnOf heldOf all radicesOf drawsOf wordOf nextRank rankOf siteOf orderFrom order pointsAt scatter oneSided
-walk-more = (refl, refl, refl, refl, refl)
-
--- and by cells
 pub cells-a : oneSidedCells (sheetIn a) ≡ some (0 ∷ 0 ∷ 2 ∷ [])
 unfolding plus least first just below place chooseBy walkBy answerBy slotsIn coloursIn sitesRun sitesIn productOf over under inside farFrom clearFrom opens joinsUp joinsDown cost draw holdFrom hold marked price next farEnough clearOf siteShare shareOf leadOf mayOpen tipClear turnOf heldOf all radicesOf drawsOf wordOf nextRank rankOf siteOf orderFrom order pointsAt scatter build cellOf stripAt shareAt shareCells stepCell entryOf level joinCells foldCells startCells valueCells oneSidedCells
 cells-a = refl
-
--- and each misreading of document 01 has a sheet on which its answer differs; so has a walk that settles the parts one by one
-pub telling : Telling
-unfolding plus least first sum prod conv cheaper never just table rest below place weight T Rest chooseBy walkBy answerBy slotsIn coloursIn sitesRun sitesIn productOf over under inside farFrom clearFrom opens joinsUp joinsDown cost draw children stripsFrom strips holdFrom hold marked price next value walked farEnough clearOf siteShare shareOf leadOf mayOpen tipClear turnOf heldOf all radicesOf drawsOf wordOf nextRank rankOf siteOf orderFrom order pointsAt scatter oneSided tiedOf isUsed usedFrom leastX slotsOf boundsKept backbones drops byRank slotAt comesFirst Rattle.labelling.specs.Layout.nextRank
-telling = ((refl, refl, refl), (refl, refl), (refl, refl), (refl, refl, refl), (refl, refl, refl), refl)

@@ -1,25 +1,25 @@
--- The order of the sites by rising x: it has each site once. Sums over it. Assumes nothing but that the sheet is accepted.
+-- The order of the sites by rising rank has each site once; sums over it.
 use mathlib.Core.Path.{_≡_, refl, sym, ap, ap₂, _∙_, subst, subst⁻¹}
-use mathlib.Core.Logic.{_⊎_, inl, inr, _↔_}
-use mathlib.Core.Bool.{Bool, true, false, cond, _&&_, _||_, not}
-use mathlib.Core.List.{List, [], _∷_, _++_}
-use Prim.Native.Nat.{ℕ, zero, suc, _+_, _-_, _*_, _/_, _%_, _≤_, _<_, min}
+use mathlib.Core.Logic.{_⊎_, inl, inr}
+use mathlib.Core.Bool.{true, false, cond, _||_, not, false≢true}
+use mathlib.Core.List.{List, [], _∷_}
+use Prim.Native.Nat.{ℕ, zero, suc, _+_, _≤_, _<_}
 use native.Mathlib.Omega.{arith}
-use lib.Dec.{eqb, leb, ltb}
-use lib.ListN.{length, getD, set, replicate, length-set, length-replicate}
-use borrow.Author.Tests.{leb-true, leb-false, ltb-true, ltb-false, le-leb, lt-leb, lt-ltb, le-ltb, eqb-true, eqb-false, eq-eqb, ne-eqb}
-use Rattle.lists.proofs.Tests.{by-test, by-order, by-equal, by-either, and-both, and-of, clash, tests}
-use mathlib.Core.Bool.{false≢true}
-use Rattle.search.specs.Cost.{least, first, least-le, least-is, first-le, first-is}
-use Rattle.sheet.specs.Sheet.{all, Site, Sheet, rankOf, rankTop, hasRank, ranksDiffer}
-use Rattle.labelling.specs.Layout.{isUsed}
-use Rattle.lists.proofs.Tests.{or-e, or-l, or-r, and-l, and-r, not-f, is-false, eqb-self}
-use Rattle.labelling.proofs.Members.{noSite, all-at, used-head, used-tail}
+use lib.Dec.{eqb, leb}
+use lib.ListN.{length, getD, set, length-set}
+use borrow.Author.Tests.{leb-true, ltb-true, le-leb, lt-leb, eqb-true, eqb-false, eq-eqb, ne-eqb}
+use Rattle.lists.proofs.Tests.{by-test, by-order, by-equal, by-either, clash, or-e, or-l, or-r, and-l, and-r, not-f, is-false, eqb-self}
+use Rattle.search.specs.Cost.{least, least-le, least-is, first-le, first-is}
+use Rattle.search.specs.Sums.{sum}
+use Rattle.search.proofs.Sums.{sum-cong, sum-add, sum-zero, sum-point, sum-pos, sum-ones}
+use Rattle.sheet.specs.Sheet.{numberTop, Site, Sheet, rankOf, rankTop, hasRank, ranksDiffer}
 use Rattle.sheet.proofs.Accepted.{Sound, lowX, lowY, rank-low}
+use Rattle.labelling.specs.Layout.{isUsed}
+use Rattle.labelling.proofs.Counted.{sumOver}
+use Rattle.labelling.proofs.Members.{noSite, all-at, used-head, used-tail}
 use Rattle.labelling.proofs.Earlier.{rankAt}
-use Rattle.optimum.proofs.StripsHeld.{set-same, set-other}
-use Rattle.optimum.proofs.Sum.{sum, sum-cong, sum-add, sum-zero, sum-point}
 use Rattle.optimum.specs.OneSided.{nextRank, siteOf, orderFrom, order, scatter}
+use Rattle.optimum.proofs.StripsHeld.{set-same, set-other}
 
 -- ---- distinct x
 
@@ -48,11 +48,8 @@ same-site s o i j hi hj e =
 -- ---- rank, x and y
 
 module _ (s : Sheet) (o : Sound s) where
-  y-low : (i : ℕ) → i < length (s .sites) → (getD (s .sites) i noSite) .y < 16384
+  y-low : (i : ℕ) → i < length (s .sites) → (getD (s .sites) i noSite) .y < numberTop
   y-low i h = ltb-true _ _ (all-at lowY noSite (s .sites) (o .ys) i h)
-
-  pub rank-of-low : (i : ℕ) → i < length (s .sites) → rankAt s i < rankTop
-  rank-of-low i h = rank-low _ (ltb-true _ _ (all-at lowX noSite (s .sites) (o .xs) i h)) (y-low i h)
 
   -- x does not fall as the rank rises
   pub rank-x : (i j : ℕ) → i < length (s .sites) → j < length (s .sites) → rankAt s i ≤ rankAt s j → (getD (s .sites) i noSite) .x ≤ (getD (s .sites) j noSite) .x
@@ -80,17 +77,6 @@ pub record Ordered (s : Sheet) (n a : ℕ) (is : List ℕ) : Type 0 where
   pub low : (i : ℕ) → isUsed i is ≡ true → (i < length (s .sites)) × (a ≤ rankAt s i)
   pub whole : (i : ℕ) → i < length (s .sites) → a ≤ rankAt s i → isUsed i is ≡ true
   pub rise : Rise s is
-
-sum-pos : (n : ℕ) (f : ℕ → ℕ) → 0 < sum n f → (k : ℕ) × (k < n) × (0 < f k)
-unfolding sum
-sum-pos zero f h = absurd (omega arith)
-sum-pos (suc n) f h =
-    by-order 1 (f n) (λ l. (n, omega arith, l)) (λ l. let (k, u, p) = sum-pos n f (omega arith) in (k, omega arith, p))
-
-ones : (n : ℕ) → sum n (λ i. 1) ≡ n
-unfolding sum
-ones zero = refl
-ones (suc n) = omega (arith, ones n)
 
 module _ (s : Sheet) (o : Sound s) where
   low-at : (i : ℕ) → i < length (s .sites) → rankAt s i < rankTop
@@ -186,7 +172,7 @@ module _ (s : Sheet) (o : Sound s) where
 
   count-all : count 0 ≡ length (s .sites)
   unfolding count
-  count-all = sum-cong (length (s .sites)) _ (λ i. 1) (λ i h. rw (le-leb 0 (rankAt s i) (omega arith))) ∙ ones (length (s .sites))
+  count-all = sum-cong (length (s .sites)) _ (λ i. 1) (λ i h. rw (le-leb 0 (rankAt s i) (omega arith))) ∙ sum-ones (length (s .sites))
 
   -- THE ORDER has each site once, by rising x
   pub ordered : Ordered s (length (s .sites)) 0 (order s)
@@ -198,11 +184,6 @@ module _ (s : Sheet) (o : Sound s) where
 unfoldable pub gather : (js is : List ℕ) → List ℕ
 gather js [] = []
 gather js (i ∷ is) = getD js i 0 ∷ gather js is
-
-pub gather-long : (js is : List ℕ) → length (gather js is) ≡ length is
-unfolding gather
-gather-long js [] = refl
-gather-long js (i ∷ is) = ap suc (gather-long js is)
 
 pub scatter-long : (is ks out : List ℕ) → length (scatter out is ks) ≡ length out
 unfolding scatter
@@ -229,10 +210,6 @@ gather-scatter s (i ∷ is) (k ∷ ks) out r h l =
     (gather-scatter s is ks (set out i k) (r .1) (λ j u. rw (length-set out i k) (h j (used-tail j i is u))) (omega arith))
 
 -- ---- a sum over a list of sites
-
-unfoldable pub sumOver : (ℕ → ℕ) → List ℕ → ℕ
-sumOver f [] = 0
-sumOver f (i ∷ is) = f i + sumOver f is
 
 pub sum-over : (s : Sheet) (n : ℕ) (f : ℕ → ℕ) (is : List ℕ) → Rise s is → ((i : ℕ) → isUsed i is ≡ true → i < n) → sumOver f is ≡ sum n (λ i. cond (isUsed i is) (f i) 0)
 unfolding sumOver isUsed Rise

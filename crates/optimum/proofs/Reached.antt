@@ -1,10 +1,9 @@
 -- The walk meets only strips that are reached, and reached strips are in range: a table that is right where it is asked will do.
--- Assumes nothing but that the heights rise.
-use mathlib.Core.Path.{_≡_, refl, sym, ap, ap₂, _∙_, subst}
+use mathlib.Core.Path.{_≡_, refl, sym, ap, _∙_, subst}
 use mathlib.Core.Logic.{_⊎_, inl, inr}
-use mathlib.Core.Bool.{Bool, true, false, cond, _&&_, _||_, not}
+use mathlib.Core.Bool.{Bool, true, false, cond, _||_}
 use mathlib.Core.List.{List, [], _∷_, _++_}
-use Prim.Native.Nat.{ℕ, zero, suc, _+_, _-_, _*_, _≤_, _<_}
+use Prim.Native.Nat.{ℕ, zero, suc, _+_, _*_, _≤_, _<_}
 use native.Mathlib.Omega.{arith}
 use lib.ListN.{length, getD, replicate, drop}
 use Rattle.lists.proofs.Tests.{by-test, by-either, clash}
@@ -13,10 +12,10 @@ use Rattle.search.specs.Strips.{holders, after, weigh}
 use Rattle.search.specs.Plan.{T, price as stripPrice, next as stripNext}
 use Rattle.optimum.specs.Strips.{Point, Strip, Instance, inside, opens, joinsUp, joinsDown, cost, draw, children, rulesOf, strips, State, price, next}
 use Rattle.optimum.specs.Cells.{cells, cellOf}
-use Rattle.optimum.specs.Reached.{In, noPoint, steps, Asks, wholeSheet, Reached, TableOf}
+use Rattle.optimum.specs.Reached.{In, noPoint, steps, wholeSheet, Reached, TableOf}
 use Rattle.optimum.proofs.StripsHeld.{Rising, Fit, strips-hold, price-read, next-read}
 use Rattle.optimum.proofs.Pairs.{zeros}
-use Rattle.optimum.proofs.Levels.{Coloured, InRange, Row, asked-range}
+use Rattle.optimum.proofs.Levels.{Coloured, InRange, asked-range}
 use Rattle.optimum.proofs.OneSidedAnswer.{empty-strips}
 
 in-append : (A B : List Strip) (q : Strip) → In q (A ++ B) → In q A ⊎ In q B

@@ -1,21 +1,20 @@
--- The equations that code computes: the table's rows, sums that saturate, digits, caps in a list, and the two numbers of the answer.
--- Assumes nothing.
+-- The equations by which code fills the two-sided table: its rows in a loop, its cells, sums that saturate, caps in a list.
 use mathlib.Core.Path.{_≡_, refl, sym, ap, ap₂, _∙_, fun-ext}
-use mathlib.Core.Logic.{_⊎_, inl, inr, _≢_}
-use mathlib.Core.Bool.{Bool, true, false, cond, _&&_, _||_}
-use mathlib.Core.List.{List, [], _∷_}
-use Prim.Native.Nat.{ℕ, zero, suc, _+_, _*_, _-_, _/_, _%_, _≤_, _<_, min}
-use native.Mathlib.Nat.{le-refl, mul-le-mul-right, mul-comm, div-div-eq-div-mul, div-one}
+use mathlib.Core.Bool.{true, false, cond, _&&_}
+use mathlib.Core.List.{List}
+use Prim.Native.Nat.{ℕ, zero, suc, _+_, _*_, _-_, _≤_, _<_, min}
+use native.Mathlib.Nat.{mul-le-mul-right}
 use native.Mathlib.Omega.{arith}
-use lib.Dec.{ltb, leb, eqb}
+use lib.Dec.{leb, eqb}
+use lib.Seq.{getD-set-same, getD-set-other}
 use lib.ListN.{length, getD, set}
-use borrow.Author.Tests.{leb-true, leb-false, le-leb, lt-leb, eqb-true, eqb-false, eq-eqb, ne-eqb}
-use Rattle.lists.proofs.Tests.{by-test, by-order, by-either, by-equal}
-use Rattle.search.specs.Cost.{plus, least, plus-zero, plus-le, plus-top, top-plus, least-le-top, least-cong}
-use Rattle.search.specs.Radix.{digitOf, place}
-use Rattle.search.specs.Walk.{Process, best}
-use Rattle.optimum.specs.Sums.{listing, sumTo, sum-le}
+use borrow.Author.Tests.{le-leb, lt-leb, eq-eqb, ne-eqb}
+use Rattle.lists.proofs.Tests.{by-test, by-order, by-equal}
+use Rattle.search.specs.Cost.{plus, least, plus-zero, plus-top, top-plus, least-le-top, least-cong}
+use Rattle.search.specs.Walk.{best}
+use Rattle.optimum.specs.Sums.{listing, sum-le}
 use Rattle.optimum.specs.UsedSlots.{Instance, put, farUp, may, draw, strip, price, next, final, labels, below, T, value}
+pub use Rattle.search.proofs.Digits.{digit-flat}
 
 -- a sum that saturates, without a number above top
 pub plus-code : (top a b : ℕ) → a ≤ top → plus top a b ≡ cond (leb (top - a) b) top (a + b)
@@ -31,20 +30,20 @@ unfolding least
 least-head top zero f = omega arith
 least-head top (suc n) f = let ih = least-head top n f in omega arith
 
-module _ (G : Instance) (fx : ℕ → ℕ) where
-  open Instance G using (top, m, n, colours, dist, each, unit, share, budget, radices, unbounded, height, x, y, colour)
+module _ (G : Instance) (caps : ℕ → ℕ) where
+  open Instance G using (top, m, n, colours, each, budget)
 
-  pub strip-le : (a ca b cb : ℕ) → strip G fx a ca b cb ≤ top
+  pub strip-le : (a ca b cb : ℕ) → strip G caps a ca b cb ≤ top
   unfolding strip
   strip-le a ca b cb = sum-le top _ n
 
-  pub below-le : (c k a ca v : ℕ) → below G fx k c a ca v ≤ top
+  pub below-le : (c k a ca v : ℕ) → below G caps k c a ca v ≤ top
   unfolding below best listing
   below-le zero k a ca v = omega arith
   below-le (suc c) k a ca v = least-le-top top (suc colours) _
 
   -- no slot left: the strip to the bottom edge
-  pub below-end : (k a ca v : ℕ) → below G fx k 0 a ca v ≡ strip G fx a ca (suc m) 0
+  pub below-end : (k a ca v : ℕ) → below G caps k 0 a ca v ≡ strip G caps a ca (suc m) 0
   unfolding below best listing final
   below-end k a ca v = let h = strip-le a ca (suc m) 0 in omega arith
 
@@ -52,41 +51,41 @@ module _ (G : Instance) (fx : ℕ → ℕ) where
   unfoldable pub link : (a ca v k d : ℕ) → ℕ
   link a ca v k d =
       cond (farUp G a ca k (suc d) && may G (suc d) v)
-      (plus top (plus top each (strip G fx a ca (suc k) (suc d))) (T G fx (suc k) (suc d) (v - draw G (suc d)))) top
+      (plus top (plus top each (strip G caps a ca (suc k) (suc d))) (T G caps (suc k) (suc d) (v - draw G (suc d)))) top
 
-  T-row : (c k ca v : ℕ) → k + c ≡ m → below G fx k c k ca v ≡ T G fx k ca v
+  T-row : (c k ca v : ℕ) → k + c ≡ m → below G caps k c k ca v ≡ T G caps k ca v
   unfolding T
   T-row c k ca v e = let q : m - k ≡ c = omega arith in rw q
 
   -- slot k and those after it
   pub below-step : (c k a ca v : ℕ) → k + suc c ≡ m →
-      below G fx k (suc c) a ca v ≡ min (below G fx (suc k) c a ca v) (least top colours (λ d. link a ca v k d))
+      below G caps k (suc c) a ca v ≡ min (below G caps (suc k) c a ca v) (least top colours (λ d. link a ca v k d))
   unfolding below best listing
   below-step c k a ca v e =
-      least-head top colours (λ d. plus top (price G fx (a, ca, v) k d) (best (labels G fx) (next G fx (a, ca, v) k d) (listing (λ j. j) (suc k) c))) ∙
+      least-head top colours (λ d. plus top (price G caps (a, ca, v) k d) (best (labels G caps) (next G caps (a, ca, v) k d) (listing (λ j. j) (suc k) c))) ∙
       ap₂ min zeroth (least-cong top colours _ _ (λ d l. each-link d))
     where
-      zeroth : plus top (price G fx (a, ca, v) k 0) (best (labels G fx) (next G fx (a, ca, v) k 0) (listing (λ j. j) (suc k) c)) ≡ below G fx (suc k) c a ca v
-      zeroth = unfold price next in plus-zero top (below G fx (suc k) c a ca v) (below-le c (suc k) a ca v)
+      zeroth : plus top (price G caps (a, ca, v) k 0) (best (labels G caps) (next G caps (a, ca, v) k 0) (listing (λ j. j) (suc k) c)) ≡ below G caps (suc k) c a ca v
+      zeroth = unfold price next in plus-zero top (below G caps (suc k) c a ca v) (below-le c (suc k) a ca v)
 
-      after : (d w : ℕ) → best (labels G fx) (suc k, suc d, w) (listing (λ j. j) (suc k) c) ≡ T G fx (suc k) (suc d) w
+      after : (d w : ℕ) → best (labels G caps) (suc k, suc d, w) (listing (λ j. j) (suc k) c) ≡ T G caps (suc k) (suc d) w
       after d w = T-row c (suc k) (suc d) w (omega arith)
 
       each-link : (d : ℕ) →
-          plus top (price G fx (a, ca, v) k (suc d)) (best (labels G fx) (next G fx (a, ca, v) k (suc d)) (listing (λ j. j) (suc k) c)) ≡ link a ca v k d
+          plus top (price G caps (a, ca, v) k (suc d)) (best (labels G caps) (next G caps (a, ca, v) k (suc d)) (listing (λ j. j) (suc k) c)) ≡ link a ca v k d
       each-link d =
           unfold price next link in by-test (farUp G a ca k (suc d) && may G (suc d) v)
-          (λ h. rw h (ap (plus top (plus top each (strip G fx a ca (suc k) (suc d)))) (after d (v - draw G (suc d)))))
+          (λ h. rw h (ap (plus top (plus top each (strip G caps a ca (suc k) (suc d)))) (after d (v - draw G (suc d)))))
           (λ h. rw h (top-plus top _))
 
   -- THE ROW: T(a, ca, v) from the rows below it, in a loop that goes downwards over k or upwards
   pub below-is : (c k a ca v : ℕ) → k + c ≡ m →
-      below G fx k c a ca v ≡ min (strip G fx a ca (suc m) 0) (least top c (λ j. least top colours (λ d. link a ca v (k + j) d)))
+      below G caps k c a ca v ≡ min (strip G caps a ca (suc m) 0) (least top c (λ j. least top colours (λ d. link a ca v (k + j) d)))
   below-is zero k a ca v e = below-end k a ca v ∙ (let h = strip-le a ca (suc m) 0 in unfold least in omega arith)
   below-is (suc c) k a ca v e =
       below-step c k a ca v e ∙ ap (λ (z : ℕ). min z (least top colours (λ d. link a ca v k d))) (below-is c (suc k) a ca v (omega arith)) ∙
-      turn (strip G fx a ca (suc m) 0) (least top c (λ j. least top colours (λ d. link a ca v (suc k + j) d))) (least top colours (λ d. link a ca v k d)) ∙
-      ap (min (strip G fx a ca (suc m) 0))
+      turn (strip G caps a ca (suc m) 0) (least top c (λ j. least top colours (λ d. link a ca v (suc k + j) d))) (least top colours (λ d. link a ca v k d)) ∙
+      ap (min (strip G caps a ca (suc m) 0))
       (ap₂ min (ap (λ (z : ℕ). least top colours (λ d. link a ca v z d)) (plus-nought k)) (least-cong top c _ _ (λ j l. ap (λ (z : ℕ). least top colours (λ d. link a ca v z d)) (shift k j))) ∙
       sym (least-head top c (λ j. least top colours (λ d. link a ca v (k + j) d))))
     where
@@ -100,7 +99,7 @@ module _ (G : Instance) (fx : ℕ → ℕ) where
       shift k j = omega arith
 
   pub T-is : (a ca v : ℕ) → a ≤ m →
-      T G fx a ca v ≡ min (strip G fx a ca (suc m) 0) (least top (m - a) (λ j. least top colours (λ d. link a ca v (a + j) d)))
+      T G caps a ca v ≡ min (strip G caps a ca (suc m) 0) (least top (m - a) (λ j. least top colours (λ d. link a ca v (a + j) d)))
   unfolding T
   T-is a ca v h = below-is (m - a) a a ca v (omega arith)
 
@@ -109,13 +108,13 @@ module _ (G : Instance) (fx : ℕ → ℕ) where
   -- what the cell holds when the slots before a + j are done, and there the colours before d
   unfoldable pub acc : (a ca v j d : ℕ) → ℕ
   acc a ca v j d =
-      min (min (strip G fx a ca (suc m) 0) (least top j (λ i. least top colours (λ e. link a ca v (a + i) e)))) (least top d (λ e. link a ca v (a + j) e))
+      min (min (strip G caps a ca (suc m) 0) (least top j (λ i. least top colours (λ e. link a ca v (a + i) e)))) (least top d (λ e. link a ca v (a + j) e))
 
   pub acc-le : (a ca v j d : ℕ) → acc a ca v j d ≤ top
   unfolding acc
   acc-le a ca v j d = let h = strip-le a ca (suc m) 0 in omega arith
 
-  pub acc-start : (a ca v : ℕ) → acc a ca v 0 0 ≡ strip G fx a ca (suc m) 0
+  pub acc-start : (a ca v : ℕ) → acc a ca v 0 0 ≡ strip G caps a ca (suc m) 0
   unfolding acc least
   acc-start a ca v = let h = strip-le a ca (suc m) 0 in omega arith
 
@@ -138,12 +137,12 @@ module _ (G : Instance) (fx : ℕ → ℕ) where
   unfolding link
   link-spent a ca v k d h = by-test (farUp G a ca k (suc d)) (λ e. rw (e, h)) (λ e. rw e)
 
-  pub link-lost : (a ca v k d : ℕ) → strip G fx a ca (suc k) (suc d) ≡ top → link a ca v k d ≡ top
+  pub link-lost : (a ca v k d : ℕ) → strip G caps a ca (suc k) (suc d) ≡ top → link a ca v k d ≡ top
   unfolding link
   link-lost a ca v k d h = by-test (farUp G a ca k (suc d) && may G (suc d) v) (λ e. rw (e, h) (rw (plus-top top each, top-plus top _))) (λ e. rw e)
 
   pub link-is : (a ca v k d : ℕ) → farUp G a ca k (suc d) ≡ true → may G (suc d) v ≡ true →
-      link a ca v k d ≡ plus top (plus top each (strip G fx a ca (suc k) (suc d))) (T G fx (suc k) (suc d) (v - draw G (suc d)))
+      link a ca v k d ≡ plus top (plus top each (strip G caps a ca (suc k) (suc d))) (T G caps (suc k) (suc d) (v - draw G (suc d)))
   unfolding link
   link-is a ca v k d h l = rw (h, l)
 
@@ -158,14 +157,14 @@ module _ (G : Instance) (fx : ℕ → ℕ) where
       all (suc d) = acc-same a ca v j d (link-near a ca v (a + j) d (h d)) ∙ all d
 
   -- all slots done: the entry
-  pub acc-end : (a ca v : ℕ) → a ≤ m → acc a ca v (m - a) 0 ≡ T G fx a ca v
+  pub acc-end : (a ca v : ℕ) → a ≤ m → acc a ca v (m - a) 0 ≡ T G caps a ca v
   unfolding acc least
   acc-end a ca v h =
       let l = strip-le a ca (suc m) 0 in
       let e = T-is a ca v h in
       omega arith
 
-  pub value-T : value G fx ≡ T G fx 0 0 budget
+  pub value-T : value G caps ≡ T G caps 0 0 budget
   unfolding value
   value-T = refl
 
@@ -192,22 +191,11 @@ cell-apart C P a ca v b cb w h k l =
 
 -- CAPS IN A LIST
 set-at : (l : List ℕ) (i p j : ℕ) → i < length l → getD (set l i p) j 0 ≡ cond (eqb j i) p (getD l j 0)
-set-at [] i p j h = absurd (omega arith)
-set-at (c ∷ l) zero p zero h = refl
-set-at (c ∷ l) zero p (suc j) h = rw (ne-eqb (suc j) 0 (omega arith))
-set-at (c ∷ l) (suc i) p zero h = rw (ne-eqb 0 (suc i) (omega arith))
-set-at (c ∷ l) (suc i) p (suc j) h = set-at l i p j (omega arith) ∙ ap (λ (b : Bool). cond b p (getD l j 0)) (same j i)
-  where
-    same : (j i : ℕ) → eqb j i ≡ eqb (suc j) (suc i)
-    same j i = by-equal j i (λ e. rw (eq-eqb j i e, eq-eqb (suc j) (suc i) (ap suc e))) (λ e. rw (ne-eqb j i e, ne-eqb (suc j) (suc i) (λ q. e (omega arith))))
+set-at l i p j h =
+    by-equal j i
+    (λ e. rw (e, eq-eqb i i refl) (getD-set-same l i p 0 h))
+    (λ n. rw (ne-eqb j i n) (getD-set-other l i j p 0 n))
 
 pub put-set : (l : List ℕ) (i p : ℕ) → i < length l → put (λ j. getD l j 0) i p ≡ (λ j. getD (set l i p) j 0)
 unfolding put
 put-set l i p h = fun-ext (λ j. sym (set-at l i p j h))
-
--- A DIGIT at once
-pub digit-flat : (rs : List ℕ) (c v : ℕ) → c < length rs → digitOf rs c v ≡ v / place rs c % getD rs c 0
-unfolding digitOf place
-digit-flat [] c v h = absurd (omega arith)
-digit-flat (r ∷ rs) zero v h = ap (λ (z : ℕ). z % r) (sym (div-one v))
-digit-flat (r ∷ rs) (suc c) v h = digit-flat rs c (v / r) (omega arith) ∙ ap (λ (z : ℕ). z % getD rs c 0) (div-div-eq-div-mul v r (place rs c) ∙ ap (λ (z : ℕ). v / z) (mul-comm r (place rs c)))

@@ -1,26 +1,24 @@
--- THEOREM 1, over lists: a sequence of slots costs less than none exactly if each step is in order against all open labels and
--- the budget suffices; it then costs the word of its sums; and steps in order are pairs in order.
--- Assumes nothing but the laws of a sheet, and that `word` adds part by part.
-use mathlib.Core.Path.{_≡_, refl, sym, ap, ap₂, _∙_, subst, subst⁻¹}
-use mathlib.Core.Logic.{_⊎_, inl, inr, _↔_}
-use mathlib.Core.Bool.{Bool, true, false, cond, _&&_, _||_}
-use mathlib.Core.List.{List, [], _∷_, _++_}
-use Prim.Native.Nat.{ℕ, zero, suc, _+_, _-_, _*_, _≤_, _<_, min}
+-- THEOREM 1, the costs: a sequence of slots costs less than none exactly if each step is in order against all open labels and the
+-- budget pays for it; it then costs the word of its sums.
+use mathlib.Core.Path.{_≡_, ap, _∙_, subst}
+use mathlib.Core.Logic.{_⊎_, inl, inr}
+use mathlib.Core.Bool.{Bool, true, false, cond, _||_}
+use mathlib.Core.List.{List, [], _∷_}
+use Prim.Native.Nat.{ℕ, suc, _+_, _-_, _<_, min}
 use native.Mathlib.Omega.{arith}
-use lib.Dec.{eqb, leb, ltb}
-use lib.ListN.{length, getD, set, replicate, length-set, length-replicate}
-use borrow.Author.Tests.{leb-true, leb-false, ltb-true, ltb-false, le-leb, lt-leb, lt-ltb, le-ltb, eqb-true, eqb-false, eq-eqb, ne-eqb}
-use Rattle.lists.proofs.Tests.{by-test, by-order, by-equal, by-either, and-both, and-of, clash, tests}
+use lib.Dec.{eqb, ltb}
+use lib.ListN.{length, getD, set, length-set}
+use borrow.Author.Tests.{lt-ltb, eqb-true, eq-eqb, ne-eqb}
+use Rattle.lists.proofs.Tests.{by-test, by-equal, by-either, clash, or-e, is-false}
 use Rattle.search.specs.Cost.{plus, plus-below}
 use Rattle.search.specs.Radix.{below, sharing}
 use Rattle.search.specs.Walk.{costOf}
-use Rattle.lists.proofs.Tests.{or-e, is-false}
 use Rattle.optimum.specs.Strips.{Point, Strip, Instance, State, opens, clearFrom, joinsUp, joinsDown, cost, draw, hold, marked, price, next, labels}
-use Rattle.optimum.proofs.StripsHeld.{Lower, holds, up-free, down-e, price-joins, set-same, set-other}
-use Rattle.optimum.proofs.Near.{Good, Rel, Step, Apart, opens-e, open-step, up-step, down-step, step-open, step-join}
+use Rattle.optimum.proofs.StripsHeld.{Lower, holds, up-not-held, down-e, price-joins, set-same, set-other}
+use Rattle.optimum.proofs.Neighbours.{Good, Step, Apart, opens-e, open-step, up-step, down-step, step-open, step-join}
 
 module _ (P : Instance) where
-  open Instance P using (m, top, height, far, clear, share, lead, may, tip, kinds, turn, held, drawOf, radices, word)
+  open Instance P using (m, top, height, share, lead, may, tip, held, drawOf, radices, word)
 
   -- no label is open at k
   unfoldable pub isFree : List ℕ → ℕ → Bool
@@ -61,17 +59,13 @@ module _ (P : Instance) where
         (z .1, λ f. absurd (omega (arith, z .0, eqb-true (getD L k 0) 0 f)), λ f. absurd (omega (arith, z .0, eqb-true (getD L k 0) 0 f)), λ f. (ne-eqb (getD L k 0) 0 (λ (q : getD L k 0 ≡ 0). omega (arith, z .0)), z .2 f)))
       where
         joined : (joinsUp P (hold P L M (s .y)) s k ≡ true) ⊎ (joinsDown P (hold P L M (s .y)) s k ≡ true) → (getD L k 0 ≡ suc (s .c)) × Step P L s k × (held (hold P L M (s .y)) s ≡ true → s .y < height k)
-        joined (inl e) = let u = up-step P G L ap′ s k M _ (holds P L M (s .y)) e in (u .0, u .1, λ f. clash f (up-free P _ s k e))
+        joined (inl e) = let u = up-step P G L ap′ s k M _ (holds P L M (s .y)) e in (u .0, u .1, λ f. clash f (up-not-held P _ s k e))
         joined (inr e) = let u = down-step P G L ap′ s k M _ (holds P L M (s .y)) e in (u .0, u .1, λ f. below-it (holds P L M (s .y) .lower) (down-e P _ s k e))
           where
             below-it : Lower P L (s .y) (hold P L M (s .y) .b) (hold P L M (s .y) .cb)
                 → (hold P L M (s .y) .b ≡ suc k) × (k < m) × (hold P L M (s .y) .cb ≡ suc (s .c)) × (clearFrom P (hold P L M (s .y) .a) (s .y) ≡ true) → s .y < height k
             below-it (inl q) d = absurd (omega arith)
             below-it (inr (j, q, l, c, n, y)) d = let t : k ≡ j = omega arith in rw t y
-
-    free-e : (L : List ℕ) (k : ℕ) → isFree L k ≡ true → getD L k 0 ≡ 0
-    unfolding isFree
-    free-e L k e = eqb-true _ 0 e
 
     free-i : (L : List ℕ) (k : ℕ) → getD L k 0 ≡ 0 → isFree L k ≡ true
     unfolding isFree
@@ -81,8 +75,8 @@ module _ (P : Instance) where
     unfolding isFree
     free-n L k c e = ne-eqb (getD L k 0) 0 (λ (q : getD L k 0 ≡ 0). omega arith)
 
-    word-free : (b : Bool) (a c : ℕ) → b ≡ true → word 1 (a + c) ≡ word (cond b 1 0) (cond b a 0 + c)
-    word-free b a c e = rw e
+    word-opened : (b : Bool) (a c : ℕ) → b ≡ true → word 1 (a + c) ≡ word (cond b 1 0) (cond b a 0 + c)
+    word-opened b a c e = rw e
 
     word-held : (b : Bool) (a c : ℕ) → b ≡ false → word 0 c ≡ word (cond b 1 0) (cond b a 0 + c)
     word-held b a c e = rw e (ap (word 0) (omega arith))
@@ -90,7 +84,7 @@ module _ (P : Instance) where
     price-open : (L : List ℕ) (v : ℕ) (M : List ℕ) (s : Point) (k : ℕ) → opens P (hold P L M (s .y)) s k ≡ true → isFree L k ≡ true → below radices (drawOf (s .c)) v ≡ true
         → (price P (L, v, M) s k ≡ stepWord L s k) × (next P (L, v, M) s k ≡ (set L k (suc (s .c)), left L v s k, marked P L M s k))
     unfolding price cost draw next
-    price-open L v M s k o f b = rw (o, b) (word-free (isFree L k) (lead (s .x)) (share k (s .y)) f, rw f)
+    price-open L v M s k o f b = rw (o, b) (word-opened (isFree L k) (lead (s .x)) (share k (s .y)) f, rw f)
 
     price-join : (L : List ℕ) (v : ℕ) (M : List ℕ) (s : Point) (k : ℕ) → opens P (hold P L M (s .y)) s k ≡ false → joinsUp P (hold P L M (s .y)) s k || joinsDown P (hold P L M (s .y)) s k ≡ true
         → isFree L k ≡ false → (price P (L, v, M) s k ≡ stepWord L s k) × (next P (L, v, M) s k ≡ (set L k (suc (s .c)), left L v s k, marked P L M s k))

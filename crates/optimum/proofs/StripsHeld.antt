@@ -1,37 +1,30 @@
--- The strips that are read off the open labels: one holds each site, and a step puts its parts in that one's place.
--- So the walk gives the first. Assumes nothing but that the slots' heights rise.
+-- THEOREM 3 at a sheet: of the strips read off the open labels one holds each site, and a step puts its parts in that one's place.
+-- So the walk by the table gives the first (THEOREM 4).
 use mathlib.Core.Path.{_≡_, refl, sym, ap, ap₂, _∙_, subst, subst⁻¹}
-use mathlib.Core.Logic.{_⊎_, inl, inr, _↔_}
+use mathlib.Core.Logic.{_⊎_, inl, inr}
 use mathlib.Core.Bool.{Bool, true, false, cond, not, _&&_, _||_}
-use mathlib.Core.Option.{Option, none, some}
-use mathlib.Core.List.{List, [], _∷_, _++_}
-use Prim.Native.Nat.{ℕ, zero, suc, _+_, _-_, _*_, _≤_, _<_}
-use native.Mathlib.Nat.{le-refl}
+use mathlib.Core.Option.{none, some}
+use mathlib.Core.List.{List, [], _∷_}
+use Prim.Native.Nat.{ℕ, zero, suc, _+_, _-_, _≤_, _<_}
 use native.Mathlib.Omega.{arith}
 use lib.Dec.{eqb, leb, ltb}
+use lib.Seq.{getD-set-same, getD-set-other}
 use lib.ListN.{length, getD, set, replicate, length-set, length-replicate}
-use borrow.Author.Tests.{leb-true, leb-false, ltb-true, ltb-false, le-leb, lt-leb, lt-ltb, le-ltb, eqb-true, eqb-false, eq-eqb, ne-eqb}
-use Rattle.lists.proofs.Tests.{by-test, by-order, by-equal, by-either, and-both, and-of, clash, tests}
-use Rattle.search.specs.Cost.{plus, least, least-cong, plus-le}
+use borrow.Author.Tests.{ltb-true, ltb-false, le-leb, lt-leb, lt-ltb, le-ltb, eqb-true, eqb-false, eq-eqb, ne-eqb}
+use Rattle.lists.proofs.Tests.{by-test, by-order, by-equal, by-either, and-both, or-e, not-f}
+use Rattle.search.specs.Cost.{plus, least-cong}
 use Rattle.search.specs.Strips.{holders, oneIf, weigh, after}
 use Rattle.search.specs.Radix.{below, sharing}
-use Rattle.search.specs.Plan.{Filled, Rules, Laws, Rest, Run, process, price as stripPrice, next as stripNext, strips-independent}
-use Rattle.search.specs.Walk.{Process, best, answer, answerBy, answer-by, answer-first, answer-none, First, costOf, walk, walk-cost}
-use Rattle.lists.proofs.Tests.{or-e, not-f}
-use Rattle.optimum.specs.Strips.{Point, Strip, Instance, over, under, inside, opens, joinsUp, joinsDown, clearFrom, farFrom, cost, draw, children, rulesOf, stripsFrom, strips, holdFrom, hold, marked, State, price, next, labels, value, walked}
+use Rattle.search.specs.Plan.{Filled, Laws, Run, process, price as stripPrice, next as stripNext, strips-independent}
+use Rattle.search.specs.Walk.{best, answer, answer-by, answer-first, answer-none, First, costOf, walk, walk-cost}
+use Rattle.optimum.specs.Strips.{Point, Strip, Instance, over, under, inside, opens, joinsUp, joinsDown, clearFrom, cost, draw, children, rulesOf, stripsFrom, strips, holdFrom, hold, marked, State, price, next, labels, value, walked}
 
 -- a list with one place changed
 pub set-same : (L : List ℕ) (k c : ℕ) → k < length L → getD (set L k c) k 0 ≡ c
-set-same [] k c h = absurd (omega arith)
-set-same (u ∷ L) zero c h = refl
-set-same (u ∷ L) (suc k) c h = set-same L k c (omega arith)
+set-same L k c h = getD-set-same L k c 0 h
 
 pub set-other : (L : List ℕ) (k c j : ℕ) → (j ≡ k → ⊥) → getD (set L k c) j 0 ≡ getD L j 0
-set-other [] k c j h = refl
-set-other (u ∷ L) zero c zero h = absurd (h refl)
-set-other (u ∷ L) zero c (suc j) h = refl
-set-other (u ∷ L) (suc k) c zero h = refl
-set-other (u ∷ L) (suc k) c (suc j) h = set-other L k c j (λ e. h (ap suc e))
+set-other L k c j h = getD-set-other L k j c 0 h
 
 pub set-id : (L : List ℕ) (k c : ℕ) → getD L k 0 ≡ c → 0 < c → set L k c ≡ L
 set-id [] k c e h = refl
@@ -43,7 +36,7 @@ unfolding plus
 past top a b h = omega arith
 
 module _ (P : Instance) where
-  open Instance P using (m, top, height, far, clear, share, lead, may, tip, kinds, turn, held, drawOf, radices, word)
+  open Instance P using (m, top, height, turn, held, radices)
 
   pub opens-at : (p : Strip) (s : Point) (k : ℕ) → opens P p s k ≡ true → (p .a < suc k) × (suc k < p .b) × (k < m)
   unfolding opens
@@ -218,9 +211,9 @@ module _ (P : Instance) where
   unfolding joinsUp
   up-e p s k e = let h = and-both _ _ (and-both _ _ e .0) in let g = and-both _ _ (h .0) in (eqb-true _ _ (g .0), eqb-true _ _ (g .1), h .1)
 
-  pub up-free : (p : Strip) (s : Point) (k : ℕ) → joinsUp P p s k ≡ true → held p s ≡ false
+  pub up-not-held : (p : Strip) (s : Point) (k : ℕ) → joinsUp P p s k ≡ true → held p s ≡ false
   unfolding joinsUp
-  up-free p s k e = not-f (held p s) (and-both (eqb (p .a) (suc k) && eqb (p .ca) (suc (s .c)) && clearFrom P (p .b) (s .y)) (not (held p s)) e .1)
+  up-not-held p s k e = not-f (held p s) (and-both (eqb (p .a) (suc k) && eqb (p .ca) (suc (s .c)) && clearFrom P (p .b) (s .y)) (not (held p s)) e .1)
 
   pub down-e : (p : Strip) (s : Point) (k : ℕ) → joinsDown P p s k ≡ true
       → (p .b ≡ suc k) × (k < m) × (p .cb ≡ suc (s .c)) × (clearFrom P (p .a) (s .y) ≡ true)

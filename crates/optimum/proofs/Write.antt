@@ -1,49 +1,29 @@
 -- Writing the answer word by word: the walk names each site once, so what the area held has no part in the result.
--- Assumes nothing but that the sheet is accepted.
-use mathlib.Core.Path.{_≡_, refl, sym, ap, ap₂, _∙_, subst, subst⁻¹}
-use mathlib.Core.Logic.{_⊎_, inl, inr, _↔_}
-use mathlib.Core.Bool.{Bool, true, false, cond, _&&_, _||_, not}
+use mathlib.Core.Path.{_≡_, refl, sym, ap, _∙_, subst⁻¹}
+use mathlib.Core.Bool.{true, false}
 use mathlib.Core.List.{List, [], _∷_, _++_}
-use Prim.Native.Nat.{ℕ, zero, suc, _+_, _-_, _*_, _/_, _%_, _≤_, _<_, min}
+use Prim.Native.Nat.{ℕ, zero, suc, _+_, _≤_, _<_}
 use native.Mathlib.Omega.{arith}
-use lib.Dec.{eqb, leb, ltb}
-use lib.ListN.{length, getD, set, replicate, length-set, length-replicate}
-use borrow.Author.Tests.{leb-true, leb-false, ltb-true, ltb-false, le-leb, lt-leb, lt-ltb, le-ltb, eqb-true, eqb-false, eq-eqb, ne-eqb}
-use Rattle.lists.proofs.Tests.{by-test, by-order, by-equal, by-either, and-both, and-of, clash, tests}
-use lib.ListN.{take, drop, take-append-drop, length-take}
-use mathlib.Core.Bool.{false≢true}
+use lib.Seq.{ext-getD}
+use lib.ListN.{length, getD, set, replicate, length-set, length-replicate, take, drop, take-append-drop, length-take}
+use borrow.Author.Tests.{ne-eqb}
+use Rattle.lists.proofs.Tests.{by-equal, clash}
 use Rattle.sheet.specs.Sheet.{Sheet, sheetIn}
+use Rattle.sheet.proofs.Accepted.{Sound, sound, sites-coloured}
 use Rattle.labelling.specs.Promise.{takesSheet}
 use Rattle.labelling.proofs.Maker.{Result, cleared}
 use Rattle.labelling.specs.Layout.{isUsed, tieWords, layoutWords}
-use Rattle.lists.proofs.Tests.{or-l, or-r, is-false}
 use Rattle.labelling.proofs.Members.{used-head, used-tail}
-use Rattle.sheet.proofs.Accepted.{Sound, sound, sites-coloured}
+use Rattle.optimum.specs.OneSided.{headWord, tieWord, writeTies, topWord, order, scatter}
 use Rattle.optimum.proofs.StripsHeld.{set-same, set-other}
-use Rattle.optimum.specs.OneSided.{topWord, order, scatter}
 use Rattle.optimum.proofs.OneSidedAnswer.{countIn, lengthIn, firstCell, slotsWalked, walk-long, call-made}
-use Rattle.optimum.proofs.Order.{Rise, Ordered, ordered}
-use Rattle.optimum.proofs.Join.{putBack}
-
--- a tie as a word; the ties written in turn, the tie of site i to place i + 1 of the area
-abbrev pub tieWord : ℕ → ℕ
-tieWord k = 9 * 268435456 + k
-
-unfoldable pub writeTies : (out is ks : List ℕ) → List ℕ
-writeTies out [] ks = out
-writeTies out (i ∷ is) [] = out
-writeTies out (i ∷ is) (k ∷ ks) = writeTies (set out (suc i) (tieWord k)) is ks
-
-list-ext : (l k : List ℕ) → length l ≡ length k → ((i : ℕ) → i < length l → getD l i 0 ≡ getD k i 0) → l ≡ k
-list-ext [] [] e h = refl
-list-ext [] (y ∷ k) e h = absurd (omega arith)
-list-ext (x ∷ l) [] e h = absurd (omega arith)
-list-ext (x ∷ l) (y ∷ k) e h = ap₂ (λ (a : ℕ) (b : List ℕ). a ∷ b) (h 0 (omega arith)) (list-ext l k (omega arith) (λ i u. h (suc i) (omega arith)))
+use Rattle.optimum.proofs.Order.{ordered}
+use Rattle.optimum.proofs.OneSidedBest.{putBack}
 
 -- what the list held at the places that are named has no part in the result
 scatter-any : (is ks o p : List ℕ) → length ks ≡ length is → length o ≡ length p → ((i : ℕ) → i < length o → isUsed i is ≡ false → getD o i 0 ≡ getD p i 0) → scatter o is ks ≡ scatter p is ks
 unfolding scatter isUsed
-scatter-any [] ks o p lk l h = list-ext o p l (λ i u. h i u refl)
+scatter-any [] ks o p lk l h = ext-getD 0 o p l (λ i u. h i u refl)
 scatter-any (i ∷ is) [] o p lk l h = absurd (omega arith)
 scatter-any (i ∷ is) (k ∷ ks) o p lk l h =
     scatter-any is ks (set o i k) (set p i k) (omega arith) (length-set o i k ∙ l ∙ sym (length-set p i k)) (λ j u f.
@@ -94,7 +74,7 @@ scatter-words (i ∷ is) (k ∷ ks) b = ap (λ (z : List ℕ). scatter z is (wor
 
 -- THE ANSWER AREA: the first word, then the ties in the order of the walk, whatever the area held
 pub write-all : (s : Sheet) → Sound s → (ks : List ℕ) → length ks ≡ length (s .sites) → (c l : ℕ) (out : List ℕ) → length (s .sites) + 1 ≤ length out
-    → writeTies (set out 0 (8 * 268435456 + c * 2097152 + l)) (order s) ks ≡ layoutWords c l (putBack s ks) ++ drop (length (s .sites) + 1) out
+    → writeTies (set out 0 (headWord c l)) (order s) ks ≡ layoutWords c l (putBack s ks) ++ drop (length (s .sites) + 1) out
 write-all s o ks lk c l [] h = absurd (omega arith)
 write-all s o ks lk c l (w ∷ out) h =
     ap (λ (z : List ℕ). writeTies (head ∷ z) (order s) ks) (sym (take-append-drop n out))
@@ -106,7 +86,7 @@ write-all s o ks lk c l (w ∷ out) h =
     n = length (s .sites)
 
     head : ℕ
-    head = 8 * 268435456 + c * 2097152 + l
+    head = headWord c l
 
     later : suc n ≡ length (s .sites) + 1
     later = omega arith
@@ -124,7 +104,7 @@ write-all s o ks lk c l (w ∷ out) h =
 -- ---- THE CALL on a one-sided sheet, as the code makes it: the first word from the first cell, then a tie for each site by rising x
 pub call-written : (ws k out : List ℕ) (t : takesSheet ws k out) → sheetIn ws .isTwoSided ≡ false → firstCell (sheetIn ws) < topWord →
     Result ws k out 0
-    (writeTies (set out 0 (8 * 268435456 + countIn (sheetIn ws) (firstCell (sheetIn ws)) * 2097152 + lengthIn (sheetIn ws) (firstCell (sheetIn ws))))
+    (writeTies (set out 0 (headWord (countIn (sheetIn ws) (firstCell (sheetIn ws))) (lengthIn (sheetIn ws) (firstCell (sheetIn ws)))))
     (order (sheetIn ws)) (slotsWalked (sheetIn ws))) (cleared ws k)
 call-written ws k out t one h =
     let s = sheetIn ws in

@@ -1,10 +1,10 @@
--- THE TABLE AS WORDS, as code is to fill and read it: one level of cells for each number of sites that are left, a cell for each
--- strip and share; the sharing over the open labels in a list of R numbers; the walk by these. Assumes nothing: definitions.
-use mathlib.Core.Bool.{Bool, true, false, cond, _&&_, _||_}
-use mathlib.Core.Option.{Option, none, some}
+-- The one-sided table as words, as code fills and reads it: a level of cells for each number of sites left, a cell for each strip
+-- and share; the sharing over the open labels in a list of R numbers; the walk by these.
+use mathlib.Core.Bool.{cond, _||_}
+use mathlib.Core.Option.{Option}
 use mathlib.Core.List.{List, [], _∷_}
 use Prim.Native.Nat.{ℕ, zero, suc, _+_, _-_, _*_, _/_, _%_}
-use lib.Dec.{eqb, leb, ltb}
+use lib.Dec.{eqb}
 use lib.ListN.{length, getD, replicate}
 use Rattle.search.specs.Cost.{plus, least}
 use Rattle.search.specs.Radix.{below}

@@ -1,3 +1,5 @@
+pub mod Budgets
+pub mod CostWord
 pub mod Strips
 pub mod OneSided
 pub mod Cells
@@ -5,4 +7,5 @@ pub mod Reached
 pub mod UsedSlots
 pub mod TwoSided
 pub mod Sums
-pub mod Telling
+pub mod Examples
+pub mod Optimum

@@ -1,28 +1,31 @@
--- THE ONE-SIDED ANSWER, as code is to find it: the sheet as a sheet, the sites by rising x, the walk over the table, and the
--- slots put back in sheet order. Assumes nothing: these are definitions.
-use mathlib.Core.Bool.{Bool, true, false, cond, not, _&&_, _||_}
+-- The one-sided answer as code finds it: the sheet's instance, the sites by rising rank, the walk over the table, and the slots put
+-- back in sheet order.
+use mathlib.Core.Bool.{Bool, true, false, cond, not}
 use mathlib.Core.List.{List, [], _∷_}
 use mathlib.Core.Option.{Option, none, some}
-use Prim.Native.Nat.{ℕ, zero, suc, _+_, _-_, _*_, max}
-use lib.Dec.{eqb, leb, ltb}
-use lib.ListN.{length, getD, set, replicate}
+use Prim.Native.Nat.{ℕ, zero, suc, _+_, _-_, _*_}
+use lib.Dec.{eqb, leb}
+use lib.ListN.{length, set, replicate}
 use Rattle.search.specs.Cost.{least, first}
-use Rattle.search.specs.Radix.{place}
-use Rattle.sheet.specs.Sheet.{all, Site, Colour, rankTop, Sheet, productOf}
-use Rattle.labelling.specs.Layout.{apart, heightOf, siteShare}
-use Rattle.labelling.proofs.Members.{noSite}
-use Rattle.labelling.proofs.Earlier.{rankAt}
+use Rattle.sheet.specs.Sheet.{Sheet, rankTop}
+use Rattle.labelling.specs.Layout.{siteAt, heightOf, isFar, isClear, siteShare}
+use Rattle.labelling.specs.Lawful.{rankAt}
 use Rattle.optimum.specs.Strips.{Point, Strip, Instance, walked}
+use Rattle.optimum.specs.Budgets.{fullBudget}
+pub use Rattle.optimum.specs.Budgets.{boundOf}
+unfoldable pub use Rattle.optimum.specs.Budgets.{radicesOf, drawsOf}
+pub use Rattle.optimum.specs.CostWord.{topWord}
+unfoldable pub use Rattle.optimum.specs.CostWord.{wordOf}
 
 -- ---- what document 02 touches, one definition each
 
 -- two labels, by slot and colour + 1, are far enough apart
 unfoldable pub farEnough : Sheet → (j c k d : ℕ) → Bool
-farEnough s j c k d = leb (s .gap) (apart (heightOf s j) (heightOf s k))
+farEnough s j c k d = isFar s j (c - 1) k (d - 1)
 
 -- the label at slot k is clear of a site of height y
 unfoldable pub clearOf : Sheet → (k y : ℕ) → Bool
-clearOf s k y = leb (s .gap) (apart (heightOf s k) y)
+clearOf s k y = isClear s k y
 
 -- a site's share of the length, by its slot and height
 unfoldable pub shareOf : Sheet → (k y : ℕ) → ℕ
@@ -32,15 +35,11 @@ shareOf s k y = siteShare s (heightOf s k) y
 unfoldable pub leadOf : Sheet → (x : ℕ) → ℕ
 leadOf s x = s .width - x
 
--- a colour's bound; 255 is none
-abbrev pub boundOf : Sheet → (colour : ℕ) → ℕ
-boundOf s c = (getD (s .colours) c (record { bound = 255; sites = 0 })) .bound
-
 -- a label may be opened at slot k by this site
 unfoldable pub mayOpen : Sheet → Point → (k : ℕ) → Bool
 mayOpen s t k = not (eqb (boundOf s (t .c)) 0)
 
--- what else is asked of a label that this site opens at slot k; of a step by its strip's mark; the mark that a site leaves
+-- nothing else is asked of a label that this site opens at slot k; a site leaves no mark, and no mark holds one
 unfoldable pub tipClear : Sheet → Point → (k : ℕ) → Bool
 tipClear s t k = true
 
@@ -49,24 +48,6 @@ turnOf s t k = 0
 
 unfoldable pub heldOf : Sheet → Strip → Point → Bool
 heldOf s p t = false
-
--- ---- the budget: a digit for each colour, of radix bound + 1, or 1 if it has no bound
-
-unfoldable pub radicesOf : List Colour → List ℕ
-radicesOf [] = []
-radicesOf (k ∷ ks) = cond (eqb (k .bound) 255) 1 (k .bound + 1) ∷ radicesOf ks
-
--- what a label of the colour draws
-unfoldable pub drawsOf : Sheet → (colour : ℕ) → ℕ
-drawsOf s c = cond (eqb (boundOf s c) 255) 0 (place (radicesOf (s .colours)) c)
-
--- ---- costs in one word
-
-abbrev pub topWord : ℕ
-topWord = 4294967295
-
-unfoldable pub wordOf : Sheet → (count size : ℕ) → ℕ
-wordOf s c l = cond (s .isShortest) (l * 64 + c) (c * 33554432 + l)
 
 abbrev pub instanceOf : Sheet → Instance
 instanceOf s =
@@ -91,7 +72,7 @@ instanceOf s =
 -- ---- the sites by rising x
 
 abbrev pub xOf : Sheet → ℕ → ℕ
-xOf s i = (getD (s .sites) i noSite) .x
+xOf s i = siteAt s i .x
 
 -- the least rank from a on, and the site that has it
 unfoldable pub nextRank : Sheet → (from : ℕ) → ℕ
@@ -108,7 +89,7 @@ unfoldable pub order : Sheet → List ℕ
 order s = orderFrom s (length (s .sites)) 0
 
 abbrev pub pointAt : Sheet → ℕ → Point
-pointAt s i = record { x = (getD (s .sites) i noSite) .x; y = (getD (s .sites) i noSite) .y; c = (getD (s .sites) i noSite) .colour }
+pointAt s i = record { x = siteAt s i .x; y = siteAt s i .y; c = siteAt s i .colour }
 
 unfoldable pub pointsAt : Sheet → List ℕ → List Point
 pointsAt s [] = []
@@ -121,10 +102,23 @@ scatter out [] ks = out
 scatter out (i ∷ is) [] = out
 scatter out (i ∷ is) (k ∷ ks) = scatter (set out i k) is ks
 
+-- a layout's first word: kind 8, the count from bit 21 on, the length below it
+abbrev pub headWord : (count size : ℕ) → ℕ
+headWord c l = 8 * 268435456 + c * 2097152 + l
+
+-- a tie as a word; the ties written in turn, that of site i to place i + 1 of the area
+abbrev pub tieWord : ℕ → ℕ
+tieWord k = 9 * 268435456 + k
+
+unfoldable pub writeTies : (out is ks : List ℕ) → List ℕ
+writeTies out [] ks = out
+writeTies out (i ∷ is) [] = out
+writeTies out (i ∷ is) (k ∷ ks) = writeTies (set out (suc i) (tieWord k)) is ks
+
 abbrev pub tiesOf : Sheet → Option (List ℕ) → Option (List ℕ)
 tiesOf s none = none
 tiesOf s (some ks) = some (scatter (replicate (length (s .sites)) 0) (order s) ks)
 
 -- THE ANSWER
 unfoldable pub oneSided : Sheet → Option (List ℕ)
-oneSided s = tiesOf s (walked (instanceOf s) (productOf (s .colours) - 1) (pointsAt s (order s)))
+oneSided s = tiesOf s (walked (instanceOf s) (fullBudget s) (pointsAt s (order s)))

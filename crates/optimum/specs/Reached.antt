@@ -1,5 +1,4 @@
--- WHICH ENTRIES ARE ASKED FOR: the strips of each level that the whole sheet's entry leads to. A table need be right only there.
--- Assumes nothing: these are definitions.
+-- Which entries are asked for: the strips of each level that the whole sheet's entry leads to. A table need be right only there.
 use mathlib.Core.Path.{_≡_}
 use mathlib.Core.Logic.{_⊎_}
 use mathlib.Core.Bool.{Bool, true, false, _||_}

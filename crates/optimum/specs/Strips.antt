@@ -1,12 +1,11 @@
--- THE ONE-SIDED WALK, as code is to follow it: the sheet, its open labels, the strips between them, the table's rules,
--- and the walk. Assumes nothing: these are definitions.
-use mathlib.Core.Path.{_≡_, refl}
+-- The one-sided walk as code follows it: what is asked of a sheet, its open labels, the strips between them, the table's rules, and
+-- the walk.
 use mathlib.Core.Bool.{Bool, true, false, cond, not, _&&_, _||_}
-use mathlib.Core.Option.{Option, none, some}
+use mathlib.Core.Option.{Option}
 use mathlib.Core.List.{List, [], _∷_}
-use Prim.Native.Nat.{ℕ, zero, suc, _+_, _-_, _*_, _≤_, _<_}
+use Prim.Native.Nat.{ℕ, zero, suc, _+_, _-_}
 use lib.Dec.{eqb, leb, ltb}
-use lib.ListN.{length, getD, set, replicate}
+use lib.ListN.{getD, set, replicate}
 use Rattle.search.specs.Radix.{below}
 use Rattle.search.specs.Plan.{Rules, Rest}
 use Rattle.search.specs.Walk.{Process, answerBy}
@@ -17,8 +16,8 @@ pub record Point : Type 0 where
   pub y : ℕ
   pub c : ℕ
 
--- a strip: the labels above and below it (0: the page's top edge, k + 1: slot k, m + 1: its bottom edge) and their
--- colours (0: an edge has none, c + 1: colour c); d is 1 if the last site tied in it went down
+-- a strip: the labels above and below it (0: the sheet's top edge, k + 1: slot k, m + 1: its bottom edge) and their
+-- colours (0: an edge has none, c + 1: colour c); d is the mark that the last site tied in it left
 pub record Strip : Type 0 where
   pub a : ℕ
   pub ca : ℕ
@@ -26,24 +25,29 @@ pub record Strip : Type 0 where
   pub cb : ℕ
   pub d : ℕ
 
--- what is asked of a sheet. The changes of document 02 touch `far` (two labels, by slot and colour + 1, are far enough apart),
--- `clear` (a label is clear of a site's height), `share` (a site's share of the length, by slot and height), `may` (a label may be
--- opened here by this site), `tip` (a label opened here by this site is clear of the sites left of its tip) `turn` (the mark that a site leaves in its strip, by its slot; below `kinds`), `held` (by its mark the strip lets the site join only the label below) and `lead` (the length of the backbone that a site at x opens)
+-- what the table and the walk ask of a sheet
 pub record Instance : Type 0 where
+  -- how many slots; the cost that stands for none; a slot's height
   pub m : ℕ
   pub top : ℕ
   pub height : ℕ → ℕ
+  -- two labels, each by slot and colour + 1, are far enough apart; a label at a slot is clear of a site of height y
   pub far : ℕ → ℕ → ℕ → ℕ → Bool
   pub clear : ℕ → ℕ → Bool
+  -- a site's share of the length, by slot and height; the length of the backbone that a site at x opens
   pub share : ℕ → ℕ → ℕ
   pub lead : ℕ → ℕ
+  -- a site may open a label at a slot, by its colour's bound; and by the sites left of the label's tip
   pub may : Point → ℕ → Bool
   pub tip : Point → ℕ → Bool
+  -- how many marks there are; the mark that a site leaves in its strip, by its slot; by its mark a strip holds a site to the label below
   pub kinds : ℕ
   pub turn : Point → ℕ → ℕ
   pub held : Strip → Point → Bool
+  -- what a label of a colour draws from the budget; the radices of the budget's digits
   pub drawOf : ℕ → ℕ
   pub radices : List ℕ
+  -- count and length as one cost
   pub word : ℕ → ℕ → ℕ
 
 module _ (P : Instance) where
@@ -97,7 +101,7 @@ module _ (P : Instance) where
       (record { a = p .a; ca = p .ca; b = suc k; cb = suc (s .c); d = turn s k } ∷ record { a = suc k; ca = suc (s .c); b = p .b; cb = p .cb; d = 0 } ∷ [])
       (record { a = p .a; ca = p .ca; b = p .b; cb = p .cb; d = turn s k } ∷ [])
 
-  -- the table and its sharing: `T (rulesOf P)`, `Rest (rulesOf P)`; their equations are in theory's Plan
+  -- the table and its sharing: `T (rulesOf P)`, `Rest (rulesOf P)`; their equations are in search's Plan
   abbrev pub rulesOf : Rules Strip Point
   rulesOf = record { top = top; m = m; below = below radices; inside = inside; cost = cost; draw = draw; children = children }
 

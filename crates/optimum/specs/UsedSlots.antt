@@ -1,9 +1,7 @@
--- The two-sided table and the walk that fixes the sites one by one: what the code follows. These are definitions, for any sheet;
--- `TwoSided.antt` has the sheet of a sheet. Assumes nothing.
-use mathlib.Core.Path.{_≡_}
+-- The two-sided table over used slots, and the walk that caps the sites one by one, for any instance; TwoSided.antt has a sheet's.
 use mathlib.Core.Bool.{Bool, true, false, cond, _&&_, _||_}
 use mathlib.Core.Option.{Option, none, some}
-use mathlib.Core.List.{List, [], _∷_}
+use mathlib.Core.List.{List}
 use Prim.Native.Nat.{ℕ, zero, suc, _+_, _*_, _-_, min}
 use lib.Dec.{ltb, leb, eqb}
 use Rattle.search.specs.Cost.{plus, first}
@@ -11,19 +9,23 @@ use Rattle.search.specs.Walk.{Process, best}
 use Rattle.search.specs.Radix.{digitOf, place}
 use Rattle.optimum.specs.Sums.{listing, sumTo}
 
--- top: "none"; each: what a label costs; unit: what a length of one costs; share: a site's share of the length, by its slot's height and its own; x: the sites' order, as a number; budget: the number whose digits are the bounds
+-- what the table and the walk ask of a sheet
 pub record Instance : Type 0 where
+  -- the cost that stands for none; how many slots, sites and colours; the gap
   pub top : ℕ
   pub m : ℕ
   pub n : ℕ
   pub colours : ℕ
   pub dist : ℕ
+  -- what a label costs, its backbone included; what a length of one costs; a site's share of the length, by its slot's height and its own
   pub each : ℕ
   pub unit : ℕ
   pub share : ℕ → ℕ → ℕ
+  -- the budget at the start, the radices of its digits, and which colours have no digit
   pub budget : ℕ
   pub radices : List ℕ
   pub unbounded : ℕ → Bool
+  -- a slot's height; a site's rank, height and colour
   pub height : ℕ → ℕ
   pub x : ℕ → ℕ
   pub y : ℕ → ℕ
@@ -31,7 +33,7 @@ pub record Instance : Type 0 where
 
 -- site i gets the cap p (0: none yet; k + 1: it may go to slots 0 to k)
 unfoldable pub put : (ℕ → ℕ) → ℕ → ℕ → ℕ → ℕ
-put fx i p j = cond (eqb j i) p (fx j)
+put caps i p j = cond (eqb j i) p (caps j)
 
 module _ (G : Instance) where
   open Instance G using (top, m, n, colours, dist, each, unit, share, budget, radices, unbounded, height, x, y, colour)
@@ -73,10 +75,10 @@ module _ (G : Instance) where
   draw zero = 0
   draw (suc c) = cond (unbounded c) 0 (place radices c)
 
-  module _ (fx : ℕ → ℕ) where
+  module _ (caps : ℕ → ℕ) where
     -- site i may go to the place p
     unfoldable pub allows : ℕ → ℕ → Bool
-    allows i p = eqb (fx i) 0 || leb p (fx i)
+    allows i p = eqb (caps i) 0 || leb p (caps i)
 
     -- site i in the strip between a (code ca) and b (code cb): to a, to b, the cheaper
     unfoldable pub upCost : (a ca b i : ℕ) → ℕ
@@ -121,25 +123,25 @@ module _ (G : Instance) where
     unfoldable pub T : (a ca v : ℕ) → ℕ
     T a ca v = below a (m - a) a ca v
 
-    -- the least cost with the caps of fx
+    -- the least cost with the caps of caps
     unfoldable pub value : ℕ
     value = T 0 0 budget
 
   -- THE WALK. The leftmost site without a cap among the first so many, or n
   unfoldable pub leftmost : (ℕ → ℕ) → ℕ → ℕ
-  leftmost fx zero = n
-  leftmost fx (suc c) = cond (eqb (fx c) 0 && (leb n (leftmost fx c) || ltb (x c) (x (leftmost fx c)))) c (leftmost fx c)
+  leftmost caps zero = n
+  leftmost caps (suc c) = cond (eqb (caps c) 0 && (leb n (leftmost caps c) || ltb (x c) (x (leftmost caps c)))) c (leftmost caps c)
 
   -- the lowest slot for which the least cost stays w if the site goes no further down
   unfoldable pub choose : (w : ℕ) → (ℕ → ℕ) → ℕ → ℕ
-  choose w fx i = first m (λ k. eqb (value (put fx i (suc k))) w)
+  choose w caps i = first m (λ k. eqb (value (put caps i (suc k))) w)
 
   unfoldable pub capAll : (w : ℕ) → ℕ → (ℕ → ℕ) → ℕ → ℕ
-  capAll w zero fx = fx
-  capAll w (suc f) fx = cond (ltb (leftmost fx n) n) (capAll w f (put fx (leftmost fx n) (suc (choose w fx (leftmost fx n))))) fx
+  capAll w zero caps = caps
+  capAll w (suc f) caps = cond (ltb (leftmost caps n) n) (capAll w f (put caps (leftmost caps n) (suc (choose w caps (leftmost caps n))))) caps
 
   unfoldable pub ties : (ℕ → ℕ) → List ℕ
-  ties fx = listing (λ i. fx i - 1) 0 n
+  ties caps = listing (λ i. caps i - 1) 0 n
 
   unfoldable pub answer : Option (List ℕ)
   answer = cond (ltb (value (λ i. 0)) top) (some (ties (capAll (value (λ i. 0)) n (λ i. 0)))) none

@@ -1,16 +1,14 @@
 -- What `read_sheet`'s answer says: its refusal, and each size of an accepted sheet. Assumes nothing.
 use mathlib.Core.Path.{_≡_, refl, sym, ap, _∙_}
-use mathlib.Core.List.{List, [], _∷_, _++_}
-use Prim.Native.Nat.{ℕ, zero, suc, _<_}
-use native.Mathlib.Omega.{arith}
+use mathlib.Core.List.{List}
+use Prim.Native.Nat.{ℕ}
 use lib.Dec.{eqb}
-use lib.ListN.{length, getD}
+use lib.ListN.{length}
 use borrow.Author.Tests.{eqb-true, eq-eqb}
 use Rattle.lists.proofs.Tests.{by-test}
-use Rattle.sheet.specs.Sheet.{Colour, productOf, sheetIn, sheetFault, workFor}
-use Rattle.reader.specs.declared.ColourSize.{ColourSize}
+use Rattle.sheet.specs.Sheet.{productOf, sheetIn, sheetFault, workFor}
 use Rattle.reader.specs.declared.Sizes.{Sizes}
-use Rattle.reader.specs.Read.{sizesOf, absent, eightOf, readOf, refusedOf, readPost}
+use Rattle.reader.specs.Read.{eightOf, readOf, refusedOf, readPost}
 
 -- its refusal is the sheet's
 pub refusal-is : (ws : List ℕ) (r : Sizes) → r ≡ readPost ws → r .refusal ≡ sheetFault ws
@@ -42,14 +40,3 @@ reading ws r e h =
       work = ap (λ (z : Sizes). z .work) q;
       eight = ap (λ (z : Sizes). z .colours) q;
     }
-
--- one of the eight colours, of those that the sheet has: its bound and its count of sites
-eight-from : (d : Colour) (cs : List Colour) (rest : List ColourSize) (i : ℕ) → i < length cs →
-    getD (sizesOf cs ++ rest) i absent ≡ record { bound = (getD cs i d) .bound; sites = (getD cs i d) .sites }
-unfolding sizesOf
-eight-from d [] rest i h = absurd (omega arith)
-eight-from d (c ∷ cs) rest zero h = refl
-eight-from d (c ∷ cs) rest (suc i) h = eight-from d cs rest i (omega arith)
-
-pub eight-at : (d : Colour) (cs : List Colour) (i : ℕ) → i < length cs → getD (eightOf cs) i absent ≡ record { bound = (getD cs i d) .bound; sites = (getD cs i d) .sites }
-eight-at d cs i h = eight-from d cs _ i h

@@ -21,11 +21,13 @@ use words::low_field;
 use words::same;
 use words::side_bit;
 
+#[repr(C)]
 pub struct ColourSize {
     pub bound: u8,
     pub sites: u8,
 }
 
+#[repr(C)]
 pub struct Sizes {
     pub refusal: u8,
     pub n: u8,

@@ -1,10 +1,9 @@
--- A larger budget never costs more: a strip that is none at the full budget is none at every budget. For any rules with laws.
--- Assumes nothing.
-use mathlib.Core.Path.{_≡_, refl, sym, ap, _∙_}
-use mathlib.Core.Bool.{Bool, true, false, cond}
+-- A larger budget never costs more, so a strip that is none at the full budget is none at every budget. For any rules with laws.
+use mathlib.Core.Path.{_≡_}
+use mathlib.Core.Bool.{Bool, true, cond}
 use mathlib.Core.List.{List, [], _∷_}
-use Prim.Native.Nat.{ℕ, zero, suc, _+_, _-_, _*_, _/_, _%_, _≤_, _<_}
-use native.Mathlib.Nat.{le-refl, mod-lt, div-lt-iff-lt-mul}
+use Prim.Native.Nat.{ℕ, _-_, _≤_, _<_}
+use native.Mathlib.Nat.{le-refl}
 use native.Mathlib.Omega.{arith}
 use Rattle.lists.proofs.Tests.{by-test}
 use Rattle.search.specs.Cost.{plus, least, least-le-top, least-le, least-most, plus-le, plus-mono, plus-comm}

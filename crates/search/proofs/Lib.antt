@@ -1,1 +1,4 @@
 pub mod Falls
+pub mod Digits
+pub mod Sums
+pub mod CappedSums

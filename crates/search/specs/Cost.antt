@@ -1,9 +1,8 @@
--- Costs: numbers up to `top`, which stands for "none". Sums saturate at it, so that `none` swallows what is added to it.
--- `least n f` is the least of f 0 .. f (n-1), and `first n t` the first k below n that passes the test t, or n.
--- Assumes nothing.
-use mathlib.Core.Path.{_≡_, refl, sym, ap, ap₂, _∙_, fun-ext}
+-- Costs: numbers up to `top`, which stands for none. Sums saturate at it, so that none swallows what is added to it. `least n f` is
+-- the least of f 0 .. f (n-1), and `first n t` the first k below n that passes the test t, or n.
+use mathlib.Core.Path.{_≡_, refl, ap, ap₂, _∙_, fun-ext}
 use mathlib.Core.Logic.{_⊎_, inl, inr}
-use mathlib.Core.Bool.{Bool, true, false, cond}
+use mathlib.Core.Bool.{Bool, true, cond}
 use Prim.Native.Nat.{ℕ, zero, suc, _+_, _≤_, _<_, min}
 use native.Mathlib.Nat.{eq-or-lt-of-le, le-of-suc-le-suc, not-suc-le-zero}
 use native.Mathlib.Omega.{arith}

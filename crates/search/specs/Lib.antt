@@ -5,3 +5,4 @@ pub mod Walk
 pub mod Share
 pub mod Radix
 pub mod Plan
+pub mod Sums

@@ -1,19 +1,17 @@
--- Theorems 3 and 4 together, for strips whose steps have a cost (top: not lawful) and draw on a budget that the strips share.
--- Assumes nothing but the record `Laws` (`Radix.antt` has the laws of `below` for budgets in mixed radix).
-use mathlib.Core.Path.{_≡_, refl, sym, ap, ap₂, _∙_, fun-ext}
+-- THEOREMS 3 and 4 at a budget, for strips whose steps have a cost (top: not lawful) and draw on a budget that the strips share. The
+-- record `Laws` is what they ask.
+use mathlib.Core.Path.{_≡_, refl, sym, ap, _∙_, fun-ext}
 use mathlib.Core.Logic.{_⊎_, inl, inr, _↔_}
 use mathlib.Core.Bool.{Bool, true, false, cond}
 use mathlib.Core.Option.{Option, none, some}
 use mathlib.Core.List.{List, [], _∷_, _++_}
-use Prim.Native.Nat.{ℕ, zero, suc, _+_, _-_, _≤_, _<_, min}
-use native.Mathlib.Nat.{le-refl}
+use Prim.Native.Nat.{ℕ, _-_, _≤_, _<_, min}
 use native.Mathlib.Omega.{arith}
 use lib.Dec.{eqb}
 use Rattle.lists.proofs.Tests.{by-test, by-either}
-use Rattle.search.specs.Cost.{plus, least, least-le-top, least-cong, top-plus, plus-le}
-use Rattle.search.specs.Semi.{Semiring, sum, prod, fold, fold-prod}
-use Rattle.search.specs.Share.{Sharing, conv, cheaper, never, just, conv-just, semiring, sum-at, prod-free, conv-le-top, conv-one, conv-comm}
-use Rattle.search.specs.Strips.{holders, oneIf, after, weigh, table, rest, run, slots, step, keeps, independent, table-in, table-out}
+use Rattle.search.specs.Cost.{plus, least, least-le-top, least-cong, top-plus}
+use Rattle.search.specs.Share.{Sharing, conv, cheaper, never, just, conv-just, semiring, sum-at, prod-free, conv-one, conv-comm}
+use Rattle.search.specs.Strips.{holders, oneIf, after, weigh, table, rest, run, keeps, independent, table-in}
 use Rattle.search.specs.Walk.{Process, best, answer, answerBy, answer-by, answer-first, answer-none, First, costOf}
 
 -- a list that holds something
@@ -123,12 +121,6 @@ module _ {Strip Site : Type 0} (G : Rules Strip Site) where
     pub Rest-two : (ss : List Site) (p q : Strip) (v : ℕ) → Rest ss (p ∷ q ∷ []) v ≡ conv top below (T ss p) (T ss q) v
     unfolding Rest T
     Rest-two ss p q v = ap (λ (f : ℕ → ℕ). conv top below (T ss p) f v) (fun-ext (λ w. Rest-one ss q w))
-
-    -- a loop over the strips that folds the tables from the left, from the first strip's
-    pub Rest-fold : (ss : List Site) (p : Strip) (L : List Strip) → Rest ss (p ∷ L) ≡ fold (conv top below) (T ss) (T ss p) L
-    unfolding Rest T
-    Rest-fold ss p L =
-        sym (fold-prod (semiring top below B) (T ss) L (T ss p) (conv-comm top below B (just top 0 0) (T ss p) ∙ fun-ext (λ w. Rest-one ss p w)))
 
     -- ---- the definition by steps, at a budget
 

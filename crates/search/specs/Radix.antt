@@ -1,13 +1,10 @@
 -- Budgets in mixed radix: a number v has a digit for each radix of a list, the lowest first, and what is left above them.
 -- w may be taken from v where each digit of w is at most v's. Any list of radices will do, 0 and 1 among them.
--- Assumes nothing.
-use mathlib.Core.Path.{_≡_, refl, sym, ap, ap₂, _∙_, subst}
-use mathlib.Core.Bool.{Bool, true, false, _&&_}
+use mathlib.Core.Path.{_≡_, refl, ap, _∙_}
+use mathlib.Core.Bool.{Bool, true, _&&_}
 use mathlib.Core.List.{List, [], _∷_}
 use Prim.Native.Nat.{ℕ, zero, suc, _+_, _-_, _*_, _/_, _%_, _≤_, _<_}
-use native.Mathlib.Nat.{div-add-mod', mul-le-mul-right, mod-lt, mod-zero, div-zero, zero-mod, zero-div, zero-lt-suc, mod-eq-of-lt, div-eq-of-lt, add-zero}
-use mathlib.Core.Logic.{_≢_}
-use lib.ListN.{length}
+use native.Mathlib.Nat.{div-add-mod', mul-le-mul-right, mod-lt, mod-zero, div-zero, zero-mod, zero-div, zero-lt-suc}
 use native.Mathlib.Omega.{arith}
 use lib.Dec.{leb}
 use lib.Arith.{digits-div, digits-mod}
@@ -93,7 +90,7 @@ sharing rs = record {
   less = less rs;
 }
 
--- ---- one digit of a budget, and what a step draws that takes one from it
+-- ---- one digit of a budget, and the number that has 1 at a digit
 
 unfoldable pub digitOf : List ℕ → ℕ → ℕ → ℕ
 digitOf [] c v = 0
@@ -104,11 +101,6 @@ unfoldable pub place : List ℕ → ℕ → ℕ
 place [] c = 0
 place (r ∷ rs) zero = 1
 place (r ∷ rs) (suc c) = place rs c * r
-
--- every radix is two at least: no digit is always 0
-unfoldable pub Wide : List ℕ → Type 0
-Wide [] = Unit
-Wide (r ∷ rs) = (1 < r) × Wide rs
 
 pub digit-le : (rs : List ℕ) (c w v : ℕ) → below rs w v ≡ true → digitOf rs c w ≤ digitOf rs c v
 unfolding digitOf
@@ -124,46 +116,3 @@ digit-sub (r ∷ rs) (suc c) w v h =
     let d = digit r rs w v h in
     let m = minus r w v (d .0) (fits rs (w / r) (v / r) (d .1)) in
     rw (m .1) (digit-sub rs c (w / r) (v / r) (d .1))
-
-one-mod : (r : ℕ) → 1 < r → 1 % r ≡ 1
-one-mod r h = mod-eq-of-lt h
-
-one-div : (r : ℕ) → 1 < r → 1 / r ≡ 0
-one-div r h = div-eq-of-lt h
-
-mul-mod : (q r : ℕ) → 0 < r → (q * r) % r ≡ 0
-mul-mod q r h = ap (λ (z : ℕ). z % r) (sym (add-zero (q * r))) ∙ digits-mod q h
-
-mul-div : (q r : ℕ) → 0 < r → (q * r) / r ≡ q
-mul-div q r h = ap (λ (z : ℕ). z / r) (sym (add-zero (q * r))) ∙ digits-div q h
-
--- a step may draw on a digit that is not 0
-pub place-below : (rs : List ℕ) (c v : ℕ) → Wide rs → 0 < digitOf rs c v → below rs (place rs c) v ≡ true
-unfolding digitOf place Wide
-place-below [] c v w h = nothing [] v
-place-below (r ∷ rs) zero v w h =
-    of-digit r rs 1 v (rw (one-mod r (w .0)) h) (rw (one-div r (w .0)) (nothing rs (v / r)))
-place-below (r ∷ rs) (suc c) v w h =
-    let pos : 0 < r = omega (arith, w .0) in
-    of-digit r rs (place rs c * r) v (rw (mul-mod (place rs c) r pos) (omega arith)) (rw (mul-div (place rs c) r pos) (place-below rs c (v / r) (w .1) h))
-
-digit-zero : (rs : List ℕ) (c : ℕ) → digitOf rs c 0 ≡ 0
-unfolding digitOf
-digit-zero [] c = refl
-digit-zero (r ∷ rs) zero = zero-mod r
-digit-zero (r ∷ rs) (suc c) = rw (zero-div r) (digit-zero rs c)
-
-pub place-same : (rs : List ℕ) (c : ℕ) → Wide rs → c < length rs → digitOf rs c (place rs c) ≡ 1
-unfolding digitOf place Wide
-place-same [] c w h = omega arith
-place-same (r ∷ rs) zero w h = one-mod r (w .0)
-place-same (r ∷ rs) (suc c) w h = rw (mul-div (place rs c) r (omega (arith, w .0))) (place-same rs c (w .1) (omega arith))
-
-pub place-other : (rs : List ℕ) (c d : ℕ) → Wide rs → c ≢ d → digitOf rs d (place rs c) ≡ 0
-unfolding digitOf place Wide
-place-other [] c d w h = refl
-place-other (r ∷ rs) zero zero w h = absurd (h refl)
-place-other (r ∷ rs) zero (suc d) w h = rw (one-div r (w .0)) (digit-zero rs d)
-place-other (r ∷ rs) (suc c) zero w h = mul-mod (place rs c) r (omega (arith, w .0))
-place-other (r ∷ rs) (suc c) (suc d) w h =
-    rw (mul-div (place rs c) r (omega (arith, w .0))) (place-other rs c d (w .1) (omega arith))

@@ -1,17 +1,15 @@
--- Sharing a budget. A budget is a number v; `below w v` says that w may be taken from v, which leaves v - w. `conv f g v` is
--- the least cost of sharing v between f and g. With it, and the least of two, the functions from budgets to costs are a
--- commutative semiring. Assumes nothing but the laws of `below`, the record `Sharing`.
-use mathlib.Core.Path.{_≡_, refl, sym, ap, ap₂, _∙_, fun-ext}
-use mathlib.Core.Logic.{_⊎_, inl, inr}
+-- Sharing a budget. `below w v` says that w may be taken from the budget v, which leaves v - w; `conv f g v` is the least cost of
+-- sharing v between f and g. With it, and the least of two, the functions from budgets to costs are a commutative semiring.
+use mathlib.Core.Path.{_≡_, refl, ap, _∙_, fun-ext}
 use mathlib.Core.Bool.{Bool, true, false, cond}
 use mathlib.Core.List.{List, [], _∷_}
-use Prim.Native.Nat.{ℕ, zero, suc, _+_, _-_, _≤_, _<_, min}
-use native.Mathlib.Nat.{le-antisymm, le-trans, le-of-eq, le-refl, sub-zero, zero-add}
+use Prim.Native.Nat.{ℕ, zero, suc, _+_, _-_, _≤_, min}
+use native.Mathlib.Nat.{le-antisymm, le-trans, le-refl, sub-zero, zero-add}
 use native.Mathlib.Omega.{arith}
 use lib.Dec.{eqb}
 use borrow.Author.Tests.{eqb-true, eqb-false, eq-eqb, ne-eqb}
 use Rattle.lists.proofs.Tests.{by-test, clash}
-use Rattle.search.specs.Cost.{plus, least, plus-comm, plus-assoc, plus-min, plus-top, top-plus, plus-le, plus-zero, plus-mono, least-le-top, least-le, least-most, least-cong, plus-least}
+use Rattle.search.specs.Cost.{plus, least, plus-comm, plus-assoc, plus-min, plus-top, top-plus, plus-le, plus-mono, least-le-top, least-le, least-most, plus-least}
 use Rattle.search.specs.Semi.{Semiring, sum, prod}
 
 -- what may be taken from what
@@ -68,14 +66,6 @@ module _ (top : ℕ) (below : ℕ → ℕ → Bool) (B : Sharing below) where
   pub conv-most : (f g : ℕ → ℕ) (v b : ℕ) → b ≤ top → ((w : ℕ) → below w v ≡ true → b ≤ plus top (f w) (g (v - w))) → b ≤ conv top below f g v
   unfolding conv
   conv-most f g v b h q = least-most top (suc v) _ b h (λ w l. by-test (below w v) (λ e. rw e (q w e)) (λ e. rw e h))
-
-  -- a loop may go over all numbers below any P that is more than the budget
-  pub conv-within : (f g : ℕ → ℕ) (v P : ℕ) → v < P → conv top below f g v ≡ least top P (λ w. cond (below w v) (plus top (f w) (g (v - w))) top)
-  conv-within f g v P h =
-      le-antisymm
-      (least-most top P _ _ (conv-le-top f g v) (λ w l. by-test (below w v) (λ e. rw e (conv-low f g v w e)) (λ e. rw e (conv-le-top f g v))))
-      (conv-most f g v _ (least-le-top top P _) (λ w e.
-      rw e at (least-le top P (λ w. cond (below w v) (plus top (f w) (g (v - w))) top) w (omega (arith, B .fits w v e)))))
 
   -- and so under a further cost
   pub plus-conv-most : (x : ℕ) (f g : ℕ → ℕ) (v b : ℕ) → b ≤ top → ((w : ℕ) → below w v ≡ true → b ≤ plus top x (plus top (f w) (g (v - w))))

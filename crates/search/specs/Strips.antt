@@ -1,14 +1,14 @@
--- Theorem 3: strips are independent. For any strips, sites, steps and costs: what a share of a budget costs is an element
--- of a commutative semiring. Assumes nothing.
+-- THEOREM 3: strips are independent. For any strips, sites, steps and costs: what a share of a budget costs is an element of a
+-- commutative semiring.
 use mathlib.Core.Path.{_≡_, refl, sym, ap, ap₂, _∙_}
 use mathlib.Core.Logic.{_⊎_, inl, inr}
 use mathlib.Core.Bool.{Bool, true, false, cond}
 use mathlib.Core.List.{List, [], _∷_, _++_}
-use Prim.Native.Nat.{ℕ, zero, suc, _+_}
+use Prim.Native.Nat.{ℕ, suc, _+_}
 use native.Mathlib.Nat.{zero-add, add-assoc}
 use native.Mathlib.Omega.{arith}
 use Rattle.lists.proofs.Tests.{by-test, by-either}
-use Rattle.search.specs.Semi.{Semiring, sum, prod, sum-cong, mul-sum, sum-mul, one-prod, prod-append, swap}
+use Rattle.search.specs.Semi.{Semiring, sum, prod, sum-cong, mul-sum, sum-mul, prod-append, swap}
 
 -- 1 where the test passes
 abbrev pub oneIf : Bool → ℕ

@@ -1,16 +1,16 @@
--- Theorem 4: the walk gives the first. For any states, sites, steps and costs. Assumes nothing.
+-- THEOREM 4: the walk gives the first. For any states, sites, steps and costs.
 use mathlib.Core.Path.{_≡_, refl, sym, ap, ap₂, _∙_}
 use mathlib.Core.Logic.{_⊎_, inl, inr, _↔_}
-use mathlib.Core.Bool.{Bool, true, false, cond}
+use mathlib.Core.Bool.{cond}
 use mathlib.Core.Option.{Option, none, some}
 use mathlib.Core.List.{List, [], _∷_}
-use Prim.Native.Nat.{ℕ, zero, suc, _+_, _≤_, _<_, min}
-use native.Mathlib.Nat.{eq-or-lt-of-le, le-antisymm, le-trans, le-of-eq}
+use Prim.Native.Nat.{ℕ, _≤_, _<_, min}
+use native.Mathlib.Nat.{eq-or-lt-of-le, le-trans}
 use native.Mathlib.Omega.{arith}
 use lib.Dec.{eqb, ltb}
-use borrow.Author.Tests.{eqb-true, eq-eqb, ltb-true, ltb-false, lt-ltb, le-ltb}
+use borrow.Author.Tests.{eqb-true, eq-eqb, ltb-true, lt-ltb, le-ltb}
 use Rattle.lists.proofs.Tests.{by-test, by-order, by-either}
-use Rattle.search.specs.Cost.{plus, least, first, plus-le, plus-mono, plus-cancel, plus-below, least-le-top, least-le, least-most, least-is, first-le, first-is, first-cong, top-plus}
+use Rattle.search.specs.Cost.{plus, least, first, plus-le, plus-mono, plus-cancel, plus-below, least-le-top, least-le, least-is, first-le, first-is, first-cong}
 
 -- js is ks, or is smaller at the first place where they differ
 unfoldable pub Before : List ℕ → List ℕ → Type 0
@@ -177,41 +177,6 @@ module _ {X Site : Type 0} (G : Process X Site) where
         (λ h. let q : some (walk x ss) ≡ none = rw (lt-ltb (best x ss) top h) at e in let z : _≡_ {A = ℕ} 0 1 = cc in omega arith),
     λ h. rw (le-ltb (best x ss) top (omega (arith, walk-cost ss x, h (walk x ss)))),
   )
-
-  -- ---- saturated costs and true ones
-
-  -- each slot is one of the m, and its step is lawful
-  unfoldable pub Lawful : X → List Site → List ℕ → Type 0
-  Lawful x [] [] = Unit
-  Lawful x [] (k ∷ ks) = ⊥
-  Lawful x (s ∷ ss) [] = ⊥
-  Lawful x (s ∷ ss) (k ∷ ks) = (k < m) × (price x s k < top) × Lawful (next x s k) ss ks
-
-  -- the sum of the steps' costs and of the last state's
-  unfoldable pub total : X → List Site → List ℕ → ℕ
-  total x [] ks = final x
-  total x (s ∷ ss) [] = 0
-  total x (s ∷ ss) (k ∷ ks) = price x s k + total (next x s k) ss ks
-
-  -- a lawful sequence costs its total, up to none; any other costs none
-  pub lawful-cost : (ss : List Site) (x : X) (ks : List ℕ) → Lawful x ss ks → costOf x ss ks ≡ min (total x ss ks) top
-  unfolding Lawful costOf total plus
-  lawful-cost [] x [] h = refl
-  lawful-cost [] x (k ∷ ks) h = absurd h
-  lawful-cost (s ∷ ss) x [] h = absurd h
-  lawful-cost (s ∷ ss) x (k ∷ ks) h =
-      let ih = lawful-cost ss (next x s k) ks (h .2) in
-      rw (lt-ltb k m (h .0)) (omega arith)
-
-  pub cost-lawful : (ss : List Site) (x : X) (ks : List ℕ) → costOf x ss ks < top → Lawful x ss ks
-  unfolding Lawful costOf
-  cost-lawful [] x [] h = tt
-  cost-lawful [] x (k ∷ ks) h = omega arith
-  cost-lawful (s ∷ ss) x [] h = omega arith
-  cost-lawful (s ∷ ss) x (k ∷ ks) h =
-      by-order m k
-      (λ l. absurd (let q : top < top = rw (le-ltb k m l) at h in omega arith))
-      (λ l. let b = plus-below top _ _ (rw (lt-ltb k m l) at h) in (l, b .0, cost-lawful ss (next x s k) ks (b .1)))
 
   -- ---- a walk by another way to find the least cost, which need be right only at the states that are met
 

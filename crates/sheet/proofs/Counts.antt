@@ -47,8 +47,3 @@ count-drop k (suc i) (w ∷ ws) = by-test (eqb (kindOf w) k) (λ e. rw e (omega 
 
 pub run-at : (s : List ℕ) (i : ℕ) → sitesRun (drop i s) ≤ countKind 4 s
 run-at s i = omega (arith, run-le (drop i s), count-drop 4 i s)
-
-pub run-length : (ws : List ℕ) → sitesRun ws ≤ length ws
-unfolding sitesRun
-run-length [] = omega arith
-run-length (w ∷ ws) = by-test (eqb (kindOf w) 4) (λ e. rw e (omega (arith, run-length ws))) (λ e. rw e (omega arith))

@@ -117,9 +117,13 @@ rising (x ∷ y ∷ xs) = ltb x y && rising (y ∷ xs)
 unfoldable pub rankOf : Site → ℕ
 rankOf s = s .x
 
+-- a number above every x, y, height and width: they have 14 bits (2^14)
+abbrev pub numberTop : ℕ
+numberTop = 16384
+
 -- a number above every rank
 abbrev pub rankTop : ℕ
-rankTop = 16384
+rankTop = numberTop
 
 -- some site has this rank
 unfoldable pub hasRank : ℕ → List Site → Bool

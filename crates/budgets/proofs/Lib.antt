@@ -1,0 +1,3 @@
+pub mod Sharing
+mod Lists
+mod Bits

@@ -1,0 +1,29 @@
+use mathlib.Core.Path.{_≡_, refl, ap, sym, _∙_}
+use mathlib.Core.List.{List, [], _∷_, _++_}
+use mathlib.Core.Logic.{⊎-elim}
+use Prim.Native.Nat.{ℕ, zero, suc, _+_, _-_, _*_, _<_, _≤_}
+use native.Mathlib.Omega.{arith}
+use native.Mathlib.Numerals.{add-one}
+use lib.ListN.{length, getD, take, drop, set, length-set}
+use borrow.Author.Tests.{eq-eqb, ne-eqb, lt-ltb, le-ltb, le-leb, lt-leb}
+use borrow.Author.Needs.{needs}
+use Rattle.budgets.proofs.counted.Statement.{statement}
+use Rattle.budgets.proofs.counted.Tie as tie
+use Rattle.budgets.proofs.counted.Reads as reads
+use Rattle.budgets.proofs.counted.Lts as lts
+
+-- src/lib.rt:34:16
+add-result : tie.Need-add-result
+add-result c = search needs
+
+-- src/lib.rt:34:9
+returns : tie.Need-returns
+returns c =
+    rw (c .if1 .taken)
+
+-- src/lib.rt:29:1
+returns-2 : tie.Need-returns-2
+returns-2 c = search needs
+
+pub counted-spec : {M : Type 1} → statement M
+counted-spec = tie.close (tie.spec add-result returns returns-2)

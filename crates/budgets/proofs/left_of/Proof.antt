@@ -1,0 +1,50 @@
+use mathlib.Core.Bool.{true, false}
+use Rattle.search.specs.Radix.{below, sharing}
+use mathlib.Core.Path.{_≡_, refl, ap, sym, _∙_}
+use mathlib.Core.List.{List, [], _∷_, _++_}
+use mathlib.Core.Logic.{⊎-elim}
+use Prim.Native.Nat.{ℕ, zero, suc, _+_, _-_, _*_, _<_, _≤_}
+use native.Mathlib.Omega.{arith}
+use native.Mathlib.Numerals.{add-one}
+use lib.ListN.{length, getD, take, drop, set, length-set}
+use borrow.Author.Tests.{eq-eqb, ne-eqb, lt-ltb, le-ltb, le-leb, lt-leb}
+use borrow.Author.Needs.{needs}
+use Rattle.budgets.proofs.left_of.Statement.{statement}
+use Rattle.budgets.proofs.left_of.Tie as tie
+use Rattle.budgets.proofs.left_of.Reads as reads
+use Rattle.budgets.proofs.left_of.Lts as lts
+use Rattle.budgets.proofs.is_below.Reads as is-below-reads
+
+-- the draw may be taken, so it is at most the budget
+yes : (c : tie.Then1) → below (c .before .before .before .args .radices .now) (c .before .before .before .args .draw) (c .before .before .before .args .v) ≡ true
+yes c = sym (c .before .is-below .ensures) ∙ c .if1 .taken
+
+low : (c : tie.Then1) → (c .before .before .before .args .draw ≤ c .before .before .before .args .v) × (c .before .before .before .args .v < 256)
+low c = (sharing _ .fits _ _ (yes c), omega (arith, c .before .before .before .fits .v))
+
+-- src/lib.rt:150:8
+is-below-requires : tie.Need-is-below-requires
+is-below-requires c κs = search needs
+
+-- src/lib.rt:151:20
+cast-result : tie.Need-cast-result
+cast-result c =
+    omega (arith, low c)
+
+-- src/lib.rt:151:16
+sub-result : tie.Need-sub-result
+sub-result c =
+    omega (arith, low c)
+
+-- src/lib.rt:151:9
+returns : tie.Need-returns
+returns c =
+    rw (yes c)
+
+-- src/lib.rt:146:1
+returns-2 : tie.Need-returns-2
+returns-2 c =
+    rw (sym (c .before .is-below .ensures) ∙ c .if1 .left)
+
+pub left-of-spec : {M : Type 1} → statement M
+left-of-spec = tie.close (tie.spec is-below-requires cast-result sub-result returns returns-2)

@@ -1,0 +1,84 @@
+use Rattle.budgets.specs.Budgets.{leftBy}
+use Rattle.budgets.proofs.Lists.{entries-more}
+use mathlib.Core.Path.{_≡_, refl, ap, sym, _∙_}
+use mathlib.Core.List.{List, [], _∷_, _++_}
+use mathlib.Core.Logic.{⊎-elim}
+use Prim.Native.Nat.{ℕ, zero, suc, _+_, _-_, _*_, _<_, _≤_}
+use native.Mathlib.Omega.{arith}
+use native.Mathlib.Numerals.{add-one}
+use lib.ListN.{length, getD, take, drop, set, length-set}
+use borrow.Author.Tests.{eq-eqb, ne-eqb, lt-ltb, le-ltb, le-leb, lt-leb}
+use borrow.Author.Needs.{needs}
+use Rattle.budgets.proofs.list_left.Statement.{statement}
+use Rattle.budgets.proofs.list_left.Tie as tie
+use Rattle.budgets.proofs.list_left.Reads as reads
+use Rattle.budgets.proofs.list_left.Lts as lts
+use Rattle.budgets.proofs.left_of.Reads as left-of-reads
+
+abbrev Inv-loop : tie.InvT-loop
+Inv-loop radices draw budgets left₀ v₀ left v = (length left ≡ length left₀) × (v ≤ budgets) × ((x : ℕ) → x < v → getD left x 0 ≡ leftBy radices draw x)
+
+abbrev μ-loop : tie.MeasureT-loop
+μ-loop radices draw budgets left₀ v₀ left v = budgets - v
+
+-- src/lib.rt:163:5
+loop-holds : tie.Need-loop-holds Inv-loop μ-loop
+loop-holds c =
+    (refl, omega arith, λ x h. absurd (omega arith))
+
+-- src/lib.rt:164:42
+cast-left-of : tie.Need-cast-left-of Inv-loop μ-loop
+cast-left-of c = search needs
+
+-- src/lib.rt:164:19
+left-of-requires : tie.Need-left-of-requires Inv-loop μ-loop
+left-of-requires c κs = search needs
+
+-- src/lib.rt:164:9
+slice-write-left : tie.Need-slice-write-left Inv-loop μ-loop
+slice-write-left c = search needs
+
+-- src/lib.rt:165:9
+add-v : tie.Need-add-v Inv-loop μ-loop
+add-v c = search needs
+
+-- src/lib.rt:163:5
+loop-less : tie.Need-loop-less Inv-loop μ-loop
+loop-less c = search needs
+
+-- src/lib.rt:163:5
+loop-again : tie.Need-loop-again Inv-loop μ-loop
+loop-again c =
+    let l = c .before .before .loop in
+    let a = c .before .before .before .before .before .args in (
+      simp length-set (l .inv .0),
+      omega arith,
+      entries-more (λ (x n : ℕ). n ≡ leftBy (a .radices .now) (a .draw) x) (l .left) (l .v) (c .left-of .result) (omega (arith, l .inv .0, c .before .before .before .before .before .pre .1)) (l .inv .2) (c .left-of .ensures),
+    )
+
+-- src/lib.rt:157:1
+same-length : tie.Need-same-length Inv-loop μ-loop
+same-length c = search needs
+
+-- src/lib.rt:157:1
+returns : tie.Need-returns Inv-loop μ-loop
+returns c =
+    let l = c .before .loop in
+    let e : l .v ≡ c .before .before .before .before .args .budgets = omega arith in
+    rw e at (l .inv .2)
+
+pub list-left-spec : {M : Type 1} → statement M
+list-left-spec =
+    tie.close
+    (tie.spec
+    Inv-loop
+    μ-loop
+    loop-holds
+    cast-left-of
+    left-of-requires
+    slice-write-left
+    add-v
+    loop-less
+    loop-again
+    same-length
+    returns)

@@ -1,0 +1,99 @@
+use Rattle.budgets.proofs.Bits.{Masked, masked-none, masked-more, masked-fits, masked-all, bit-low}
+use mathlib.Core.Path.{_≡_, refl, ap, sym, _∙_}
+use mathlib.Core.List.{List, [], _∷_, _++_}
+use mathlib.Core.Logic.{⊎-elim}
+use Prim.Native.Nat.{ℕ, zero, suc, _+_, _-_, _*_, _<_, _≤_}
+use native.Mathlib.Omega.{arith}
+use native.Mathlib.Numerals.{add-one}
+use lib.ListN.{length, getD, take, drop, set, length-set}
+use borrow.Author.Tests.{eq-eqb, ne-eqb, lt-ltb, le-ltb, le-leb, lt-leb}
+use borrow.Author.Needs.{needs}
+use Rattle.budgets.proofs.mask_below.Statement.{statement}
+use Rattle.budgets.proofs.mask_below.Tie as tie
+use Rattle.budgets.proofs.mask_below.Reads as reads
+use Rattle.budgets.proofs.mask_below.Lts as lts
+use Rattle.budgets.proofs.bit_of.Reads as bit-of-reads
+use Rattle.budgets.proofs.is_below.Reads as is-below-reads
+
+abbrev Inv-loop : tie.InvT-loop
+Inv-loop radices v mask₀ w₀ mask w = (w ≤ v + 1) × Masked radices v w mask
+
+abbrev μ-loop : tie.MeasureT-loop
+μ-loop radices v mask₀ w₀ mask w = w
+
+-- there is room for one bit more
+fits : (c : tie.In-loop Inv-loop μ-loop) → c .before .loop .mask < 9223372036854775808
+fits c =
+    let l = c .before .loop in
+    let a = c .before .before .before .args in
+    let e : l .w ≡ l .w - 1 + 1 = omega arith in
+    masked-fits (a .radices .now) (a .v) (l .w - 1) (l .mask) (c .before .before .before .pre .1) (omega arith) (rw e at (l .inv .1))
+
+-- src/lib.rt:124:17
+add-w : tie.Need-add-w Inv-loop μ-loop
+add-w c = search needs
+
+-- src/lib.rt:125:5
+loop-holds : tie.Need-loop-holds Inv-loop μ-loop
+loop-holds c =
+    (omega arith, masked-none _ _)
+
+-- src/lib.rt:126:9
+sub-w : tie.Need-sub-w Inv-loop μ-loop
+sub-w c = search needs
+
+-- src/lib.rt:127:16
+mul-mask : tie.Need-mul-mask Inv-loop μ-loop
+mul-mask c =
+    omega (arith, fits c)
+
+-- src/lib.rt:127:34
+is-below-requires : tie.Need-is-below-requires Inv-loop μ-loop
+is-below-requires c κs = search needs
+
+-- src/lib.rt:127:27
+bit-of-requires : tie.Need-bit-of-requires Inv-loop μ-loop
+bit-of-requires c κs = search needs
+
+-- src/lib.rt:127:16
+add-mask : tie.Need-add-mask Inv-loop μ-loop
+add-mask c =
+    omega (arith, fits (c .before .before), c .bit-of .ensures, bit-low (c .before .is-below .result))
+
+-- src/lib.rt:125:5
+loop-less : tie.Need-loop-less Inv-loop μ-loop
+loop-less c = search needs
+
+-- src/lib.rt:125:5
+loop-again : tie.Need-loop-again Inv-loop μ-loop
+loop-again c =
+    let l = c .before .before .before .loop in
+    let a = c .before .before .before .before .before .args in
+    let e : l .w ≡ l .w - 1 + 1 = omega arith in (
+      omega arith,
+      rw (c .bit-of .ensures, c .before .is-below .ensures) (masked-more (a .radices .now) (a .v) (l .w - 1) (l .mask) (omega arith) (rw e at (l .inv .1))),
+    )
+
+-- src/lib.rt:118:1
+returns : tie.Need-returns Inv-loop μ-loop
+returns c =
+    let l = c .before .loop in
+    let e : l .w ≡ 0 = omega arith in
+    masked-all _ _ _ (rw e at (l .inv .1))
+
+pub mask-below-spec : {M : Type 1} → statement M
+mask-below-spec =
+    tie.close
+    (tie.spec
+    Inv-loop
+    μ-loop
+    add-w
+    loop-holds
+    sub-w
+    mul-mask
+    is-below-requires
+    bit-of-requires
+    add-mask
+    loop-less
+    loop-again
+    returns)

@@ -1,0 +1,55 @@
+-- What may be taken from each budget, in a list with 64 places for each, and the least cost of sharing a budget by that list. Definitions.
+use mathlib.Core.Path.{_≡_}
+use mathlib.Core.Logic.{_⊎_}
+use mathlib.Core.Bool.{Bool, true, false, cond}
+use mathlib.Core.List.{List, [], _∷_}
+use Prim.Native.Nat.{ℕ, zero, suc, _+_, _*_, _-_, _/_, _%_, _^_, _<_, _≤_}
+use lib.Dec.{eqb}
+use lib.ListN.{length, getD}
+use Rattle.search.specs.Cost.{plus, least}
+use Rattle.search.specs.Radix.{below}
+use Rattle.optimum.specs.OneSided.{topWord}
+
+-- no radix is 0
+abbrev pub Divides : List ℕ → Type 0
+Divides rs = (k : ℕ) → k < length rs → 0 < getD rs k 0
+
+-- outside of a row of an area nothing changed
+pub record Others (old new : List ℕ) (from count : ℕ) : Type 0 where
+  pub before : (i : ℕ) → i < from → getD new i 0 ≡ getD old i 0
+  pub after : (i : ℕ) → from + count ≤ i → getD new i 0 ≡ getD old i 0
+
+-- of the numbers below w, just those that may be taken from v are listed
+pub record Listed (rs : List ℕ) (v w count : ℕ) (at : ℕ → ℕ) : Type 0 where
+  pub few : count ≤ w
+  pub small : (i : ℕ) → i < count → at i < w
+  pub sound : (i : ℕ) → i < count → below rs (at i) v ≡ true
+  pub whole : (x : ℕ) → x < w → below rs x v ≡ true → (i : ℕ) × (i < count) × (at i ≡ x)
+
+-- the lists of all budgets below P: that of v has counts[v] numbers from place 64 v on
+abbrev pub partAt : (parts : List ℕ) → (v i : ℕ) → ℕ
+partAt parts v i = getD parts (v * 64 + i) 0
+
+-- what is listed for v is at most v
+pub record Within (P : ℕ) (parts counts : List ℕ) : Type 0 where
+  pub few : P ≤ 64
+  pub partsLong : length parts ≡ 4096
+  pub countsLong : length counts ≡ 64
+  pub counted : (v : ℕ) → v < P → getD counts v 0 ≤ 64
+  pub small : (v i : ℕ) → v < P → i < getD counts v 0 → partAt parts v i ≤ v
+
+pub record Splits (rs : List ℕ) (P : ℕ) (parts counts : List ℕ) : Type 0 where
+  pub within : Within P parts counts
+  pub listed : (v : ℕ) → v < P → Listed rs v (v + 1) (getD counts v 0) (partAt parts v)
+
+-- the least cost of sharing u between f and g, by the list
+abbrev pub shareBy : (parts counts : List ℕ) → (f g : ℕ → ℕ) → (u : ℕ) → ℕ
+shareBy parts counts f g u = least topWord (getD counts u 0) (λ i. plus topWord (f (partAt parts u i)) (g (u - partAt parts u i)))
+
+-- what a draw leaves of the budget v; 255 where it may not be drawn
+abbrev pub leftBy : (rs : List ℕ) → (draw v : ℕ) → ℕ
+leftBy rs e v = cond (below rs e v) (v - e) 255
+
+-- bit w of a mask
+abbrev pub bitOf : (mask w : ℕ) → Bool
+bitOf mask w = eqb (mask / 2 ^ w % 2) 1

@@ -1,0 +1,5 @@
+pub mod Places
+mod Written
+mod Lesser
+mod Terms
+pub mod Entries

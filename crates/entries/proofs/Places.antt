@@ -1,0 +1,70 @@
+-- Where rows stand: bounds on the products, and rows as digits. Assumes nothing.
+use mathlib.Core.Path.{_≡_, refl, sym, ap, ap₂, _∙_}
+use mathlib.Core.List.{List, [], _∷_}
+use Prim.Native.Nat.{ℕ, zero, suc, _+_, _*_, _-_, _/_, _%_, _<_, _≤_}
+use native.Mathlib.Nat.{div-add-mod', mod-lt, div-lt-iff-lt-mul, mul-le-mul}
+use native.Mathlib.Omega.{arith}
+use lib.Arith.{digits-div, digits-mod}
+use lib.ListN.{length, getD}
+use Rattle.optimum.specs.Strips.{Point, Strip}
+use Rattle.arrays.specs.declared.Measures.{Measures}
+use Rattle.entries.specs.Rows.{rowOf, rowsOf, stripOfRow, Lies, Ready, upperPart, lowerPart}
+
+pack-lt : (x y X B : ℕ) → x < X → y < B → x * B + y < X * B
+pack-lt x y X B h k =
+    let e : X ≡ suc x + (X - suc x) = omega arith in
+    omega (arith, ap (λ (z : ℕ). z * B) e)
+
+pub row-low : (m C : ℕ) (p : Strip) → Lies m C p → rowOf m C p < rowsOf m C
+row-low m C p r =
+    pack-lt _ (p .cb) _ (C + 1) (pack-lt _ (p .b) _ (m + 2) (pack-lt (p .a) (p .ca) (m + 2) (C + 1) (r .aLow) (r .caLow)) (r .bLow)) (r .cbLow)
+
+-- the products stay small
+bounded : (x y X B : ℕ) → x ≤ X → y ≤ B → x * y ≤ X * B
+bounded x y X B h k = mul-le-mul {n₂ = X} {m₂ = B} h k
+
+pub record Sized (m C n : ℕ) (p : Strip) : Type 0 where
+  pub first : p .a * (C + 1) ≤ 450
+  pub second : (p .a * (C + 1) + p .ca) * (m + 2) ≤ 22500
+  pub third : ((p .a * (C + 1) + p .ca) * (m + 2) + p .b) * (C + 1) ≤ 202500
+  pub place : rowOf m C p * n ≤ 12960000
+
+pub sized : (m C n : ℕ) (p : Strip) → m ≤ 48 → C ≤ 8 → n ≤ 64 → Lies m C p → Sized m C n p
+sized m C n p hm hc hn r =
+    let one : p .a * (C + 1) + p .ca < (m + 2) * (C + 1) = pack-lt (p .a) (p .ca) (m + 2) (C + 1) (r .aLow) (r .caLow) in
+    let a : (m + 2) * (C + 1) ≤ 50 * 9 = bounded (m + 2) (C + 1) 50 9 (omega arith) (omega arith) in
+    let two : (p .a * (C + 1) + p .ca) * (m + 2) + p .b < (m + 2) * (C + 1) * (m + 2) = pack-lt _ (p .b) _ (m + 2) one (r .bLow) in
+    let b : (m + 2) * (C + 1) * (m + 2) ≤ 450 * 50 = bounded _ (m + 2) 450 50 a (omega arith) in
+    let three : rowOf m C p < (m + 2) * (C + 1) * (m + 2) * (C + 1) = pack-lt _ (p .cb) _ (C + 1) two (r .cbLow) in
+    let c : (m + 2) * (C + 1) * (m + 2) * (C + 1) ≤ 22500 * 9 = bounded _ (C + 1) 22500 9 b (omega arith) in
+    record { first = omega arith; second = omega arith; third = omega arith; place = bounded (rowOf m C p) n 202500 64 (omega arith) hn }
+
+pub rows-few : (m C : ℕ) → m ≤ 48 → C ≤ 8 → rowsOf m C ≤ 202500
+rows-few m C hm hc =
+    let a : (m + 2) * (C + 1) ≤ 50 * 9 = bounded (m + 2) (C + 1) 50 9 (omega arith) (omega arith) in
+    let b : (m + 2) * (C + 1) * (m + 2) ≤ 450 * 50 = bounded _ (m + 2) 450 50 a (omega arith) in
+    bounded _ (C + 1) 22500 9 b (omega arith)
+
+-- a row's words stand in its level
+pub row-fits : (m C n : ℕ) (p : Strip) → Lies m C p → rowOf m C p * n + n ≤ rowsOf m C * n
+row-fits m C n p r =
+    let e : rowsOf m C ≡ suc (rowOf m C p) + (rowsOf m C - suc (rowOf m C p)) = omega (arith, row-low m C p r) in
+    omega (arith, ap (λ (z : ℕ). z * n) e)
+
+-- the parts that a label at slot k leaves of a strip
+pub upper-lies : (m C : ℕ) (p : Strip) (s : Point) (k : ℕ) → Lies m C p → s .c < C → k + 1 < p .b → Lies m C (upperPart p s k)
+upper-lies m C p s k r c h = record { aLow = r .aLow; caLow = r .caLow; bLow = omega (arith, r .bLow); cbLow = omega arith; dLow = refl }
+
+pub lower-lies : (m C : ℕ) (p : Strip) (s : Point) (k : ℕ) → Lies m C p → s .c < C → k + 1 < p .b → Lies m C (lowerPart p s k)
+lower-lies m C p s k r c h = record { aLow = omega (arith, r .bLow); caLow = omega arith; bLow = r .bLow; cbLow = r .cbLow; dLow = refl }
+
+-- the rows of both parts stand in the level below, and that of the strip itself
+module _ {q : Measures} {hs bs parts counts left : List ℕ} {size base low : ℕ} {s : Point} (r : Ready q hs bs parts counts left size base low s) where
+  pub own-fits : (p : Strip) → Lies (length hs) (q .colours) p → low + rowOf (length hs) (q .colours) p * q .budgets + q .budgets ≤ size
+  own-fits p l = omega (arith, r .within, row-fits (length hs) (q .colours) (q .budgets) p l)
+
+  pub upper-fits : (p : Strip) (k : ℕ) → Lies (length hs) (q .colours) p → k + 1 < p .b → low + rowOf (length hs) (q .colours) (upperPart p s k) * q .budgets + q .budgets ≤ size
+  upper-fits p k l h = own-fits (upperPart p s k) (upper-lies _ _ p s k l (r .stands .colourLow) h)
+
+  pub lower-fits : (p : Strip) (k : ℕ) → Lies (length hs) (q .colours) p → k + 1 < p .b → low + rowOf (length hs) (q .colours) (lowerPart p s k) * q .budgets + q .budgets ≤ size
+  lower-fits p k l h = own-fits (lowerPart p s k) (lower-lies _ _ p s k l (r .stands .colourLow) h)

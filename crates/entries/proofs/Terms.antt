@@ -1,0 +1,86 @@
+-- The terms of an entry, as the rows are written. Assumes nothing.
+use mathlib.Core.Path.{_≡_, refl, sym, ap, ap₂, _∙_, fun-ext}
+use mathlib.Core.Bool.{Bool, true, false, cond}
+use mathlib.Core.List.{List, [], _∷_}
+use Prim.Native.Nat.{ℕ, zero, suc, _+_, _*_, _-_, _<_, _≤_, min}
+use native.Mathlib.Omega.{arith}
+use native.Mathlib.Numerals.{add-one}
+use lib.ListN.{length, getD}
+use Rattle.search.specs.Cost.{plus, least}
+use Rattle.optimum.specs.Strips.{Point, Strip, Instance, inside}
+use Rattle.optimum.specs.OneSided.{topWord}
+use Rattle.arrays.specs.declared.Measures.{Measures}
+use Rattle.strips.specs.Strips.{instanceOn, gapLeft, siteOpens, openCost}
+use Rattle.budgets.specs.Budgets.{Others}
+use Rattle.entries.specs.Rows.{rowOf, rowIn, openBy, upperPart, lowerPart, joinLeast, slotTerm, slotsLeast, insideEntry, entryBy}
+
+module _ (q : Measures) (hs bs parts counts left : List ℕ) where
+  -- a slot too near an end of the strip
+  pub slot-closed : (row : Strip → ℕ → ℕ) (p : Strip) (s : Point) (k v old : ℕ) → old ≤ topWord → gapLeft (instanceOn q hs bs) p s k ≡ false
+      → old ≡ min old (slotTerm q hs bs parts counts left row p s k v)
+  unfolding slotTerm
+  slot-closed row p s k v old h g = rw g (omega arith)
+
+  -- a slot that leaves the gap
+  pub slot-open : (work : List ℕ) (low : ℕ) (p : Strip) (s : Point) (k v c upper lower : ℕ) → gapLeft (instanceOn q hs bs) p s k ≡ true → c ≡ openCost q hs s k
+      → upper ≡ low + rowOf (length hs) (q .colours) (upperPart p s k) * q .budgets → lower ≡ low + rowOf (length hs) (q .colours) (lowerPart p s k) * q .budgets
+      → openBy parts counts (q .budgets) c (getD left v 0) (λ w. getD work (upper + w) 0) (λ w. getD work (lower + w) 0)
+      ≡ slotTerm q hs bs parts counts left (rowIn work low (length hs) (q .colours) (q .budgets)) p s k v
+  unfolding slotTerm
+  slot-open work low p s k v c upper lower g e f h = rw (g, e, f, h)
+
+  -- rows a level below do not change while a row is filled
+  pub same-rows : (old new : List ℕ) (base n low m C : ℕ) → base + n ≤ low → Others old new base n → rowIn new low m C n ≡ rowIn old low m C n
+  same-rows old new base n low m C h o = fun-ext (λ p. fun-ext (λ v. o .after (low + rowOf m C p * n + v) (omega arith)))
+
+  -- a row after so many of the slots between the strip's ends
+  pub record Tried (old new : List ℕ) (base low : ℕ) (p : Strip) (s : Point) (count : ℕ) : Type 0 where
+    pub long : length new ≡ length old
+    pub others : Others old new base (q .budgets)
+    pub row : (v : ℕ) → v < q .budgets → getD new (base + v) 0
+        ≡ min (getD old (base + v) 0) (slotsLeast q hs bs parts counts left (rowIn old low (length hs) (q .colours) (q .budgets)) p s count v)
+
+  pub tried-none : (old : List ℕ) (base low : ℕ) (p : Strip) (s : Point) → ((i : ℕ) → getD old i 0 ≤ topWord) → Tried old old base low p s 0
+  unfolding least
+  tried-none old base low p s h = record { long = refl; others = record { before = λ i l. refl; after = λ i l. refl }; row = λ v l. omega (arith, h (base + v)) }
+
+  pub tried-more : (old new last : List ℕ) (base low : ℕ) (p : Strip) (s : Point) (count : ℕ) → base + q .budgets ≤ low → Tried old new base low p s count
+      → length last ≡ length new → Others new last base (q .budgets)
+      → ((v : ℕ) → v < q .budgets → getD last (base + v) 0
+      ≡ min (getD new (base + v) 0) (slotTerm q hs bs parts counts left (rowIn new low (length hs) (q .colours) (q .budgets)) p s (p .a + count) v))
+      → Tried old last base low p s (count + 1)
+  unfolding least
+  tried-more old new last base low p s count h t l o f = record {
+    long = l ∙ t .long;
+    others = record { before = λ i k. o .before i k ∙ t .others .before i k; after = λ i k. o .after i k ∙ t .others .after i k };
+    row = λ v k.
+        let g = f v k ∙ ap₂ (λ (x : ℕ) (r : Strip → ℕ → ℕ). min x (slotTerm q hs bs parts counts left r p s (p .a + count) v)) (t .row v k) (same-rows old new base (q .budgets) low (length hs) (q .colours) h (t .others)) in
+        rw add-one (g ∙ omega arith);
+  }
+
+  -- the row of a strip that the site lies outside; that of one in which it may only join; that of one in which it may open a label
+  pub row-copied : (old new : List ℕ) (base low same : ℕ) (p : Strip) (s : Point) → inside (instanceOn q hs bs) p s ≡ false
+      → same ≡ low + rowOf (length hs) (q .colours) p * q .budgets → ((v : ℕ) → v < q .budgets → getD new (base + v) 0 ≡ getD old (same + v) 0)
+      → (v : ℕ) → v < q .budgets → getD new (base + v) 0 ≡ entryBy q hs bs parts counts left (rowIn old low (length hs) (q .colours) (q .budgets)) p s v
+  unfolding entryBy
+  row-copied old new base low same p s e f g v h = rw e (g v h ∙ ap (λ (z : ℕ). getD old (z + v) 0) f)
+
+  pub row-joined : (old new : List ℕ) (base low same c : ℕ) (p : Strip) (s : Point) → inside (instanceOn q hs bs) p s ≡ true → siteOpens (instanceOn q hs bs) p s ≡ false
+      → c ≡ joinLeast q hs bs p s → same ≡ low + rowOf (length hs) (q .colours) p * q .budgets
+      → ((v : ℕ) → v < q .budgets → getD new (base + v) 0 ≡ plus topWord c (getD old (same + v) 0))
+      → (v : ℕ) → v < q .budgets → getD new (base + v) 0 ≡ entryBy q hs bs parts counts left (rowIn old low (length hs) (q .colours) (q .budgets)) p s v
+  unfolding entryBy insideEntry plus
+  row-joined old new base low same c p s e o d f g v h =
+      rw (e, o) (g v h ∙ ap₂ (λ (x z : ℕ). min (x + getD old (z + v) 0) topWord) d f ∙ omega arith)
+
+  pub row-opened : (old mid new : List ℕ) (base low same c : ℕ) (p : Strip) (s : Point) → base + q .budgets ≤ low
+      → inside (instanceOn q hs bs) p s ≡ true → siteOpens (instanceOn q hs bs) p s ≡ true
+      → c ≡ joinLeast q hs bs p s → same ≡ low + rowOf (length hs) (q .colours) p * q .budgets → Others old mid base (q .budgets)
+      → ((v : ℕ) → v < q .budgets → getD mid (base + v) 0 ≡ plus topWord c (getD old (same + v) 0))
+      → ((v : ℕ) → v < q .budgets → getD new (base + v) 0
+      ≡ min (getD mid (base + v) 0) (slotsLeast q hs bs parts counts left (rowIn mid low (length hs) (q .colours) (q .budgets)) p s (p .b - 1 - p .a) v))
+      → (v : ℕ) → v < q .budgets → getD new (base + v) 0 ≡ entryBy q hs bs parts counts left (rowIn old low (length hs) (q .colours) (q .budgets)) p s v
+  unfolding entryBy insideEntry
+  row-opened old mid new base low same c p s b e o d f others g k v h =
+      let start : getD mid (base + v) 0 ≡ plus topWord (joinLeast q hs bs p s) (rowIn old low (length hs) (q .colours) (q .budgets) p v) = g v h ∙ ap₂ (λ (x z : ℕ). plus topWord x (getD old (z + v) 0)) d f in
+      rw (e, o) (k v h ∙ ap₂ (λ (x : ℕ) (r : Strip → ℕ → ℕ). min x (slotsLeast q hs bs parts counts left r p s (p .b - 1 - p .a) v)) start (same-rows old mid base (q .budgets) low (length hs) (q .colours) b others))

@@ -1,0 +1,150 @@
+use mathlib.Core.Bool.{true, false}
+use Rattle.lists.proofs.Tests.{not-e, not-f}
+use Rattle.optimum.specs.OneSided.{topWord}
+use Rattle.strips.specs.Strips.{stripOf, pointOf}
+use Rattle.budgets.specs.Budgets.{Others}
+use Rattle.entries.proofs.Places.{own-fits}
+use Rattle.entries.proofs.Terms.{row-copied, row-joined, row-opened}
+use mathlib.Core.Path.{_≡_, refl, ap, sym, _∙_}
+use mathlib.Core.List.{List, [], _∷_, _++_}
+use mathlib.Core.Logic.{⊎-elim}
+use Prim.Native.Nat.{ℕ, zero, suc, _+_, _-_, _*_, _<_, _≤_, min}
+use native.Mathlib.Omega.{arith}
+use native.Mathlib.Numerals.{add-one}
+use lib.ListN.{length, getD, take, drop, set, length-set}
+use borrow.Author.Tests.{eq-eqb, ne-eqb, lt-ltb, le-ltb, le-leb, lt-leb}
+use borrow.Author.Needs.{needs}
+use Rattle.entries.proofs.fill_row.Statement.{statement}
+use Rattle.entries.proofs.fill_row.Tie as tie
+use Rattle.entries.proofs.fill_row.Reads as reads
+use Rattle.entries.proofs.fill_row.Lts as lts
+use Rattle.strips.proofs.is_inside.Reads as is-inside-reads
+use Rattle.strips.proofs.site_opens.Reads as site-opens-reads
+use Rattle.entries.proofs.copy_row.Reads as copy-row-reads
+use Rattle.entries.proofs.join_least.Reads as join-least-reads
+use Rattle.entries.proofs.open_slots.Reads as open-slots-reads
+use Rattle.entries.proofs.row_place.Reads as row-place-reads
+use Rattle.entries.proofs.start_row.Reads as start-row-reads
+
+-- src/lib.rt:160:13
+cast-n : tie.Need-cast-n
+cast-n c = search needs
+
+-- src/lib.rt:161:22
+row-place-requires : tie.Need-row-place-requires
+row-place-requires c κs =
+    let f = c .before .before .before .before .before .before .before .pre .0 .framed in
+    ((f .slotsFew, f .coloursFew, f .budgetsFew), c .before .before .before .before .before .before .before .pre .1)
+
+-- src/lib.rt:161:16
+add-same : tie.Need-add-same
+add-same c =
+    let p = c .before .before .before .before .before .before .before .before .pre in
+    omega (arith, c .row-place .ensures, own-fits (p .0) (stripOf (c .before .before .before .before .before .before .before .before .args .p)) (p .1))
+
+-- src/lib.rt:162:9
+is-inside-requires : tie.Need-is-inside-requires
+is-inside-requires c κs = search needs
+
+-- src/lib.rt:163:9
+copy-row-requires : tie.Need-copy-row-requires
+copy-row-requires c κs =
+    let p = c .before .before .before .before .before .before .before .before .before .before .before .pre in
+    let e = c .before .before .before .row-place .ensures in
+    let f = own-fits (p .0) (stripOf (c .before .before .before .before .before .before .before .before .before .before .before .args .p)) (p .1) in
+    (omega (arith, p .0 .apart), omega arith)
+
+-- src/lib.rt:164:9
+same-length : tie.Need-same-length
+same-length c = search needs
+
+-- src/lib.rt:164:9
+returns : tie.Need-returns
+returns c =
+    let a = c .before .before .before .before .before .before .before .before .before .before .before .before .before .before .args in
+    let o = c .before .before .copy-row in
+    let g = sym (c .before .before .before .before .before .is-inside .ensures) ∙ not-f _ (c .before .before .before .before .if1 .taken) in
+    let f = ap (λ (z : ℕ). a .low + z) (c .before .before .before .before .before .before .row-place .ensures) in
+    (o .ensures .0, row-copied (a .q) (a .heights .now) (a .bounds .now) (a .parts .now) (a .counts .now) (a .left .now) (a .work .now) (o .last .0) (a .base) (a .low) _ (stripOf (a .p)) (pointOf (a .s)) g f (o .ensures .1))
+
+-- src/lib.rt:166:36
+join-least-requires : tie.Need-join-least-requires
+join-least-requires c κs =
+    let p = c .before .before .before .before .before .before .before .before .before .before .before .pre in
+    (p .0 .framed, (p .1, p .0 .stands))
+
+-- src/lib.rt:166:5
+start-row-requires : tie.Need-start-row-requires
+start-row-requires c κs =
+    let p = c .before .before .before .before .before .before .before .before .before .before .before .before .pre in
+    let e = c .before .before .before .before .row-place .ensures in
+    let f = own-fits (p .0) (stripOf (c .before .before .before .before .before .before .before .before .before .before .before .before .args .p)) (p .1) in
+    (omega (arith, p .0 .apart), omega arith)
+
+-- src/lib.rt:167:8
+site-opens-requires : tie.Need-site-opens-requires
+site-opens-requires c κs =
+    search needs
+
+-- src/lib.rt:168:9
+open-slots-requires : tie.Need-open-slots-requires
+open-slots-requires c κs =
+    let p = c .before .before .before .before .before .before .before .before .before .before .before .before .before .before .before .before .before .before .pre in
+    (rw (c .before .before .before .before .before .start-row .kept .0) (p .0), p .1)
+
+-- src/lib.rt:154:1
+same-length-2 : tie.Need-same-length-2
+same-length-2 c =
+    c .before .before .open-slots .kept .0 ∙ c .before .before .before .before .before .before .before .before .start-row .kept .0
+
+-- src/lib.rt:154:1
+returns-2 : tie.Need-returns-2
+returns-2 c =
+    let a = c .before .before .before .before .before .before .before .before .before .before .before .before .before .before .before .before .before .before .before .before .before .args in
+    let p = c .before .before .before .before .before .before .before .before .before .before .before .before .before .before .before .before .before .before .before .before .before .pre in
+    let r = c .before .before .before .before .before .before .before .before .start-row in
+    let o = c .before .before .open-slots in
+    let g = sym (c .before .before .before .before .before .before .before .before .before .before .before .before .is-inside .ensures) ∙ not-e _ (c .before .before .before .before .before .before .before .before .before .before .before .if1 .left) in
+    let h = sym (c .before .before .before .before .before .site-opens .ensures) ∙ c .before .before .before .before .if2 .taken in
+    let f = ap (λ (z : ℕ). a .low + z) (c .before .before .before .before .before .before .before .before .before .before .before .before .before .row-place .ensures) in (
+      record { before = λ i k. o .ensures .0 .before i k ∙ r .ensures .0 .before i k; after = λ i k. o .ensures .0 .after i k ∙ r .ensures .0 .after i k },
+      row-opened (a .q) (a .heights .now) (a .bounds .now) (a .parts .now) (a .counts .now) (a .left .now) (a .work .now) (r .last .0) (o .last .0) (a .base) (a .low) _ _ (stripOf (a .p)) (pointOf (a .s))
+          (p .0 .apart) g h (c .before .before .before .before .before .before .before .before .before .join-least .ensures) f (r .ensures .0) (r .ensures .1) (o .ensures .1),
+    )
+
+-- src/lib.rt:154:1
+same-length-3 : tie.Need-same-length-3
+same-length-3 c = search needs
+
+-- src/lib.rt:154:1
+returns-3 : tie.Need-returns-3
+returns-3 c =
+    let a = c .before .before .before .before .before .before .before .before .before .before .before .before .before .before .before .before .before .args in
+    let r = c .before .before .before .before .start-row in
+    let g = sym (c .before .before .before .before .before .before .before .before .is-inside .ensures) ∙ not-e _ (c .before .before .before .before .before .before .before .if1 .left) in
+    let h = sym (c .before .site-opens .ensures) ∙ c .if2 .left in
+    let f = ap (λ (z : ℕ). a .low + z) (c .before .before .before .before .before .before .before .before .before .row-place .ensures) in (
+      r .ensures .0,
+      row-joined (a .q) (a .heights .now) (a .bounds .now) (a .parts .now) (a .counts .now) (a .left .now) (a .work .now) (r .last .0) (a .base) (a .low) _ _ (stripOf (a .p)) (pointOf (a .s))
+          g h (c .before .before .before .before .before .join-least .ensures) f (r .ensures .1),
+    )
+
+pub fill-row-spec : {M : Type 1} → statement M
+fill-row-spec =
+    tie.close
+    (tie.spec
+    cast-n
+    row-place-requires
+    add-same
+    is-inside-requires
+    copy-row-requires
+    same-length
+    returns
+    join-least-requires
+    start-row-requires
+    site-opens-requires
+    open-slots-requires
+    same-length-2
+    returns-2
+    same-length-3
+    returns-3)

@@ -1,0 +1,56 @@
+use Rattle.entries.proofs.Lesser.{opened-past, opened-by}
+use mathlib.Core.Path.{_≡_, refl, ap, sym, _∙_}
+use mathlib.Core.List.{List, [], _∷_, _++_}
+use mathlib.Core.Logic.{⊎-elim}
+use Prim.Native.Nat.{ℕ, zero, suc, _+_, _-_, _*_, _<_, _≤_, min}
+use native.Mathlib.Omega.{arith}
+use native.Mathlib.Numerals.{add-one}
+use lib.ListN.{length, getD, take, drop, set, length-set}
+use borrow.Author.Tests.{eq-eqb, ne-eqb, lt-ltb, le-ltb, le-leb, lt-leb}
+use borrow.Author.Needs.{needs}
+use Rattle.entries.proofs.opened.Statement.{statement}
+use Rattle.entries.proofs.opened.Tie as tie
+use Rattle.entries.proofs.opened.Reads as reads
+use Rattle.entries.proofs.opened.Lts as lts
+use Rattle.budgets.proofs.least_share.Reads as least-share-reads
+
+-- src/lib.rt:80:9
+returns : tie.Need-returns
+returns c =
+    opened-past _ _ _ _ (omega (arith, c .before .before .before .before .fits .old)) (c .if1 .taken)
+
+-- src/lib.rt:82:30
+least-share-requires : tie.Need-least-share-requires
+least-share-requires c κs = search needs
+
+-- src/lib.rt:82:30
+cast-t : tie.Need-cast-t
+cast-t c = search needs
+
+-- src/lib.rt:82:13
+add-t : tie.Need-add-t
+add-t c = search needs
+
+-- src/lib.rt:84:16
+cast-result : tie.Need-cast-result
+cast-result c = search needs
+
+-- src/lib.rt:84:9
+returns-2 : tie.Need-returns-2
+returns-2 c =
+    let a = c .before .before .before .before .before .before .args in
+    let o : a .old ≤ 4294967295 = omega (arith, c .before .before .before .before .before .before .fits .old) in
+    let r : a .cost + c .before .least-share .result ≡ min (a .old) (a .cost + c .before .least-share .result) = omega arith in
+    r ∙ rw (c .before .least-share .ensures) (opened-by (a .old) (a .u) (a .n) (a .cost) _ o (c .before .before .if1 .left))
+
+-- src/lib.rt:74:1
+returns-3 : tie.Need-returns-3
+returns-3 c =
+    let a = c .before .before .before .before .before .before .args in
+    let o : a .old ≤ 4294967295 = omega (arith, c .before .before .before .before .before .before .fits .old) in
+    let r : a .old ≡ min (a .old) (a .cost + c .before .least-share .result) = omega arith in
+    r ∙ rw (c .before .least-share .ensures) (opened-by (a .old) (a .u) (a .n) (a .cost) _ o (c .before .before .if1 .left))
+
+pub opened-spec : {M : Type 1} → statement M
+opened-spec =
+    tie.close (tie.spec returns least-share-requires cast-t add-t cast-result returns-2 returns-3)

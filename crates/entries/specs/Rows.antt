@@ -1,0 +1,110 @@
+-- The table in the work area, row by row: a row has the entries of one strip, by budget. What is asked of the numbers, and an
+-- entry as code works it out from the rows a level below. Definitions.
+use mathlib.Core.Path.{_≡_}
+use mathlib.Core.Bool.{Bool, true, false, cond, _&&_}
+use mathlib.Core.List.{List, [], _∷_}
+use Prim.Native.Nat.{ℕ, zero, suc, _+_, _*_, _-_, _/_, _%_, _<_, _≤_, min}
+use lib.Dec.{ltb}
+use lib.ListN.{length, getD, drop}
+use Rattle.search.specs.Cost.{plus, least}
+use Rattle.optimum.specs.Strips.{Point, Strip, Instance, inside, joinsUp, joinsDown}
+use Rattle.optimum.specs.OneSided.{topWord}
+use Rattle.optimum.specs.Cells.{cellOf, stepCell}
+use Rattle.arrays.specs.declared.Measures.{Measures}
+use Rattle.strips.specs.Strips.{instanceOn, gapLeft, siteOpens, openCost, joinCost}
+use Rattle.budgets.specs.Budgets.{Within, shareBy}
+
+-- ---- where rows stand: m slots, C colours
+
+-- the number of a strip's row in its level; how many rows a level has; the strip of a row
+abbrev pub rowOf : (m C : ℕ) → Strip → ℕ
+rowOf m C p = ((p .a * (C + 1) + p .ca) * (m + 2) + p .b) * (C + 1) + p .cb
+
+abbrev pub rowsOf : (m C : ℕ) → ℕ
+rowsOf m C = (m + 2) * (C + 1) * (m + 2) * (C + 1)
+
+unfoldable pub stripOfRow : (m C : ℕ) → ℕ → Strip
+stripOfRow m C r =
+    record { a = r / (C + 1) / (m + 2) / (C + 1); ca = r / (C + 1) / (m + 2) % (C + 1); b = r / (C + 1) % (m + 2); cb = r % (C + 1); d = 0 }
+
+-- ---- what is asked of the numbers
+
+-- the measures, slots' heights and colours' bounds of a sheet
+pub record Framed (q : Measures) (heights bounds : List ℕ) : Type 0 where
+  pub slotsFew : length heights ≤ 48
+  pub coloursFew : q .colours ≤ 8
+  pub bounded : length bounds ≡ q .colours
+  pub budgetsFew : q .budgets ≤ 64
+  pub budgetsSome : 0 < q .budgets
+  pub narrow : q .width < 16384
+  pub heightLow : (k : ℕ) → getD heights k 0 < 16384
+
+-- a strip between edges or labels of the sheet
+pub record Lies (m C : ℕ) (p : Strip) : Type 0 where
+  pub aLow : p .a < m + 2
+  pub caLow : p .ca < C + 1
+  pub bLow : p .b < m + 2
+  pub cbLow : p .cb < C + 1
+  pub dLow : p .d ≡ 0
+
+-- a site of the sheet
+pub record Stands (C : ℕ) (s : Point) : Type 0 where
+  pub colourLow : s .c < C
+  pub yLow : s .y < 16384
+
+-- a row at the word `base` of an area of `size` words may be filled from the level that begins at the word `low`; lists of budgets
+pub record Ready (q : Measures) (heights bounds parts counts left : List ℕ) (size base low : ℕ) (s : Point) : Type 0 where
+  pub framed : Framed q heights bounds
+  pub listed : Within (q .budgets) parts counts
+  pub leftLong : q .budgets ≤ length left
+  pub stands : Stands (q .colours) s
+  pub apart : base + q .budgets ≤ low
+  pub within : low + rowsOf (length heights) (q .colours) * q .budgets ≤ size
+
+-- ---- an entry
+
+-- the words of a strip's row, in the level that begins at the word `low`; rows of n words
+abbrev pub rowIn : (work : List ℕ) → (low m C n : ℕ) → Strip → (v : ℕ) → ℕ
+rowIn work low m C n p v = getD work (low + rowOf m C p * n + v) 0
+
+-- the parts that a label at slot k leaves of a strip
+abbrev pub upperPart : Strip → Point → (k : ℕ) → Strip
+upperPart p s k = record { a = p .a; ca = p .ca; b = k + 1; cb = s .c + 1; d = 0 }
+
+abbrev pub lowerPart : Strip → Point → (k : ℕ) → Strip
+lowerPart p s k = record { a = k + 1; ca = s .c + 1; b = p .b; cb = p .cb; d = 0 }
+
+-- a label that costs c and leaves u of the budget, the rest shared between the rows f and g; none if u is no budget below n
+abbrev pub openBy : (parts counts : List ℕ) → (n c u : ℕ) → (f g : ℕ → ℕ) → ℕ
+openBy parts counts n c u f g = cond (ltb u n) (plus topWord c (shareBy parts counts f g u)) topWord
+
+-- the least that joining a label costs
+unfoldable pub joinLeast : Measures → (heights bounds : List ℕ) → Strip → Point → ℕ
+joinLeast q hs bs p s =
+    min (cond (ltb (p .a - 1) (length hs) && joinsUp (instanceOn q hs bs) p s (p .a - 1)) (joinCost q hs s (p .a - 1)) topWord)
+    (cond (joinsDown (instanceOn q hs bs) p s (p .b - 1)) (joinCost q hs s (p .b - 1)) topWord)
+
+module _ (q : Measures) (heights bounds parts counts left : List ℕ) (row : Strip → ℕ → ℕ) where
+  -- opening a label at slot k, which stands between the strip's ends
+  unfoldable pub slotTerm : Strip → Point → (k v : ℕ) → ℕ
+  slotTerm p s k v =
+      cond (gapLeft (instanceOn q heights bounds) p s k)
+      (openBy parts counts (q .budgets) (openCost q heights s k) (getD left v 0) (row (upperPart p s k)) (row (lowerPart p s k))) topWord
+
+  -- the first so many slots between the strip's ends
+  abbrev pub slotsLeast : Strip → Point → (count v : ℕ) → ℕ
+  slotsLeast p s n v = least topWord n (λ i. slotTerm p s (p .a + i) v)
+
+  unfoldable pub insideEntry : Strip → Point → (v : ℕ) → ℕ
+  insideEntry p s v =
+      min (plus topWord (joinLeast q heights bounds p s) (row p v))
+      (cond (siteOpens (instanceOn q heights bounds) p s) (slotsLeast p s (p .b - 1 - p .a) v) topWord)
+
+  -- the entry of the strip p at the budget v, where the site s comes next
+  unfoldable pub entryBy : Strip → Point → (v : ℕ) → ℕ
+  entryBy p s v = cond (inside (instanceOn q heights bounds) p s) (insideEntry p s v) (row p v)
+
+-- the same by the model, from the level that begins at the word `low`: C colours, budgets below R
+abbrev pub entryIn : (P : Instance) (C R : ℕ) → (work : List ℕ) → (low : ℕ) → Strip → Point → (v : ℕ) → ℕ
+entryIn P C R work low p s v =
+    cond (inside P p s) (least (P .top) (P .m) (λ k. stepCell P C R (drop low work) p s k v)) (getD (drop low work) (cellOf P C R p v) 0)

@@ -1,0 +1,301 @@
+// Fills one row of the one-sided table, a strip's entries by budget, from the rows of the level below.
+ghost use mathlib.Core.Path.{_≡_};
+ghost use Prim.Native.Nat.{ℕ, _+_, _-_, _*_, _<_, _≤_, min};
+ghost use lib.ListN.{length, getD, drop};
+ghost use Rattle.search.specs.Cost.{plus};
+ghost use Rattle.optimum.specs.OneSided.{topWord};
+ghost use Rattle.strips.specs.Strips.{stripOf, pointOf};
+ghost use Rattle.budgets.specs.Budgets.{Others, Within};
+ghost use Rattle.entries.specs.Rows.{rowOf, rowsOf, stripOfRow, Framed, Lies, Stands, Ready, rowIn, openBy, joinLeast, slotTerm, slotsLeast, entryBy};
+use arrays::Measures;
+use strips::Site;
+use strips::Strip;
+use words::NONE;
+use words::both;
+use words::choose;
+use words::lesser;
+use words::monus;
+
+// The place of a strip's row in its level.
+pub fn row_place(q: Measures, m: usize, p: Strip) -> usize
+    requires { ⌜ (m ≤ 48) × (q .colours ≤ 8) × (q .budgets ≤ 64) ⌝ }
+    requires { ⌜ Lies m (q .colours) (stripOf p) ⌝ }
+    ensures { λ r. ⌜ r ≡ rowOf m (q .colours) (stripOf p) * q .budgets ⌝ }
+{
+    let colours = (q.colours as usize) + 1;
+    let ends = m + 2;
+    let upper = (p.a as usize) * colours + (p.ca as usize);
+    let strip = (upper * ends + (p.b as usize)) * colours + (p.cb as usize);
+    strip * (q.budgets as usize)
+}
+
+// The strip of a row.
+pub fn strip_at(q: Measures, m: usize, row: usize) -> Strip
+    requires { ⌜ (m ≤ 48) × (q .colours ≤ 8) × (row < 202500) ⌝ }
+    ensures { λ r. ⌜ stripOf r ≡ stripOfRow m (q .colours) row ⌝ }
+{
+    let colours = q.colours + 1;
+    let ends = (m as u32) + 2;
+    let r = row as u32;
+    let t = r / colours;
+    let u = t / ends;
+    Strip {
+        a: u / colours,
+        ca: u % colours,
+        b: t % ends,
+        cb: r % colours,
+    }
+}
+
+// A row's n words are those of the row at `from`.
+fn copy_row(work: &mut [u32], base: usize, from: usize, n: usize)
+    requires { ⌜ (base + n ≤ from) × (from + n ≤ length (now work)) ⌝ }
+    ensures { λ _. ⌜ Others (now (work .entry)) (now (work .exit)) base n ⌝ }
+    ensures { λ _. ⌜ ((v : ℕ) → v < n → getD (now (work .exit)) (base + v) 0 ≡ getD (now (work .entry)) (from + v) 0) ⌝ }
+{
+    let mut v: usize = 0;
+    while v < n {
+        let t = work[from + v];
+        work[base + v] = t;
+        v += 1;
+    }
+}
+
+// A row's n words are those of the row at `from`, at a further cost.
+fn start_row(work: &mut [u32], base: usize, from: usize, n: usize, cost: u32)
+    requires { ⌜ (base + n ≤ from) × (from + n ≤ length (now work)) ⌝ }
+    ensures { λ _. ⌜ Others (now (work .entry)) (now (work .exit)) base n ⌝ }
+    ensures { λ _. ⌜ ((v : ℕ) → v < n → getD (now (work .exit)) (base + v) 0 ≡ plus topWord cost (getD (now (work .entry)) (from + v) 0)) ⌝ }
+{
+    let mut v: usize = 0;
+    while v < n {
+        let t = words::plus_of(cost, work[from + v]);
+        work[base + v] = t;
+        v += 1;
+    }
+}
+
+// The lesser of an entry and of opening a label that leaves u of the budget.
+fn opened(
+    old: u32,
+    work: &[u32],
+    parts: &[u8],
+    counts: &[u8],
+    upper: usize,
+    lower: usize,
+    n: usize,
+    cost: u32,
+    u: usize,
+) -> u32
+    requires { ⌜ Within n (now parts) (now counts) ⌝ }
+    requires { ⌜ (upper + n ≤ length (now work)) × (lower + n ≤ length (now work)) ⌝ }
+    ensures { λ r. ⌜ r ≡ min old (openBy (now (parts .entry)) (now (counts .entry)) n cost u (λ w. getD (now (work .entry)) (upper + w) 0) (λ w. getD (now (work .entry)) (lower + w) 0)) ⌝ }
+{
+    if n <= u {
+        return old;
+    }
+    let t = (cost as u64)
+        + (budgets::least_share(parts, counts, n, work, upper, work, lower, u) as u64);
+    if t < old as u64 {
+        return t as u32;
+    }
+    old
+}
+
+// Opens a label that costs `cost` in a row; `left` says what it leaves of each budget, which the rows at `upper` and `lower` share.
+fn open_row(
+    work: &mut [u32],
+    parts: &[u8],
+    counts: &[u8],
+    left: &[u8],
+    base: usize,
+    upper: usize,
+    lower: usize,
+    n: usize,
+    cost: u32,
+)
+    requires { ⌜ Within n (now parts) (now counts) ⌝ }
+    requires { ⌜ (n ≤ length (now left)) × (base + n ≤ upper) × (base + n ≤ lower) × (upper + n ≤ length (now work)) × (lower + n ≤ length (now work)) ⌝ }
+    ensures { λ _. ⌜ Others (now (work .entry)) (now (work .exit)) base n ⌝ }
+    ensures { λ _. ⌜ ((v : ℕ) → v < n → getD (now (work .exit)) (base + v) 0 ≡ min (getD (now (work .entry)) (base + v) 0) (openBy (now (parts .entry)) (now (counts .entry)) n cost (getD (now (left .entry)) v 0) (λ w. getD (now (work .entry)) (upper + w) 0) (λ w. getD (now (work .entry)) (lower + w) 0))) ⌝ }
+{
+    let mut v: usize = 0;
+    while v < n {
+        let u = left[v] as usize;
+        let t = opened(
+            work[base + v],
+            work,
+            parts,
+            counts,
+            upper,
+            lower,
+            n,
+            cost,
+            u,
+        );
+        work[base + v] = t;
+        v += 1;
+    }
+}
+
+// Opens a label at slot k, between the strip's ends, if both are far enough.
+fn open_slot(
+    work: &mut [u32],
+    q: Measures,
+    heights: &[u32],
+    bounds: &[u32],
+    parts: &[u8],
+    counts: &[u8],
+    left: &[u8],
+    p: Strip,
+    s: Site,
+    base: usize,
+    low: usize,
+    k: u32,
+)
+    requires { ⌜ Ready q (now heights) (now bounds) (now parts) (now counts) (now left) (length (now work)) base low (pointOf s) ⌝ }
+    requires { ⌜ Lies (length (now heights)) (q .colours) (stripOf p) × (k + 1 < p .b) ⌝ }
+    ensures { λ _. ⌜ Others (now (work .entry)) (now (work .exit)) base (q .budgets) ⌝ }
+    ensures { λ _. ⌜ ((v : ℕ) → v < q .budgets → getD (now (work .exit)) (base + v) 0 ≡ min (getD (now (work .entry)) (base + v) 0) (slotTerm q (now (heights .entry)) (now (bounds .entry)) (now (parts .entry)) (now (counts .entry)) (now (left .entry)) (rowIn (now (work .entry)) low (length (now (heights .entry))) (q .colours) (q .budgets)) (stripOf p) (pointOf s) k v)) ⌝ }
+{
+    if !strips::leaves_gap(q, heights, bounds, p, s, k) {
+        return;
+    }
+    let m = heights.len();
+    let c = s.c + 1;
+    let upper = low
+        + row_place(
+            q,
+            m,
+            Strip {
+                a: p.a,
+                ca: p.ca,
+                b: k + 1,
+                cb: c,
+            },
+        );
+    let lower = low
+        + row_place(
+            q,
+            m,
+            Strip {
+                a: k + 1,
+                ca: c,
+                b: p.b,
+                cb: p.cb,
+            },
+        );
+    let n = q.budgets as usize;
+    open_row(
+        work,
+        parts,
+        counts,
+        left,
+        base,
+        upper,
+        lower,
+        n,
+        strips::open_cost(q, heights, s, k),
+    );
+}
+
+// Opens a label at each slot between the strip's ends.
+fn open_slots(
+    work: &mut [u32],
+    q: Measures,
+    heights: &[u32],
+    bounds: &[u32],
+    parts: &[u8],
+    counts: &[u8],
+    left: &[u8],
+    p: Strip,
+    s: Site,
+    base: usize,
+    low: usize,
+)
+    requires { ⌜ Ready q (now heights) (now bounds) (now parts) (now counts) (now left) (length (now work)) base low (pointOf s) ⌝ }
+    requires { ⌜ Lies (length (now heights)) (q .colours) (stripOf p) ⌝ }
+    ensures { λ _. ⌜ Others (now (work .entry)) (now (work .exit)) base (q .budgets) ⌝ }
+    ensures { λ _. ⌜ ((v : ℕ) → v < q .budgets → getD (now (work .exit)) (base + v) 0 ≡ min (getD (now (work .entry)) (base + v) 0) (slotsLeast q (now (heights .entry)) (now (bounds .entry)) (now (parts .entry)) (now (counts .entry)) (now (left .entry)) (rowIn (now (work .entry)) low (length (now (heights .entry))) (q .colours) (q .budgets)) (stripOf p) (pointOf s) (p .b - 1 - p .a) v)) ⌝ }
+{
+    let end = monus(p.b, 1);
+    let mut k = p.a;
+    while k < end {
+        open_slot(
+            work,
+            q,
+            heights,
+            bounds,
+            parts,
+            counts,
+            left,
+            p,
+            s,
+            base,
+            low,
+            k,
+        );
+        k += 1;
+    }
+}
+
+// The least that joining a label costs.
+fn join_least(q: Measures, heights: &[u32], bounds: &[u32], p: Strip, s: Site) -> u32
+    requires { ⌜ Framed q (now heights) (now bounds) ⌝ }
+    requires { ⌜ Lies (length (now heights)) (q .colours) (stripOf p) × Stands (q .colours) (pointOf s) ⌝ }
+    ensures { λ r. ⌜ r ≡ joinLeast q (now (heights .entry)) (now (bounds .entry)) (stripOf p) (pointOf s) ⌝ }
+{
+    let up = monus(p.a, 1);
+    let down = monus(p.b, 1);
+    let slot = (up as usize) < heights.len();
+    let above = both(slot, strips::joins_up(q, heights, bounds, p, s, up));
+    let below = strips::joins_down(q, heights, bounds, p, s, down);
+    let rise = choose(above, strips::join_cost(q, heights, s, up), NONE);
+    lesser(
+        rise,
+        choose(below, strips::join_cost(q, heights, s, down), NONE),
+    )
+}
+
+// Fills the row of a strip from the level below.
+pub fn fill_row(
+    work: &mut [u32],
+    q: Measures,
+    heights: &[u32],
+    bounds: &[u32],
+    parts: &[u8],
+    counts: &[u8],
+    left: &[u8],
+    p: Strip,
+    s: Site,
+    base: usize,
+    low: usize,
+)
+    requires { ⌜ Ready q (now heights) (now bounds) (now parts) (now counts) (now left) (length (now work)) base low (pointOf s) ⌝ }
+    requires { ⌜ Lies (length (now heights)) (q .colours) (stripOf p) ⌝ }
+    ensures { λ _. ⌜ Others (now (work .entry)) (now (work .exit)) base (q .budgets) ⌝ }
+    ensures { λ _. ⌜ ((v : ℕ) → v < q .budgets → getD (now (work .exit)) (base + v) 0 ≡ entryBy q (now (heights .entry)) (now (bounds .entry)) (now (parts .entry)) (now (counts .entry)) (now (left .entry)) (rowIn (now (work .entry)) low (length (now (heights .entry))) (q .colours) (q .budgets)) (stripOf p) (pointOf s) v) ⌝ }
+{
+    let n = q.budgets as usize;
+    let same = low + row_place(q, heights.len(), p);
+    if !strips::is_inside(q, heights, bounds, p, s) {
+        copy_row(work, base, same, n);
+        return;
+    }
+    start_row(work, base, same, n, join_least(q, heights, bounds, p, s));
+    if strips::site_opens(q, heights, bounds, p, s) {
+        open_slots(
+            work,
+            q,
+            heights,
+            bounds,
+            parts,
+            counts,
+            left,
+            p,
+            s,
+            base,
+            low,
+        );
+    }
+}

@@ -1,0 +1,63 @@
+-- The models on document 01's starred examples, and on sheets that tell the answer from what a misreading gives.
+use mathlib.Core.Path.{_≡_}
+use mathlib.Core.Bool.{true}
+use mathlib.Core.List.{List, [], _∷_}
+use mathlib.Core.Option.{none, some}
+use Prim.Native.Nat.{ℕ}
+use Rattle.sheet.specs.Sheet.{sheetIn}
+use Rattle.labelling.specs.Layout.{brokenIn, isBetter}
+use Rattle.labelling.specs.Promise.{a, shortest, gapThree, gapFour, boundZero, headAlone, twoSided as twoSidedA}
+use Rattle.optimum.specs.OneSided.{oneSided}
+use Rattle.optimum.specs.TwoSided.{twoSided}
+
+-- the answer, and a layout that a misreading gives and rule r forbids
+abbrev pub Forbidden : (words right wrong : List ℕ) → (rule : ℕ) → Type 0
+Forbidden ws js ks r = (oneSided (sheetIn ws) ≡ some js) × (brokenIn (sheetIn ws) ks ≡ r)
+
+-- the answer, and a layout that a misreading gives, lawful and worse
+abbrev pub Worse : (words right wrong : List ℕ) → Type 0
+Worse ws js ks = (oneSided (sheetIn ws) ≡ some js) × (brokenIn (sheetIn ws) ks ≡ 0) × (isBetter (sheetIn ws) js ks ≡ true)
+
+-- the answer alone, where the misreading gives none
+abbrev pub Found : (words right : List ℕ) → Type 0
+Found ws js = oneSided (sheetIn ws) ≡ some js
+
+-- lengths rounded to tens at each cut: shortest, gap 3, width 9, slots 4 9, one colour of bound 2, sites (3,1) (7,6). Right: 11, wrong: 18
+abbrev pub roundedAtCuts : List ℕ
+roundedAtCuts = 335593481 ∷ 536870916 ∷ 536870921 ∷ 805306370 ∷ 1073790977 ∷ 1073856518 ∷ []
+
+-- rule 5 only against sites of other colours: shortest, gap 3, width 4, slots 0 3, one colour of bound 2, sites (2,6) (4,1)
+abbrev pub otherColoursOnly : List ℕ
+otherColoursOnly = 335593476 ∷ 536870912 ∷ 536870915 ∷ 805306370 ∷ 1073774598 ∷ 1073807361 ∷ []
+
+-- a backbone through a site on its own row: fewest, gap 1, width 4, slots 2 4, bounds 1 and 2, sites (0,0); (2,2)
+abbrev pub throughASite : List ℕ
+throughASite = 268451844 ∷ 536870914 ∷ 536870916 ∷ 805306369 ∷ 1073741824 ∷ 805306370 ∷ 1073774594 ∷ []
+
+-- the leftmost site tied well, the rest to the nearest: fewest, gap 2, width 4, slots 4 6, bound 2, sites (4,6) (1,4)
+abbrev pub restToNearest : List ℕ
+restToNearest = 268468228 ∷ 536870916 ∷ 536870918 ∷ 805306370 ∷ 1073807366 ∷ 1073758212 ∷ []
+
+-- the bound given to the upper part first: shortest, gap 2, width 5, slots 0 5 6 7, bound 2, sites (1,5) (5,8) (3,1). Right: 9, wrong: 10
+abbrev pub upperPartFirst : List ℕ
+upperPartFirst = 335577093 ∷ 536870912 ∷ 536870917 ∷ 536870918 ∷ 536870919 ∷ 805306370 ∷ 1073758213 ∷ 1073823752 ∷ 1073790977 ∷ []
+
+-- parts settled one by one, with equals on both sides of a shared bound: shortest, gap 1, width 4, slots 1 to 5, bound 2,
+-- sites (0,2) (1,2) (2,5) (4,0)
+abbrev pub equalsOnBothSides : List ℕ
+equalsOnBothSides =
+    335560708 ∷ 536870913 ∷ 536870914 ∷ 536870915 ∷ 536870916 ∷ 536870917 ∷ 805306370 ∷ 1073741826 ∷ 1073758210 ∷ 1073774597 ∷ 1073807360 ∷ []
+
+abbrev pub Telling : Type 0
+Telling =
+    Worse roundedAtCuts (0 ∷ 0 ∷ []) (1 ∷ 0 ∷ []) × Forbidden otherColoursOnly (1 ∷ 1 ∷ []) (1 ∷ 0 ∷ []) 5 × Forbidden throughASite (1 ∷ 0 ∷ []) (0 ∷ 1 ∷ []) 4 ×
+    Worse restToNearest (0 ∷ 0 ∷ []) (1 ∷ 0 ∷ []) × Worse upperPartFirst (1 ∷ 3 ∷ 1 ∷ []) (1 ∷ 1 ∷ 0 ∷ []) × Found equalsOnBothSides (1 ∷ 1 ∷ 1 ∷ 0 ∷ [])
+
+-- document 01's starred examples for the maker
+abbrev pub Starred : Type 0
+Starred =
+    (oneSided (sheetIn a) ≡ some (0 ∷ 0 ∷ 2 ∷ [])) × (oneSided (sheetIn shortest) ≡ some (0 ∷ 1 ∷ 2 ∷ [])) × (oneSided (sheetIn gapThree) ≡ some (2 ∷ 2 ∷ 0 ∷ [])) ×
+    (oneSided (sheetIn gapFour) ≡ none) × (oneSided (sheetIn boundZero) ≡ none) × (oneSided (sheetIn headAlone) ≡ some [])
+
+abbrev pub StarredTwoSided : Type 0
+StarredTwoSided = twoSided (sheetIn twoSidedA) ≡ some (0 ∷ 0 ∷ 2 ∷ [])

@@ -1,0 +1,185 @@
+-- One step of the loops that share a budget. Assumes nothing.
+use mathlib.Core.Path.{_≡_, refl, sym, ap, ap₂, _∙_}
+use mathlib.Core.Bool.{Bool, true, false, cond}
+use mathlib.Core.List.{List, [], _∷_}
+use Prim.Native.Nat.{ℕ, zero, suc, _+_, _-_, _*_, _/_, _%_, _^_, _≤_, _<_, min}
+use native.Mathlib.Nat.{div-div-eq-div-mul, pow-suc, pow-zero, div-one}
+use native.Mathlib.Numerals.{add-one}
+use native.Mathlib.Omega.{arith}
+use lib.Dec.{eqb}
+use lib.ListN.{length, getD, set, length-set}
+use lib.Seq.{ext-getD, getD-set-same, getD-set-other}
+use Rattle.lists.proofs.Tests.{by-test, by-equal}
+use Rattle.search.specs.Cost.{plus, least, least-cong}
+use Rattle.optimum.specs.OneSided.{topWord}
+use Rattle.optimum.specs.Cells.{build}
+use Rattle.optimum.proofs.Levels.{build-at, build-long}
+use native.Mathlib.Nat.{mul-le-mul, mul-le-mul-right}
+use Rattle.budgets.specs.Budgets.{Within, partAt, shareBy}
+use Rattle.rest.specs.Rest.{shareRow, rowOf, levelSize, StripIn, LevelIn, joinRow, foldRows}
+
+-- ---- a row joined from the highest budget down
+
+-- from v on the new costs stand, below it the old ones
+pub record Joined (parts counts old work : List ℕ) (row : ℕ) (acc : List ℕ) (v : ℕ) : Type 0 where
+  pub long : length acc ≡ length old
+  pub within : v ≤ length old
+  pub kept : (k : ℕ) → k < v → getD acc k 0 ≡ getD old k 0
+  pub done : (k : ℕ) → v ≤ k → k < length old → getD acc k 0 ≡ shareRow parts counts old work row k
+
+pub joined-none : (parts counts old work : List ℕ) (row : ℕ) → Joined parts counts old work row old (length old)
+joined-none parts counts old work row =
+    record { long = refl; within = omega arith; kept = λ k h. refl; done = λ k h l. absurd (omega arith) }
+
+pub joined-more : (parts counts old work : List ℕ) (row : ℕ) (acc : List ℕ) (v u x : ℕ) → Joined parts counts old work row acc v → u + 1 ≡ v
+    → Within (length old) parts counts → x ≡ shareBy parts counts (λ w. getD acc (0 + w) 0) (λ w. getD work (row + w) 0) u → Joined parts counts old work row (set acc u x) u
+joined-more parts counts old work row acc v u x j e i h =
+    record {
+      long = length-set acc u x ∙ j .long;
+      within = omega (arith, j .within);
+      kept = λ k l. getD-set-other acc u k x 0 (λ (q : k ≡ u). omega arith) ∙ j .kept k (omega arith);
+      done = λ k l b. by-equal k u
+          (λ q. rw q (getD-set-same acc u x 0 (omega (arith, j .long, j .within)) ∙ h ∙ same))
+          (λ q. getD-set-other acc u k x 0 q ∙ j .done k (omega arith) b);
+    }
+  where
+    same : shareBy parts counts (λ w. getD acc (0 + w) 0) (λ w. getD work (row + w) 0) u ≡ shareRow parts counts old work row u
+    same =
+        least-cong topWord (getD counts u 0) _ _ (λ p l.
+        let b = i .small u p (omega (arith, j .within)) l in
+        ap (λ (z : ℕ). plus topWord z (getD work (row + (u - partAt parts u p)) 0)) (ap (λ (z : ℕ). getD acc z 0) (omega arith) ∙ j .kept (partAt parts u p) (omega arith)))
+
+pub joined-all : (parts counts old work : List ℕ) (row : ℕ) (acc : List ℕ) → Joined parts counts old work row acc 0 → acc ≡ joinRow parts counts old work row
+unfolding joinRow
+joined-all parts counts old work row acc j =
+    ext-getD 0 acc _ (j .long ∙ sym (build-long (length old) _)) (λ i l. let b : i < length old = omega (arith, j .long) in j .done i (omega arith) b ∙ sym (build-at (length old) _ i b))
+
+-- ---- where a strip's entries lie
+
+pub join-long : (parts counts acc work : List ℕ) (row : ℕ) → length (joinRow parts counts acc work row) ≡ length acc
+unfolding joinRow
+join-long parts counts acc work row = build-long (length acc) _
+
+packed : (x y X B : ℕ) → x < X → y < B → x * B + y < X * B
+packed x y X B h k =
+    let e : X ≡ suc x + (X - suc x) = omega arith in
+    omega (arith, ap (λ (z : ℕ). z * B) e)
+
+pub record Row (m C R a ca b cb : ℕ) : Type 0 where
+  pub first : a * (C + 1) ≤ 441
+  pub second : (a * (C + 1) + ca) * (m + 2) ≤ 22450
+  pub third : ((a * (C + 1) + ca) * (m + 2) + b) * (C + 1) ≤ 202491
+  pub fourth : rowOf m C R a ca b cb ≤ 12959936
+  pub inside : rowOf m C R a ca b cb + R ≤ levelSize m C R
+
+pub row : (m C R a ca b cb : ℕ) → StripIn m C R a ca b cb → Row m C R a ca b cb
+row m C R a ca b cb i =
+    let e₁ : a ≤ 49 = omega (arith, i .aLow, i .fewSlots) in
+    let e₂ : C + 1 ≤ 9 = omega (arith, i .fewColours) in
+    let e₃ : m + 2 ≤ 50 = omega (arith, i .fewSlots) in
+    let f₁ = mul-le-mul {n₂ = 49} {m₂ = 9} e₁ e₂ in
+    let g₁ : a * (C + 1) + ca ≤ 449 = omega (arith, i .caLow) in
+    let f₂ = mul-le-mul {n₂ = 449} {m₂ = 50} g₁ e₃ in
+    let g₂ : (a * (C + 1) + ca) * (m + 2) + b ≤ 22499 = omega (arith, i .bLow) in
+    let f₃ = mul-le-mul {n₂ = 22499} {m₂ = 9} g₂ e₂ in
+    let g₃ : ((a * (C + 1) + ca) * (m + 2) + b) * (C + 1) + cb ≤ 202499 = omega (arith, i .cbLow) in
+    let f₄ = mul-le-mul {n₂ = 202499} {m₂ = 64} g₃ (i .fewBudgets) in
+    let h₁ = packed a ca (m + 2) (C + 1) (omega (arith, i .aLow)) (omega (arith, i .caLow)) in
+    let h₂ = packed _ b _ (m + 2) h₁ (omega (arith, i .bLow)) in
+    let h₃ = packed _ cb _ (C + 1) h₂ (omega (arith, i .cbLow)) in
+    record { first = f₁; second = f₂; third = f₃; fourth = f₄; inside = whole _ _ R h₃ }
+  where
+    whole : (x X B : ℕ) → x < X → x * B + B ≤ X * B
+    whole x X B h =
+        let e : X ≡ suc x + (X - suc x) = omega arith in
+        omega (arith, ap (λ (z : ℕ). z * B) e)
+
+-- the words of a level, factor by factor
+pub record Size (m C R : ℕ) : Type 0 where
+  pub first : (m + 2) * (C + 1) ≤ 450
+  pub second : (m + 2) * (C + 1) * (m + 2) ≤ 22500
+  pub third : (m + 2) * (C + 1) * (m + 2) * (C + 1) ≤ 202500
+  pub fourth : levelSize m C R ≤ 12960000
+
+pub size : (m C R : ℕ) → m ≤ 48 → C ≤ 8 → R ≤ 64 → Size m C R
+size m C R a b c =
+    let h : m + 2 ≤ 50 = omega arith in
+    let k : C + 1 ≤ 9 = omega arith in
+    let f₁ = mul-le-mul {n₂ = 50} {m₂ = 9} h k in
+    let f₂ = mul-le-mul {n₂ = 450} {m₂ = 50} f₁ h in
+    let f₃ = mul-le-mul {n₂ = 22500} {m₂ = 9} f₂ k in
+    record { first = f₁; second = f₂; third = f₃; fourth = mul-le-mul {n₂ = 202500} {m₂ = 64} f₃ c }
+
+-- ---- the fold over the open labels
+
+-- what is left to fold from slot i on is what was to fold at the start
+pub record Folding (parts counts work : List ℕ) (base C R : ℕ) (L start acc : List ℕ) (a ca i : ℕ) : Type 0 where
+  pub long : length acc ≡ R
+  pub passed : i ≤ length L
+  pub above : a ≤ i
+  pub colour : ca ≤ C
+  pub same : foldRows parts counts work base (length L) C R (length L) 0 0 0 L start ≡ foldRows parts counts work base (length L) C R (length L - i) i a ca L acc
+
+pub folding-none : (parts counts work : List ℕ) (base C R : ℕ) (L start : List ℕ) → length start ≡ R → Folding parts counts work base C R L start start 0 0 0
+folding-none parts counts work base C R L start h =
+    record { long = h; passed = omega arith; above = omega arith; colour = omega arith; same = ap (λ (r : ℕ). foldRows parts counts work base (length L) C R r 0 0 0 L start) (omega arith) }
+
+pub folding-more : (parts counts work : List ℕ) (base C R : ℕ) (L start acc : List ℕ) (a ca i : ℕ) (next : List ℕ) (a′ ca′ : ℕ)
+    → Folding parts counts work base C R L start acc a ca i → i < length L → getD L i 0 ≤ C
+    → next ≡ cond (eqb (getD L i 0) 0) acc (joinRow parts counts acc work (base + rowOf (length L) C R a ca (i + 1) (getD L i 0)))
+    → a′ ≡ cond (eqb (getD L i 0) 0) a (i + 1) → ca′ ≡ cond (eqb (getD L i 0) 0) ca (getD L i 0)
+    → Folding parts counts work base C R L start next a′ ca′ (i + 1)
+folding-more parts counts work base C R L start acc a ca i next a′ ca′ f l c en ea ec = rw (en, ea, ec) (go (eqb (getD L i 0) 0) refl)
+  where
+    step : foldRows parts counts work base (length L) C R (length L - i) i a ca L acc ≡ foldRows parts counts work base (length L) C R (suc (length L - (i + 1))) i a ca L acc
+    step = ap (λ (r : ℕ). foldRows parts counts work base (length L) C R r i a ca L acc) (omega arith)
+
+    go : (b : Bool) → eqb (getD L i 0) 0 ≡ b → Folding parts counts work base C R L start (cond b acc (joinRow parts counts acc work (base + rowOf (length L) C R a ca (i + 1) (getD L i 0)))) (cond b a (i + 1)) (cond b ca (getD L i 0)) (i + 1)
+    go true e =
+        record { long = f .long; passed = omega arith; above = omega (arith, f .above); colour = f .colour; same = f .same ∙ step ∙ (unfold foldRows in rw (e, add-one i)) }
+    go false e =
+        record { long = join-long parts counts acc work _ ∙ f .long; passed = omega arith; above = omega arith; colour = c; same = f .same ∙ step ∙ (unfold foldRows in rw (e, add-one i)) }
+
+pub folding-all : (parts counts work : List ℕ) (base C R : ℕ) (L start acc : List ℕ) (a ca i : ℕ) → Folding parts counts work base C R L start acc a ca i → length L ≤ i
+    → joinRow parts counts acc work (base + rowOf (length L) C R a ca (length L + 1) 0) ≡ foldRows parts counts work base (length L) C R (length L) 0 0 0 L start
+unfolding foldRows
+folding-all parts counts work base C R L start acc a ca i f h =
+    let e : i ≡ length L = omega (arith, f .passed) in
+    let z : length L - i ≡ 0 = omega arith in
+    sym (f .same ∙ rw z (rw (e, add-one (length L))))
+
+-- the strip above the bottom edge
+pub last-strip : (parts counts work : List ℕ) (base C R : ℕ) (L start acc : List ℕ) (a ca i : ℕ) → LevelIn parts counts work base C R L → Folding parts counts work base C R L start acc a ca i
+    → StripIn (length L) C R a ca (length L + 1) 0
+last-strip parts counts work base C R L start acc a ca i p f =
+    record {
+      fewSlots = p .fewSlots;
+      fewColours = p .fewColours;
+      fewBudgets = p .splits .few;
+      aLow = omega (arith, f .above, f .passed);
+      caLow = f .colour;
+      bLow = omega arith;
+      cbLow = omega arith;
+    }
+
+-- ---- a row filled from the front by a function of the place
+
+pub record Filled (f : ℕ → ℕ) (old acc : List ℕ) (i : ℕ) : Type 0 where
+  pub long : length acc ≡ length old
+  pub within : i ≤ length old
+  pub done : (k : ℕ) → k < i → getD acc k 0 ≡ f k
+
+pub filled-none : (f : ℕ → ℕ) (old : List ℕ) → Filled f old old 0
+filled-none f old = record { long = refl; within = omega arith; done = λ k h. absurd (omega arith) }
+
+pub filled-more : (f : ℕ → ℕ) (old acc : List ℕ) (i x : ℕ) → Filled f old acc i → i < length acc → x ≡ f i → Filled f old (set acc i x) (i + 1)
+filled-more f old acc i x j l e =
+    record {
+      long = length-set acc i x ∙ j .long;
+      within = omega (arith, j .long);
+      done = λ k h. by-equal k i (λ q. rw q (getD-set-same acc i x 0 l ∙ e)) (λ q. getD-set-other acc i k x 0 q ∙ j .done k (omega arith));
+    }
+
+pub filled-all : (f : ℕ → ℕ) (old acc : List ℕ) (i : ℕ) → Filled f old acc i → length acc ≤ i → acc ≡ build (length old) f
+filled-all f old acc i j l =
+    ext-getD 0 acc _ (j .long ∙ sym (build-long (length old) f)) (λ k h. j .done k (omega arith) ∙ sym (build-at (length old) f k (omega (arith, j .long))))

@@ -1,0 +1,56 @@
+use mathlib.Core.Path.{_≡_, refl, ap, sym, _∙_}
+use mathlib.Core.List.{List, [], _∷_, _++_}
+use mathlib.Core.Logic.{⊎-elim}
+use Prim.Native.Nat.{ℕ, zero, suc, _+_, _-_, _*_, _<_, _≤_}
+use native.Mathlib.Omega.{arith}
+use native.Mathlib.Numerals.{add-one}
+use lib.ListN.{length, getD, take, drop, set, length-set}
+use borrow.Author.Tests.{eq-eqb, ne-eqb, lt-ltb, le-ltb, le-leb, lt-leb}
+use borrow.Author.Needs.{needs}
+use Rattle.strips.proofs.is_between.Statement.{statement}
+use Rattle.strips.proofs.is_between.Tie as tie
+use Rattle.strips.proofs.is_between.Reads as reads
+use Rattle.strips.proofs.is_between.Lts as lts
+use Rattle.words.proofs.both.Reads as both-reads
+use Rattle.words.proofs.less.Reads as less-reads
+
+-- src/lib.rt:121:25
+add-less : tie.Need-add-less
+add-less c = search needs
+
+-- src/lib.rt:121:15
+less-requires : tie.Need-less-requires
+less-requires c κs = search needs
+
+-- src/lib.rt:121:38
+add-less-2 : tie.Need-add-less-2
+add-less-2 c = search needs
+
+-- src/lib.rt:121:33
+less-requires-2 : tie.Need-less-requires-2
+less-requires-2 c κs = search needs
+
+-- src/lib.rt:121:10
+both-requires : tie.Need-both-requires
+both-requires c κs = search needs
+
+-- src/lib.rt:121:5
+both-requires-2 : tie.Need-both-requires-2
+both-requires-2 c κs = search needs
+
+-- src/lib.rt:116:1
+returns : tie.Need-returns
+returns c =
+    cc
+
+pub is-between-spec : {M : Type 1} → statement M
+is-between-spec =
+    tie.close
+    (tie.spec
+    add-less
+    less-requires
+    add-less-2
+    less-requires-2
+    both-requires
+    both-requires-2
+    returns)

@@ -1,0 +1,37 @@
+use mathlib.Core.Path.{_≡_, refl, ap, sym, _∙_}
+use mathlib.Core.List.{List, [], _∷_, _++_}
+use mathlib.Core.Logic.{⊎-elim}
+use Prim.Native.Nat.{ℕ, zero, suc, _+_, _-_, _*_, _<_, _≤_}
+use native.Mathlib.Omega.{arith}
+use native.Mathlib.Numerals.{add-one}
+use lib.ListN.{length, getD, take, drop, set, length-set}
+use borrow.Author.Tests.{eq-eqb, ne-eqb, lt-ltb, le-ltb, le-leb, lt-leb}
+use borrow.Author.Needs.{needs}
+use Rattle.strips.proofs.join_cost.Statement.{statement}
+use Rattle.strips.proofs.join_cost.Tie as tie
+use Rattle.strips.proofs.join_cost.Reads as reads
+use Rattle.strips.proofs.join_cost.Lts as lts
+use Rattle.strips.proofs.share_of.Reads as share-of-reads
+use Rattle.strips.proofs.word_of.Reads as word-of-reads
+use Rattle.words.proofs.get.Reads as get-reads
+
+-- src/lib.rt:181:28
+get-requires : tie.Need-get-requires
+get-requires c κs = search needs
+
+-- src/lib.rt:181:19
+share-of-requires : tie.Need-share-of-requires
+share-of-requires c κs = search needs
+
+-- src/lib.rt:181:5
+word-of-requires : tie.Need-word-of-requires
+word-of-requires c κs =
+    omega (arith, c .before .before .before .pre .heightLow (c .before .before .before .args .k))
+
+-- src/lib.rt:177:1
+returns : tie.Need-returns
+returns c =
+    c .word-of .ensures ∙ rw (c .before .share-of .ensures, c .before .before .get .ensures)
+
+pub join-cost-spec : {M : Type 1} → statement M
+join-cost-spec = tie.close (tie.spec get-requires share-of-requires word-of-requires returns)

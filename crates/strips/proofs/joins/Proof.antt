@@ -1,0 +1,36 @@
+use mathlib.Core.Path.{_≡_, refl, ap, sym, _∙_}
+use mathlib.Core.List.{List, [], _∷_, _++_}
+use mathlib.Core.Logic.{⊎-elim}
+use Prim.Native.Nat.{ℕ, zero, suc, _+_, _-_, _*_, _<_, _≤_}
+use native.Mathlib.Omega.{arith}
+use native.Mathlib.Numerals.{add-one}
+use lib.ListN.{length, getD, take, drop, set, length-set}
+use borrow.Author.Tests.{eq-eqb, ne-eqb, lt-ltb, le-ltb, le-leb, lt-leb}
+use borrow.Author.Needs.{needs}
+use Rattle.strips.proofs.joins.Statement.{statement}
+use Rattle.strips.proofs.joins.Tie as tie
+use Rattle.strips.proofs.joins.Reads as reads
+use Rattle.strips.proofs.joins.Lts as lts
+use Rattle.strips.proofs.joins_down.Reads as joins-down-reads
+use Rattle.strips.proofs.joins_up.Reads as joins-up-reads
+use Rattle.words.proofs.either.Reads as either-reads
+
+-- src/lib.rt:155:12
+joins-up-requires : tie.Need-joins-up-requires
+joins-up-requires c κs = search needs
+
+-- src/lib.rt:155:51
+joins-down-requires : tie.Need-joins-down-requires
+joins-down-requires c κs = search needs
+
+-- src/lib.rt:155:5
+either-requires : tie.Need-either-requires
+either-requires c κs = search needs
+
+-- src/lib.rt:151:1
+returns : tie.Need-returns
+returns c =
+    cc
+
+pub joins-spec : {M : Type 1} → statement M
+joins-spec = tie.close (tie.spec joins-up-requires joins-down-requires either-requires returns)

@@ -1,0 +1,68 @@
+use Rattle.strips.proofs.Decisions.{joins-down-by}
+use mathlib.Core.Path.{_≡_, refl, ap, sym, _∙_}
+use mathlib.Core.List.{List, [], _∷_, _++_}
+use mathlib.Core.Logic.{⊎-elim}
+use Prim.Native.Nat.{ℕ, zero, suc, _+_, _-_, _*_, _<_, _≤_}
+use native.Mathlib.Omega.{arith}
+use native.Mathlib.Numerals.{add-one}
+use lib.ListN.{length, getD, take, drop, set, length-set}
+use borrow.Author.Tests.{eq-eqb, ne-eqb, lt-ltb, le-ltb, le-leb, lt-leb}
+use borrow.Author.Needs.{needs}
+use Rattle.strips.proofs.joins_down.Statement.{statement}
+use Rattle.strips.proofs.joins_down.Tie as tie
+use Rattle.strips.proofs.joins_down.Reads as reads
+use Rattle.strips.proofs.joins_down.Lts as lts
+use Rattle.strips.proofs.is_clear.Reads as is-clear-reads
+use Rattle.words.proofs.both.Reads as both-reads
+use Rattle.words.proofs.same.Reads as same-reads
+
+-- src/lib.rt:147:35
+add-same : tie.Need-add-same
+add-same c = search needs
+
+-- src/lib.rt:147:25
+same-requires : tie.Need-same-requires
+same-requires c κs = search needs
+
+-- src/lib.rt:147:20
+both-requires : tie.Need-both-requires
+both-requires c κs = search needs
+
+-- src/lib.rt:147:60
+add-same-2 : tie.Need-add-same-2
+add-same-2 c = search needs
+
+-- src/lib.rt:147:49
+same-requires-2 : tie.Need-same-requires-2
+same-requires-2 c κs = search needs
+
+-- src/lib.rt:147:9
+both-requires-2 : tie.Need-both-requires-2
+both-requires-2 c κs = search needs
+
+-- src/lib.rt:148:15
+is-clear-requires : tie.Need-is-clear-requires
+is-clear-requires c κs = search needs
+
+-- src/lib.rt:148:5
+both-requires-3 : tie.Need-both-requires-3
+both-requires-3 c κs = search needs
+
+-- src/lib.rt:142:1
+returns : tie.Need-returns
+returns c =
+    rw (joins-down-by) cc
+
+pub joins-down-spec : {M : Type 1} → statement M
+joins-down-spec =
+    tie.close
+    (tie.spec
+    add-same
+    same-requires
+    both-requires
+    add-same-2
+    same-requires-2
+    both-requires-2
+    is-clear-requires
+    both-requires-3
+    returns)

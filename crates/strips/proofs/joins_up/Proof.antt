@@ -1,0 +1,65 @@
+use Rattle.optimum.specs.Strips.{joinsUp}
+use Rattle.strips.proofs.Decisions.{and-true}
+use mathlib.Core.Path.{_≡_, refl, ap, sym, _∙_}
+use mathlib.Core.List.{List, [], _∷_, _++_}
+use mathlib.Core.Logic.{⊎-elim}
+use Prim.Native.Nat.{ℕ, zero, suc, _+_, _-_, _*_, _<_, _≤_}
+use native.Mathlib.Omega.{arith}
+use native.Mathlib.Numerals.{add-one}
+use lib.ListN.{length, getD, take, drop, set, length-set}
+use borrow.Author.Tests.{eq-eqb, ne-eqb, lt-ltb, le-ltb, le-leb, lt-leb}
+use borrow.Author.Needs.{needs}
+use Rattle.strips.proofs.joins_up.Statement.{statement}
+use Rattle.strips.proofs.joins_up.Tie as tie
+use Rattle.strips.proofs.joins_up.Reads as reads
+use Rattle.strips.proofs.joins_up.Lts as lts
+use Rattle.strips.proofs.is_clear.Reads as is-clear-reads
+use Rattle.words.proofs.both.Reads as both-reads
+use Rattle.words.proofs.same.Reads as same-reads
+
+-- src/lib.rt:138:30
+add-same : tie.Need-add-same
+add-same c = search needs
+
+-- src/lib.rt:138:20
+same-requires : tie.Need-same-requires
+same-requires c κs = search needs
+
+-- src/lib.rt:138:49
+add-same-2 : tie.Need-add-same-2
+add-same-2 c = search needs
+
+-- src/lib.rt:138:38
+same-requires-2 : tie.Need-same-requires-2
+same-requires-2 c κs = search needs
+
+-- src/lib.rt:138:9
+both-requires : tie.Need-both-requires
+both-requires c κs = search needs
+
+-- src/lib.rt:139:15
+is-clear-requires : tie.Need-is-clear-requires
+is-clear-requires c κs = search needs
+
+-- src/lib.rt:139:5
+both-requires-2 : tie.Need-both-requires-2
+both-requires-2 c κs = search needs
+
+-- src/lib.rt:134:1
+returns : tie.Need-returns
+unfolding joinsUp
+returns c =
+    rw (← (add-one (c .before .before .before .before .before .before .before .before .args .s .c)), ← (add-one (c .before .before .before .before .before .before .before .before .args .k)), and-true) cc
+
+pub joins-up-spec : {M : Type 1} → statement M
+joins-up-spec =
+    tie.close
+    (tie.spec
+    add-same
+    same-requires
+    add-same-2
+    same-requires-2
+    both-requires
+    is-clear-requires
+    both-requires-2
+    returns)

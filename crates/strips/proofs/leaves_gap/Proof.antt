@@ -1,0 +1,42 @@
+use Rattle.strips.specs.Strips.{gapLeft}
+use mathlib.Core.Path.{_≡_, refl, ap, sym, _∙_}
+use mathlib.Core.List.{List, [], _∷_, _++_}
+use mathlib.Core.Logic.{⊎-elim}
+use Prim.Native.Nat.{ℕ, zero, suc, _+_, _-_, _*_, _<_, _≤_}
+use native.Mathlib.Omega.{arith}
+use native.Mathlib.Numerals.{add-one}
+use lib.ListN.{length, getD, take, drop, set, length-set}
+use borrow.Author.Tests.{eq-eqb, ne-eqb, lt-ltb, le-ltb, le-leb, lt-leb}
+use borrow.Author.Needs.{needs}
+use Rattle.strips.proofs.leaves_gap.Statement.{statement}
+use Rattle.strips.proofs.leaves_gap.Tie as tie
+use Rattle.strips.proofs.leaves_gap.Reads as reads
+use Rattle.strips.proofs.leaves_gap.Lts as lts
+use Rattle.strips.proofs.is_far.Reads as is-far-reads
+use Rattle.words.proofs.both.Reads as both-reads
+
+-- src/lib.rt:101:13
+add-c : tie.Need-add-c
+add-c c = search needs
+
+-- src/lib.rt:102:10
+is-far-requires : tie.Need-is-far-requires
+is-far-requires c κs = search needs
+
+-- src/lib.rt:102:55
+is-far-requires-2 : tie.Need-is-far-requires-2
+is-far-requires-2 c κs = search needs
+
+-- src/lib.rt:102:5
+both-requires : tie.Need-both-requires
+both-requires c κs = search needs
+
+-- src/lib.rt:97:1
+returns : tie.Need-returns
+unfolding gapLeft
+returns c =
+    rw (← (add-one (c .before .before .before .before .before .before .args .s .c))) cc
+
+pub leaves-gap-spec : {M : Type 1} → statement M
+leaves-gap-spec =
+    tie.close (tie.spec add-c is-far-requires is-far-requires-2 both-requires returns)

@@ -1,0 +1,54 @@
+use Rattle.strips.proofs.Decisions.{opens-split}
+use mathlib.Core.Path.{_≡_, refl, ap, sym, _∙_}
+use mathlib.Core.List.{List, [], _∷_, _++_}
+use mathlib.Core.Logic.{⊎-elim}
+use Prim.Native.Nat.{ℕ, zero, suc, _+_, _-_, _*_, _<_, _≤_}
+use native.Mathlib.Omega.{arith}
+use native.Mathlib.Numerals.{add-one}
+use lib.ListN.{length, getD, take, drop, set, length-set}
+use borrow.Author.Tests.{eq-eqb, ne-eqb, lt-ltb, le-ltb, le-leb, lt-leb}
+use borrow.Author.Needs.{needs}
+use Rattle.strips.proofs.opens.Statement.{statement}
+use Rattle.strips.proofs.opens.Tie as tie
+use Rattle.strips.proofs.opens.Reads as reads
+use Rattle.strips.proofs.opens.Lts as lts
+use Rattle.strips.proofs.is_between.Reads as is-between-reads
+use Rattle.strips.proofs.leaves_gap.Reads as leaves-gap-reads
+use Rattle.strips.proofs.site_opens.Reads as site-opens-reads
+use Rattle.words.proofs.both.Reads as both-reads
+
+-- src/lib.rt:129:9
+leaves-gap-requires : tie.Need-leaves-gap-requires
+leaves-gap-requires c κs = search needs
+
+-- src/lib.rt:130:10
+is-between-requires : tie.Need-is-between-requires
+is-between-requires c κs = search needs
+
+-- src/lib.rt:130:47
+site-opens-requires : tie.Need-site-opens-requires
+site-opens-requires c κs = search needs
+
+-- src/lib.rt:130:37
+both-requires : tie.Need-both-requires
+both-requires c κs = search needs
+
+-- src/lib.rt:130:5
+both-requires-2 : tie.Need-both-requires-2
+both-requires-2 c κs = search needs
+
+-- src/lib.rt:125:1
+returns : tie.Need-returns
+returns c =
+    rw (opens-split) cc
+
+pub opens-spec : {M : Type 1} → statement M
+opens-spec =
+    tie.close
+    (tie.spec
+    leaves-gap-requires
+    is-between-requires
+    site-opens-requires
+    both-requires
+    both-requires-2
+    returns)

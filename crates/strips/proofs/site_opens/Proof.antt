@@ -1,0 +1,77 @@
+use Rattle.strips.specs.Strips.{siteOpens}
+use Rattle.strips.proofs.Decisions.{default-any}
+use mathlib.Core.Path.{_≡_, refl, ap, sym, _∙_}
+use mathlib.Core.List.{List, [], _∷_, _++_}
+use mathlib.Core.Logic.{⊎-elim}
+use Prim.Native.Nat.{ℕ, zero, suc, _+_, _-_, _*_, _<_, _≤_}
+use native.Mathlib.Omega.{arith}
+use native.Mathlib.Numerals.{add-one}
+use lib.ListN.{length, getD, take, drop, set, length-set}
+use borrow.Author.Tests.{eq-eqb, ne-eqb, lt-ltb, le-ltb, le-leb, lt-leb}
+use borrow.Author.Needs.{needs}
+use Rattle.strips.proofs.site_opens.Statement.{statement}
+use Rattle.strips.proofs.site_opens.Tie as tie
+use Rattle.strips.proofs.site_opens.Reads as reads
+use Rattle.strips.proofs.site_opens.Lts as lts
+use Rattle.strips.proofs.is_clear.Reads as is-clear-reads
+use Rattle.words.proofs.both.Reads as both-reads
+use Rattle.words.proofs.is_not.Reads as is-not-reads
+use Rattle.words.proofs.same.Reads as same-reads
+
+-- src/lib.rt:110:13
+cast-c : tie.Need-cast-c
+cast-c c = search needs
+
+-- src/lib.rt:111:22
+is-clear-requires : tie.Need-is-clear-requires
+is-clear-requires c κs = search needs
+
+-- src/lib.rt:111:62
+is-clear-requires-2 : tie.Need-is-clear-requires-2
+is-clear-requires-2 c κs = search needs
+
+-- src/lib.rt:111:9
+both-requires : tie.Need-both-requires
+both-requires c κs = search needs
+
+-- src/lib.rt:112:29
+mul-same : tie.Need-mul-same
+mul-same c = search needs
+
+-- src/lib.rt:112:29
+shared-slice-read-same : tie.Need-shared-slice-read-same
+shared-slice-read-same c = search needs
+
+-- src/lib.rt:112:24
+same-requires : tie.Need-same-requires
+same-requires c κs = search needs
+
+-- src/lib.rt:112:17
+is-not-requires : tie.Need-is-not-requires
+is-not-requires c κs = search needs
+
+-- src/lib.rt:112:5
+both-requires-2 : tie.Need-both-requires-2
+both-requires-2 c κs = search needs
+
+-- src/lib.rt:106:1
+returns : tie.Need-returns
+unfolding siteOpens
+returns c =
+    let b = c .before .before .before .before .before .before .before .before .before .before .args .bounds .now in
+    cc (default-any b (c .before .before .before .before .before .before .before .before .before .before .args .s .c) 255 0 (c .before .before .before .before .before .before .before .before .before .before .pre))
+
+pub site-opens-spec : {M : Type 1} → statement M
+site-opens-spec =
+    tie.close
+    (tie.spec
+    cast-c
+    is-clear-requires
+    is-clear-requires-2
+    both-requires
+    mul-same
+    shared-slice-read-same
+    same-requires
+    is-not-requires
+    both-requires-2
+    returns)

@@ -1,0 +1,53 @@
+-- A strip and a site as the code holds them, and the part of an instance that decides what may be done in one strip. Definitions.
+use mathlib.Core.Path.{_≡_}
+use mathlib.Core.Bool.{Bool, true, false, cond, not, _&&_, _||_}
+use mathlib.Core.List.{List, [], _∷_}
+use Prim.Native.Nat.{ℕ, zero, suc, _+_, _*_, _-_, _<_}
+use lib.Dec.{eqb, leb, ltb}
+use lib.ListN.{length, getD}
+use Rattle.labelling.specs.Layout.{apart}
+use Rattle.optimum.specs.Strips.{Point, Strip, Instance, farFrom, clearFrom}
+use Rattle.arrays.specs.declared.Measures.{Measures}
+use Rattle.arrays.specs.Arrays.{instanceBy}
+use Rattle.strips.specs.declared.Strip as held
+use Rattle.strips.specs.declared.Site as tied
+
+-- the strip and the site of the model; a strip carries no mark yet
+abbrev pub stripOf : held.Strip → Strip
+stripOf p = record { a = p .a; ca = p .ca; b = p .b; cb = p .cb; d = 0 }
+
+abbrev pub pointOf : tied.Site → Point
+pointOf s = record { x = s .x; y = s .y; c = s .c }
+
+-- radices and draws have no part in what is decided on one strip
+abbrev pub instanceOn : Measures → (heights bounds : List ℕ) → Instance
+instanceOn q hs bs = instanceBy q hs bs [] []
+
+-- numbers small enough that the cost of a step is one word
+pub record Measured (q : Measures) (heights : List ℕ) (y : ℕ) : Type 0 where
+  pub narrow : q .width < 16384
+  pub heightLow : (k : ℕ) → getD heights k 0 < 16384
+  pub yLow : y < 16384
+
+-- a site's colour is one of the sheet's, which are at most 8; a slot, or an edge, has a small number
+pub record Small (bounds : List ℕ) (colour slot : ℕ) : Type 0 where
+  pub colourBound : colour < length bounds
+  pub coloursFew : colour < 8
+  pub slotLow : slot < 64
+
+-- of what `opens` asks: both ends of the strip are far enough from slot k; and that which does not turn on the slot
+unfoldable pub gapLeft : Instance → Strip → Point → ℕ → Bool
+gapLeft P p s k = farFrom P (p .a) (p .ca) k (suc (s .c)) && farFrom P (p .b) (p .cb) k (suc (s .c))
+
+unfoldable pub siteOpens : Instance → Strip → Point → Bool
+siteOpens P p s = clearFrom P (p .a) (s .y) && clearFrom P (p .b) (s .y) && P .may s 0
+
+-- count and length in one word, by the aim; what a step costs that opens a label, and one that joins it
+abbrev pub wordBy : Measures → (count size : ℕ) → ℕ
+wordBy q c l = cond (q .shortest) (l * 64 + c) (c * 33554432 + l)
+
+abbrev pub openCost : Measures → (heights : List ℕ) → Point → (slot : ℕ) → ℕ
+openCost q hs s k = wordBy q 1 (q .width - s .x + apart (getD hs k 0) (s .y))
+
+abbrev pub joinCost : Measures → (heights : List ℕ) → Point → (slot : ℕ) → ℕ
+joinCost q hs s k = wordBy q 0 (apart (getD hs k 0) (s .y))

@@ -1,0 +1,220 @@
+// The decisions on one strip: does the site lie in it, which slots may open a label, which may be joined, and what a step costs.
+// Each is the model's definition for the instance of these arrays.
+ghost use mathlib.Core.Path.{_≡_};
+ghost use mathlib.Core.Bool.{_&&_, _||_};
+ghost use Prim.Native.Nat.{ℕ, _+_, _-_, _<_, _≤_};
+ghost use lib.Dec.{ltb};
+ghost use lib.ListN.{length, getD};
+ghost use Rattle.labelling.specs.Layout.{apart};
+ghost use Rattle.optimum.specs.Strips as model;
+ghost use Rattle.strips.specs.Strips.{instanceOn, stripOf, pointOf, Measured, Small, gapLeft, siteOpens, wordBy, openCost, joinCost};
+use arrays::Measures;
+use words::NONE;
+use words::at_most;
+use words::both;
+use words::either;
+use words::get;
+use words::is_not;
+use words::less;
+use words::monus;
+use words::same;
+
+// A strip: the labels above and below it (0: the top edge, k + 1: slot k, m + 1: the bottom edge) and their colours (0: none, c + 1: colour c).
+pub struct Strip {
+    pub a: u32,
+    pub ca: u32,
+    pub b: u32,
+    pub cb: u32,
+}
+
+pub struct Site {
+    pub x: u32,
+    pub y: u32,
+    pub c: u32,
+}
+
+// A site's share of the length, by the height of its slot and its own.
+pub fn share_of(height: u32, y: u32) -> u32
+    ensures { λ r. ⌜ r ≡ apart height y ⌝ }
+{
+    if height < y {
+        return y - height;
+    }
+    height - y
+}
+
+// The edge or label a stands above the height y or at it.
+fn is_over(q: Measures, heights: &[u32], bounds: &[u32], a: u32, y: u32) -> bool
+    ensures { λ r. ⌜ r ≡ model.over (instanceOn q (now (heights .entry)) (now (bounds .entry))) a y ⌝ }
+{
+    if a == 0 {
+        return true;
+    }
+    at_most(get(heights, a - 1), y)
+}
+
+// The edge or label b stands below the height y.
+fn is_under(q: Measures, heights: &[u32], bounds: &[u32], b: u32, y: u32) -> bool
+    ensures { λ r. ⌜ r ≡ model.under (instanceOn q (now (heights .entry)) (now (bounds .entry))) b y ⌝ }
+{
+    if b == 0 {
+        return false;
+    }
+    let k = b - 1;
+    if heights.len() <= k as usize {
+        return true;
+    }
+    less(y, get(heights, k))
+}
+
+pub fn is_inside(q: Measures, heights: &[u32], bounds: &[u32], p: Strip, s: Site) -> bool
+    ensures { λ r. ⌜ r ≡ model.inside (instanceOn q (now (heights .entry)) (now (bounds .entry))) (stripOf p) (pointOf s) ⌝ }
+{
+    both(
+        is_over(q, heights, bounds, p.a, s.y),
+        is_under(q, heights, bounds, p.b, s.y),
+    )
+}
+
+// The edge or label j, of colour e, lets a label of colour c be at slot k.
+fn is_far(q: Measures, heights: &[u32], bounds: &[u32], j: u32, e: u32, k: u32, c: u32) -> bool
+    ensures { λ r. ⌜ r ≡ model.farFrom (instanceOn q (now (heights .entry)) (now (bounds .entry))) j e k c ⌝ }
+{
+    if j == 0 {
+        return true;
+    }
+    let i = j - 1;
+    if heights.len() <= i as usize {
+        return true;
+    }
+    at_most(q.gap, share_of(get(heights, i), get(heights, k)))
+}
+
+// The edge or label j is clear of the height y.
+fn is_clear(q: Measures, heights: &[u32], bounds: &[u32], j: u32, y: u32) -> bool
+    ensures { λ r. ⌜ r ≡ model.clearFrom (instanceOn q (now (heights .entry)) (now (bounds .entry))) j y ⌝ }
+{
+    if j == 0 {
+        return true;
+    }
+    let i = j - 1;
+    if heights.len() <= i as usize {
+        return true;
+    }
+    at_most(q.gap, share_of(get(heights, i), y))
+}
+
+// Both ends of the strip let a label of the site's colour be at slot k.
+pub fn leaves_gap(q: Measures, heights: &[u32], bounds: &[u32], p: Strip, s: Site, k: u32) -> bool
+    requires { ⌜ s .c < 8 ⌝ }
+    ensures { λ r. ⌜ r ≡ gapLeft (instanceOn q (now (heights .entry)) (now (bounds .entry))) (stripOf p) (pointOf s) k ⌝ }
+{
+    let c = s.c + 1;
+    both(
+        is_far(q, heights, bounds, p.a, p.ca, k, c),
+        is_far(q, heights, bounds, p.b, p.cb, k, c),
+    )
+}
+
+// Of what opening a label asks, that which does not turn on the slot.
+pub fn site_opens(q: Measures, heights: &[u32], bounds: &[u32], p: Strip, s: Site) -> bool
+    requires { ⌜ s .c < length (now bounds) ⌝ }
+    ensures { λ r. ⌜ r ≡ siteOpens (instanceOn q (now (heights .entry)) (now (bounds .entry))) (stripOf p) (pointOf s) ⌝ }
+{
+    let c = s.c as usize;
+    let clear = both(
+        is_clear(q, heights, bounds, p.a, s.y),
+        is_clear(q, heights, bounds, p.b, s.y),
+    );
+    both(clear, is_not(same(bounds[c], 0)))
+}
+
+// Slot k stands between the strip's ends.
+fn is_between(heights: &[u32], p: Strip, k: u32) -> bool
+    requires { ⌜ k < 64 ⌝ }
+    ensures { λ r. ⌜ r ≡ ltb (p .a) (k + 1) && ltb (k + 1) (p .b) && ltb k (length (now (heights .entry))) ⌝ }
+{
+    let low = (k as usize) < heights.len();
+    both(both(less(p.a, k + 1), less(k + 1, p.b)), low)
+}
+
+// The site, which lies in the strip, may open a label at slot k.
+pub fn opens(q: Measures, heights: &[u32], bounds: &[u32], p: Strip, s: Site, k: u32) -> bool
+    requires { ⌜ Small (now bounds) (s .c) k ⌝ }
+    ensures { λ r. ⌜ r ≡ model.opens (instanceOn q (now (heights .entry)) (now (bounds .entry))) (stripOf p) (pointOf s) k ⌝ }
+{
+    let gap = leaves_gap(q, heights, bounds, p, s, k);
+    both(
+        is_between(heights, p, k),
+        both(gap, site_opens(q, heights, bounds, p, s)),
+    )
+}
+
+// It may join the label above, at slot k; the label below.
+pub fn joins_up(q: Measures, heights: &[u32], bounds: &[u32], p: Strip, s: Site, k: u32) -> bool
+    requires { ⌜ Small (now bounds) (s .c) k ⌝ }
+    ensures { λ r. ⌜ r ≡ model.joinsUp (instanceOn q (now (heights .entry)) (now (bounds .entry))) (stripOf p) (pointOf s) k ⌝ }
+{
+    let own = both(same(p.a, k + 1), same(p.ca, s.c + 1));
+    both(own, is_clear(q, heights, bounds, p.b, s.y))
+}
+
+pub fn joins_down(q: Measures, heights: &[u32], bounds: &[u32], p: Strip, s: Site, k: u32) -> bool
+    requires { ⌜ Small (now bounds) (s .c) k ⌝ }
+    ensures { λ r. ⌜ r ≡ model.joinsDown (instanceOn q (now (heights .entry)) (now (bounds .entry))) (stripOf p) (pointOf s) k ⌝ }
+{
+    let low = (k as usize) < heights.len();
+    let own = both(both(same(p.b, k + 1), low), same(p.cb, s.c + 1));
+    both(own, is_clear(q, heights, bounds, p.a, s.y))
+}
+
+pub fn joins(q: Measures, heights: &[u32], bounds: &[u32], p: Strip, s: Site, k: u32) -> bool
+    requires { ⌜ Small (now bounds) (s .c) k ⌝ }
+    ensures { λ r. ⌜ r ≡ model.joinsUp (instanceOn q (now (heights .entry)) (now (bounds .entry))) (stripOf p) (pointOf s) k || model.joinsDown (instanceOn q (now (heights .entry)) (now (bounds .entry))) (stripOf p) (pointOf s) k ⌝ }
+{
+    either(
+        joins_up(q, heights, bounds, p, s, k),
+        joins_down(q, heights, bounds, p, s, k),
+    )
+}
+
+// Count and length in one word, by the aim.
+fn word_of(q: Measures, count: u32, length: u32) -> u32
+    requires { ⌜ (count < 2) × (length < 65536) ⌝ }
+    ensures { λ r. ⌜ r ≡ wordBy q count length ⌝ }
+{
+    if q.shortest {
+        return length * 64 + count;
+    }
+    count * 33554432 + length
+}
+
+// What it costs to open a label at slot k; to join one there.
+pub fn open_cost(q: Measures, heights: &[u32], s: Site, k: u32) -> u32
+    requires { ⌜ Measured q (now heights) (s .y) ⌝ }
+    ensures { λ r. ⌜ r ≡ openCost q (now (heights .entry)) (pointOf s) k ⌝ }
+{
+    word_of(q, 1, monus(q.width, s.x) + share_of(get(heights, k), s.y))
+}
+
+pub fn join_cost(q: Measures, heights: &[u32], s: Site, k: u32) -> u32
+    requires { ⌜ Measured q (now heights) (s .y) ⌝ }
+    ensures { λ r. ⌜ r ≡ joinCost q (now (heights .entry)) (pointOf s) k ⌝ }
+{
+    word_of(q, 0, share_of(get(heights, k), s.y))
+}
+
+// What it costs to tie the site to slot k, NONE if that is not lawful.
+pub fn step_cost(q: Measures, heights: &[u32], bounds: &[u32], p: Strip, s: Site, k: u32) -> u32
+    requires { ⌜ Measured q (now heights) (s .y) ⌝ }
+    requires { ⌜ Small (now bounds) (s .c) k ⌝ }
+    ensures { λ r. ⌜ r ≡ model.cost (instanceOn q (now (heights .entry)) (now (bounds .entry))) (stripOf p) (pointOf s) k ⌝ }
+{
+    if opens(q, heights, bounds, p, s, k) {
+        return open_cost(q, heights, s, k);
+    }
+    if joins(q, heights, bounds, p, s, k) {
+        return join_cost(q, heights, s, k);
+    }
+    NONE
+}

@@ -1,0 +1,3 @@
+mod Filling
+mod Places
+mod Right

@@ -1,0 +1,134 @@
+use Rattle.table.proofs.Filling.{others-of}
+use mathlib.Core.Path.{subst⁻¹}
+use Rattle.strips.specs.Strips.{pointOf}
+use Rattle.optimum.specs.Strips.{Point}
+use Rattle.arrays.specs.Arrays.{instanceBy, pointsBy}
+use Rattle.table.specs.Rows.{levelSize, Given, Filled, LevelRight}
+use Rattle.table.proofs.Places.{next-level, level-room, place-small}
+use Rattle.table.proofs.Right.{site-right}
+use Rattle.budgets.specs.Budgets.{Others}
+use mathlib.Core.Path.{_≡_, refl, ap, sym, _∙_}
+use mathlib.Core.List.{List, [], _∷_, _++_}
+use mathlib.Core.Logic.{⊎-elim}
+use Prim.Native.Nat.{ℕ, zero, suc, _+_, _-_, _*_, _<_, _≤_}
+use native.Mathlib.Omega.{arith}
+use native.Mathlib.Numerals.{add-one}
+use lib.ListN.{length, getD, take, drop, set, length-set}
+use borrow.Author.Tests.{eq-eqb, ne-eqb, lt-ltb, le-ltb, le-leb, lt-leb}
+use borrow.Author.Needs.{needs}
+use Rattle.table.proofs.fill_site.Statement.{statement}
+use Rattle.table.proofs.fill_site.Tie as tie
+use Rattle.table.proofs.fill_site.Reads as reads
+use Rattle.table.proofs.fill_site.Lts as lts
+use Rattle.budgets.proofs.list_left.Reads as list-left-reads
+use Rattle.table.proofs.fill_level.Reads as fill-level-reads
+use Rattle.words.proofs.get.Reads as get-reads
+
+-- src/lib.rt:61:13
+mul-c : tie.Need-mul-c
+mul-c c = search needs
+
+-- src/lib.rt:61:13
+shared-slice-read-c : tie.Need-shared-slice-read-c
+shared-slice-read-c c = search needs
+
+-- src/lib.rt:62:23
+mul-t18 : tie.Need-mul-t18
+mul-t18 c = search needs
+
+-- src/lib.rt:62:23
+shared-slice-read-t20 : tie.Need-shared-slice-read-t20
+shared-slice-read-t20 c = search needs
+
+-- src/lib.rt:62:33
+mul-t22 : tie.Need-mul-t22
+mul-t22 c = search needs
+
+-- src/lib.rt:62:33
+shared-slice-read-t24 : tie.Need-shared-slice-read-t24
+shared-slice-read-t24 c = search needs
+
+-- src/lib.rt:63:9
+get-requires : tie.Need-get-requires
+get-requires c κs = search needs
+
+-- src/lib.rt:65:39
+cast-list-left : tie.Need-cast-list-left
+cast-list-left c = search needs
+
+-- src/lib.rt:65:59
+slice-aggregate-list-left : tie.Need-slice-aggregate-list-left
+slice-aggregate-list-left c = search needs
+
+-- src/lib.rt:65:5
+list-left-requires : tie.Need-list-left-requires
+list-left-requires c κs =
+    let g = c .before .before .before .before .before .before .before .before .before .before .before .before .before .before .before .before .pre .0 in (g .divides, (g .framed .budgetsFew, omega (arith, g .framed .budgetsFew)))
+
+-- src/lib.rt:66:57
+slice-aggregate-fill-level : tie.Need-slice-aggregate-fill-level
+slice-aggregate-fill-level c = search needs
+
+-- src/lib.rt:66:67
+mul-fill-level : tie.Need-mul-fill-level
+mul-fill-level c =
+    let p = c .before .before .before .before .before .before .before .before .before .before .before .before .before .before .before .before .before .before .before .before .pre in
+    omega (arith, place-small _ _ _ (p .0 .framed) (c .before .before .before .before .before .before .before .before .before .before .before .before .before .before .before .before .before .before .before .before .args .j) _ (omega (arith, p .1 .1 .0, p .0 .sitesFew)) (p .1 .1 .1))
+
+-- src/lib.rt:66:78
+add-fill-level : tie.Need-add-fill-level
+add-fill-level c = search needs
+
+-- src/lib.rt:66:77
+mul-fill-level-2 : tie.Need-mul-fill-level-2
+mul-fill-level-2 c =
+    let p = c .before .before .before .before .before .before .before .before .before .before .before .before .before .before .before .before .before .before .before .before .pre in
+    omega (arith, place-small _ _ _ (p .0 .framed) (c .before .before .before .before .before .before .before .before .before .before .before .before .before .before .before .before .before .before .before .before .args .j + 1) _ (omega (arith, p .1 .1 .0, p .0 .sitesFew)) (p .1 .1 .1))
+
+-- src/lib.rt:66:5
+fill-level-requires : tie.Need-fill-level-requires
+fill-level-requires c κs =
+    let a = c .before .before .before .before .before .before .before .before .before .before .before .before .before .before .before .before .before .before .before .before .args in
+    let p = c .before .before .before .before .before .before .before .before .before .before .before .before .before .before .before .before .before .before .before .before .pre in
+    let r = level-room (a .j) _ (a .size) _ _ (p .1 .1 .1) (p .1 .1 .0) (p .0 .within) in
+    record {
+      framed = p .0 .framed; listed = p .1 .0 .within; leftLong = omega (arith, p .0 .framed .budgetsFew, c .before .before .before .list-left .kept);
+      stands = record { colourLow = p .0 .csLow (a .j) (p .1 .1 .0); yLow = p .0 .ysLow (a .j) (p .1 .1 .0) };
+      apart = omega (arith, next-level (a .j) (a .size), p .1 .1 .1);
+      within = omega (arith, r .1, p .1 .1 .1);
+    }
+
+-- src/lib.rt:54:1
+same-length : tie.Need-same-length
+same-length c = search needs
+
+-- src/lib.rt:54:1
+returns : tie.Need-returns
+returns c =
+    let a = c .before .before .before .before .before .before .before .before .before .before .before .before .before .before .before .before .before .before .before .before .before .before .before .args in
+    let p = c .before .before .before .before .before .before .before .before .before .before .before .before .before .before .before .before .before .before .before .before .before .before .before .pre in
+    let f = c .before .before .fill-level .ensures in
+    (others-of _ _ _ _ _ (p .1 .1 .1) (f .others),
+    λ h. site-right _ _ _ _ _ _ _ _ _ (p .0) _ _ _ _ _ (a .j) _ _ (p .1 .0) (p .1 .1 .0) (rw (← (c .before .before .before .before .before .before .before .before .before .get .ensures)) (c .before .before .before .before .before .before .list-left .ensures)) f h)
+
+pub fill-site-spec : {M : Type 1} → statement M
+fill-site-spec =
+    tie.close
+    (tie.spec
+    mul-c
+    shared-slice-read-c
+    mul-t18
+    shared-slice-read-t20
+    mul-t22
+    shared-slice-read-t24
+    get-requires
+    cast-list-left
+    slice-aggregate-list-left
+    list-left-requires
+    slice-aggregate-fill-level
+    mul-fill-level
+    add-fill-level
+    mul-fill-level-2
+    fill-level-requires
+    same-length
+    returns)

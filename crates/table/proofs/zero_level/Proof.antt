@@ -1,0 +1,80 @@
+use Rattle.table.proofs.Filling.{Zeroed, zero-none, zero-more}
+use mathlib.Core.Path.{_≡_, refl, ap, sym, _∙_}
+use mathlib.Core.List.{List, [], _∷_, _++_}
+use mathlib.Core.Logic.{⊎-elim}
+use Prim.Native.Nat.{ℕ, zero, suc, _+_, _-_, _*_, _<_, _≤_}
+use native.Mathlib.Omega.{arith}
+use native.Mathlib.Numerals.{add-one}
+use lib.ListN.{length, getD, take, drop, set, length-set}
+use borrow.Author.Tests.{eq-eqb, ne-eqb, lt-ltb, le-ltb, le-leb, lt-leb}
+use borrow.Author.Needs.{needs}
+use Rattle.table.proofs.zero_level.Statement.{statement}
+use Rattle.table.proofs.zero_level.Tie as tie
+use Rattle.table.proofs.zero_level.Reads as reads
+use Rattle.table.proofs.zero_level.Lts as lts
+
+abbrev Inv-loop : tie.InvT-loop
+Inv-loop work₀ base size i₀ work i = (i ≤ size) × (length work ≡ length work₀) × Zeroed work₀ work base i
+
+abbrev μ-loop : tie.MeasureT-loop
+μ-loop work₀ base size i₀ work i = size - i
+
+-- src/lib.rt:47:5
+loop-holds : tie.Need-loop-holds Inv-loop μ-loop
+loop-holds c =
+    (omega arith, refl, zero-none _ _)
+
+-- src/lib.rt:48:14
+add-work : tie.Need-add-work Inv-loop μ-loop
+add-work c = search needs
+
+-- src/lib.rt:48:9
+mul-work : tie.Need-mul-work Inv-loop μ-loop
+mul-work c = search needs
+
+-- src/lib.rt:48:9
+slice-write-work : tie.Need-slice-write-work Inv-loop μ-loop
+slice-write-work c =
+    omega (arith, c .loop-test, c .before .loop .inv .1, c .before .before .pre)
+
+-- src/lib.rt:49:9
+add-i : tie.Need-add-i Inv-loop μ-loop
+add-i c = search needs
+
+-- src/lib.rt:47:5
+loop-less : tie.Need-loop-less Inv-loop μ-loop
+loop-less c = search needs
+
+-- src/lib.rt:47:5
+loop-again : tie.Need-loop-again Inv-loop μ-loop
+loop-again c =
+    let l = c .before .loop in
+    (omega arith, simp length-set (l .inv .1), zero-more _ _ _ _ (omega (arith, c .loop-test, l .inv .1, c .before .before .pre)) (l .inv .2))
+
+-- src/lib.rt:41:1
+same-length : tie.Need-same-length Inv-loop μ-loop
+same-length c =
+    c .before .loop .inv .1
+
+-- src/lib.rt:41:1
+returns : tie.Need-returns Inv-loop μ-loop
+returns c =
+    let l = c .before .loop in
+    let e : l .i ≡ c .before .before .args .size = omega (arith, l .inv .0, c .loop-test) in
+    let z : Zeroed _ _ _ _ = rw e at (l .inv .2) in (z .others, z .zeros)
+
+pub zero-level-spec : {M : Type 1} → statement M
+zero-level-spec =
+    tie.close
+    (tie.spec
+    Inv-loop
+    μ-loop
+    loop-holds
+    add-work
+    mul-work
+    slice-write-work
+    add-i
+    loop-less
+    loop-again
+    same-length
+    returns)

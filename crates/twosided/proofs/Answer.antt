@@ -1,0 +1,295 @@
+-- The layout of an accepted two-sided sheet from its arrays is what the maker is to answer. Assumes nothing.
+use mathlib.Core.Path.{_≡_, refl, sym, ap, ap₂, _∙_, fun-ext, subst}
+use mathlib.Core.Logic.{_≢_}
+use mathlib.Core.Bool.{Bool, true, false, cond, _&&_, _||_}
+use mathlib.Core.List.{List, [], _∷_, _++_}
+use Prim.Native.Nat.{ℕ, zero, suc, _+_, _*_, _-_, _/_, _%_, _^_, _≤_, _<_}
+use native.Mathlib.Nat.{mul-le-mul, mul-assoc, mul-comm, one-mul, mul-one}
+use native.Mathlib.Omega.{arith}
+use native.Mathlib.Numerals.{add-one}
+use lib.Dec.{ltb, leb, eqb}
+use lib.ListN.{length, getD, set, take, drop, replicate, length-replicate}
+use borrow.Author.Tests.{lt-ltb, le-ltb, ltb-true, eqb-true}
+use Rattle.lists.proofs.Tests.{by-test, by-order, and-l}
+use Rattle.search.specs.Radix.{place}
+use Rattle.sheet.specs.Sheet.{Site, Colour, Sheet, sheetIn, sheetFault, bodyOf, coloursIn, kindOf, rankOf, productOf, workFor}
+use Rattle.sheet.proofs.Accepted.{Sound, sound, sites-coloured}
+use Rattle.labelling.specs.Layout.{tieWords, layoutWords, noColour, siteShare}
+use Rattle.labelling.specs.Entry.{makeFault, makeWork, makeAnswer}
+use Rattle.labelling.specs.Promise.{takesSheet}
+use Rattle.labelling.proofs.Rules.{siteAt}
+use Rattle.labelling.proofs.Maker.{Result, cleared}
+use Rattle.optimum.specs.Sums.{listing}
+use Rattle.optimum.specs.UsedSlots.{Instance, put, value, leftmost, choose, capAll, ties}
+use Rattle.optimum.specs.TwoSided.{radicesOf, instanceOf}
+use Rattle.optimum.proofs.Halve.{halve}
+use Rattle.optimum.proofs.TwoSidedAnswer.{choose-halved, step-keeps}
+use Rattle.optimum.proofs.TwoSidedCall.{leastOf, capsOf, two-sided-call, two-sided-none}
+use Rattle.arrays.specs.declared.Measures.{Measures}
+use Rattle.arrays.specs.Arrays.{boundsOf, xsOf, ysOf, coloursOf, radicesBy, drawsBy, radixBy, measuresOf, padded, productBy}
+use Rattle.arrays.proofs.Instances.{xs-at, ys-at, colours-at}
+use Rattle.arrays.proofs.Whole.{front}
+use Rattle.arrays.proofs.Ordered.{radices-long, draws-long, product-positive, product-are}
+use Rattle.usedslots.specs.Table.{none, unitOf, labelCost, instanceBy, tableBy, capsIn, Fits, tableWords}
+use Rattle.usedslots.proofs.Strips.{value-ranks}
+use Rattle.twosided.specs.Caps.{capHalved, countBy, lengthBy, wordsBy, uncapped, laidBy, Laid, Low}
+
+-- ---- a call on arrays
+
+pub words-low : (m C P : ℕ) → m ≤ 48 → C ≤ 8 → P ≤ 64 → ((m + 2) * (C + 1) ≤ 450) × ((m + 2) * (C + 1) * P ≤ 28800)
+words-low m C P h i k =
+    let x : (m + 2) * (C + 1) ≤ 50 * 9 = mul-le-mul {n₂ = 50} {m₂ = 9} (omega arith) (omega arith) in
+    let y : (m + 2) * (C + 1) * P ≤ 450 * 64 = mul-le-mul {n₂ = 450} {m₂ = 64} x k in
+    (x, y)
+
+module _ (q : Measures) (hs bs rs ys cs xs caps : List ℕ) (zeros : (i : ℕ) → getD caps i 0 ≡ 0) where
+  abbrev G : Instance
+  G = instanceBy q hs bs rs ys cs xs
+
+  caps-none : capsIn caps ≡ uncapped
+  caps-none = fun-ext zeros
+
+  pub least-is : (w : ℕ) → w ≡ value (tableBy q hs bs rs ys cs) (capsIn caps) → w ≡ value G uncapped
+  least-is w e = e ∙ sym (value-ranks q hs bs rs ys cs xs (capsIn caps)) ∙ ap (value G) caps-none
+
+  pub low-none : Low caps
+  low-none i = rw (zeros i) (omega arith)
+
+  cut : (n : ℕ) (work now : List ℕ) → drop n now ≡ drop n work → replicate n 0 ++ drop n now ≡ replicate n 0 ++ drop n work
+  cut n work now e = ap (λ (l : List ℕ). replicate n 0 ++ l) e
+
+  pub laid-none : (w words : ℕ) (work now zeroed out : List ℕ) → w ≡ value (tableBy q hs bs rs ys cs) (capsIn caps) → w ≡ none →
+      drop words now ≡ drop words work → zeroed ≡ replicate words 0 ++ drop words now → Laid q G words work out 10 zeroed out
+  laid-none w words work now zeroed out e z d c =
+      let v : value G uncapped ≡ none = sym (least-is w e) ∙ z in
+      let l : ltb (value G uncapped) none ≡ false = le-ltb (value G uncapped) none (omega arith) in
+      record { fault-is = rw l; out-is = rw l; work-is = c ∙ cut words work now d }
+
+  pub laid-some : (w head words : ℕ) (new work now zeroed out outs : List ℕ) → w ≡ value (tableBy q hs bs rs ys cs) (capsIn caps) → (w ≡ none → ⊥) → w ≤ none →
+      length new ≡ length ys → capsIn new ≡ capHalved G w (length ys) (capsIn caps) → head ≡ 8 * 268435456 + countBy q w * 2097152 + lengthBy q w →
+      outs ≡ wordsBy head new ++ drop (length new + 1) out →
+      drop words now ≡ drop words work → zeroed ≡ replicate words 0 ++ drop words now → Laid q G words work out 0 zeroed outs
+  unfolding ties
+  laid-some w head words new work now zeroed out outs e z b n h f o d c =
+      let v : w ≡ value G uncapped = least-is w e in
+      let l : ltb (value G uncapped) none ≡ true = lt-ltb (value G uncapped) none (omega (arith, z)) in
+      record { fault-is = rw l; out-is = rw l (o ∙ rw (n, f) (is ∙ ap (λ (z : ℕ). layoutWords (countBy q z) (lengthBy q z) (ties G (capHalved G z (length ys) uncapped)) ++ drop (length ys + 1) out) v)); work-is = c ∙ cut words work now d }
+    where
+      is : layoutWords (countBy q w) (lengthBy q w) (listing (λ i. getD new i 0 - 1) 0 (length ys)) ++ drop (length ys + 1) out ≡
+          layoutWords (countBy q w) (lengthBy q w) (ties G (capHalved G w (length ys) uncapped)) ++ drop (length ys + 1) out
+      is = ap (λ (fx : ℕ → ℕ). layoutWords (countBy q w) (lengthBy q w) (listing (λ i. fx i - 1) 0 (length ys)) ++ drop (length ys + 1) out)
+          (h ∙ ap (capHalved G w (length ys)) caps-none)
+
+-- ---- the arrays of a sheet
+
+-- the greatest product of radices before a colour and its own divides the whole
+whole-part : (bs : List ℕ) (d : ℕ) → d < length bs → (b : ℕ) × (productBy bs ≡ b * (place (radicesBy bs) d * getD (radicesBy bs) d 0))
+unfolding radicesBy productBy place
+whole-part [] d h = absurd (omega arith)
+whole-part (b ∷ bs) zero h = (productBy bs, mul-comm (radixBy b) (productBy bs) ∙ ap (λ (z : ℕ). productBy bs * z) (sym (one-mul (radixBy b))))
+whole-part (b ∷ bs) (suc d) h =
+    let w = whole-part bs d (omega arith) in
+    (w .0, ap (λ (z : ℕ). radixBy b * z) (w .1) ∙ turn (radixBy b) (w .0) (place (radicesBy bs) d) (getD (radicesBy bs) d 0))
+  where
+    turn : (r b p x : ℕ) → r * (b * (p * x)) ≡ b * (p * r * x)
+    turn r b p x =
+        sym (mul-assoc r b (p * x)) ∙ ap (λ (z : ℕ). z * (p * x)) (mul-comm r b) ∙ mul-assoc b r (p * x) ∙
+        ap (λ (z : ℕ). b * z) (sym (mul-assoc r p x) ∙ ap (λ (z : ℕ). z * x) (mul-comm r p))
+
+draw-part : (bs : List ℕ) (p d : ℕ) → d < length bs → getD (drawsBy p bs) d 0 ≡ cond (eqb (getD bs d 0) 255) 0 (p * place (radicesBy bs) d)
+unfolding drawsBy radicesBy place
+draw-part [] p d h = absurd (omega arith)
+draw-part (b ∷ bs) p zero h = ap (λ (z : ℕ). cond (eqb b 255) 0 z) (sym (mul-one p))
+draw-part (b ∷ bs) p (suc d) h =
+    draw-part bs (p * radixBy b) d (omega arith) ∙ ap (λ (z : ℕ). cond (eqb (getD bs d 0) 255) 0 z) (turn p (radixBy b) (place (radicesBy bs) d))
+  where
+    turn : (p r x : ℕ) → p * r * x ≡ p * (x * r)
+    turn p r x = mul-assoc p r x ∙ ap (λ (z : ℕ). p * z) (mul-comm r x)
+
+pub bounds-long : (ks : List Colour) → length (boundsOf ks) ≡ length ks
+unfolding boundsOf
+bounds-long [] = refl
+bounds-long (k ∷ ks) = ap suc (bounds-long ks)
+
+bound-at : (ks : List Colour) (c : ℕ) → getD (boundsOf ks) c 0 ≡ (getD ks c noColour) .bound
+unfolding boundsOf
+bound-at [] c = refl
+bound-at (k ∷ ks) zero = refl
+bound-at (k ∷ ks) (suc c) = bound-at ks c
+
+pub ys-long : (ss : List Site) → length (ysOf ss) ≡ length ss
+unfolding ysOf
+ys-long [] = refl
+ys-long (s ∷ ss) = ap suc (ys-long ss)
+
+pub cs-long : (ss : List Site) → length (coloursOf ss) ≡ length ss
+unfolding coloursOf
+cs-long [] = refl
+cs-long (s ∷ ss) = ap suc (cs-long ss)
+
+pub xs-long : (ss : List Site) → length (xsOf ss) ≡ length ss
+unfolding xsOf
+xs-long [] = refl
+xs-long (s ∷ ss) = ap suc (xs-long ss)
+
+-- ---- the walk by halving is the model's
+
+-- the leftmost site without a cap has none
+leftmost-free : (G : Instance) (fx : ℕ → ℕ) (c : ℕ) → leftmost G fx c < G .n → fx (leftmost G fx c) ≡ 0
+unfolding leftmost
+leftmost-free G fx zero h = absurd (omega arith)
+leftmost-free G fx (suc c) h =
+    by-test (eqb (fx c) 0 && (leb (G .n) (leftmost G fx c) || ltb (G .x c) (G .x (leftmost G fx c))))
+    (λ e. rw e (eqb-true (fx c) 0 (and-l (eqb (fx c) 0) _ e)))
+    (λ e. rw e (leftmost-free G fx c (rw e at h)))
+
+module _ (s : Sheet) (o : Sound s) (two : s .isTwoSided ≡ true) (low : leastOf s < none) where
+  halved-all : (f : ℕ) (fx : ℕ → ℕ) → value (instanceOf s) fx ≡ leastOf s → capHalved (instanceOf s) (leastOf s) f fx ≡ capAll (instanceOf s) (leastOf s) f fx
+  unfolding capHalved capAll
+  halved-all zero fx v = refl
+  halved-all (suc f) fx v =
+      by-order (length (s .sites)) (leftmost (instanceOf s) fx (length (s .sites)))
+      (λ h. rw (le-ltb _ _ h))
+      (λ h.
+      let r : ℕ = leftmost (instanceOf s) fx (length (s .sites)) in
+      let z : fx r ≡ 0 = leftmost-free (instanceOf s) fx (length (s .sites)) h in
+      let e : choose (instanceOf s) (leastOf s) fx r ≡ halve (λ k. eqb (value (instanceOf s) (put fx r (suc k))) (leastOf s)) 6 0 (length (s .slots) - 1) =
+      choose-halved s o two (o .coloured) low fx r v h z in
+      rw (lt-ltb _ _ h, ← e) (halved-all f (put fx r (suc (choose (instanceOf s) (leastOf s) fx r))) (step-keeps s o two (o .coloured) low fx r v h z)))
+
+-- ---- THE CALL
+
+module _ (s : Sheet) where
+  abbrev bs : List ℕ
+  bs = boundsOf (s .colours)
+
+  abbrev instance : Instance
+  instance = instanceBy (measuresOf s) (s .slots) bs (radicesBy bs) (ysOf (s .sites)) (coloursOf (s .sites)) (xsOf (s .sites))
+
+  radices-same : (ks : List Colour) → radicesBy (boundsOf ks) ≡ radicesOf ks
+  unfolding radicesBy boundsOf radicesOf
+  radices-same [] = refl
+  radices-same (k ∷ ks) = ap (λ (l : List ℕ). radixBy (k .bound) ∷ l) (radices-same ks)
+
+  instance-is : instance ≡ instanceOf s
+  unfolding siteShare rankOf
+  instance-is = λ i. record {
+    top = none;
+    m = length (s .slots);
+    n = ys-long (s .sites) i;
+    colours = length (s .colours);
+    dist = s .gap;
+    each = labelCost (measuresOf s);
+    unit = unitOf (measuresOf s);
+    share = siteShare s;
+    budget = productOf (s .colours) - 1;
+    radices = radices-same (s .colours) i;
+    unbounded = λ c. eqb (bound-at (s .colours) c i) 255;
+    height = λ k. getD (s .slots) k 0;
+    x = λ j. xs-at (s .sites) j i;
+    y = λ j. ys-at (s .sites) j i;
+    colour = λ j. colours-at (s .sites) j i;
+  }
+
+  module _ (o : Sound s) where
+    pub sheet-fits : (caps : List ℕ) → length caps ≡ length (s .sites) →
+        Fits (measuresOf s) (s .slots) bs (radicesBy bs) (drawsBy 1 bs) (ysOf (s .sites)) (coloursOf (s .sites)) caps
+    sheet-fits caps e =
+        let c = bounds-long (s .colours) in
+        let p = product-are (s .colours) in
+        record {
+          few-slots = o .few-slots;
+          few-colours = o .few-colours;
+          some-budget = omega (arith, product-positive bs);
+          few-budgets = o .product;
+          bounds-long = c;
+          radices-long = radices-long bs ∙ c;
+          draws-long = draws-long 1 bs ∙ c;
+          few-sites = omega (arith, ys-long (s .sites), o .few-sites);
+          colours-long = cs-long (s .sites) ∙ sym (ys-long (s .sites));
+          caps-long = e ∙ sym (ys-long (s .sites));
+          draws = λ d l. draw-part bs 1 d (omega arith) ∙ ap (λ (z : ℕ). cond (eqb (getD bs d 0) 255) 0 z) (one-mul (place (radicesBy bs) d));
+          whole = λ d l. let w = whole-part bs d (omega arith) in (w .0, sym p ∙ w .1);
+        }
+
+module _ (ws k o : List ℕ) (t : takesSheet ws k o) (two : (sheetIn ws) .isTwoSided ≡ true) where
+  -- what the arrays' call leaves is what the maker is to leave
+  made-from : (fault : ℕ) (work out : List ℕ) →
+      Laid (measuresOf (sheetIn ws)) (instanceOf (sheetIn ws)) (workFor (sheetIn ws)) k o fault work out → Result ws k o fault out work
+  made-from fault work out l =
+      by-order none (leastOf (sheetIn ws))
+      (λ h.
+      let b : ltb (leastOf (sheetIn ws)) none ≡ false = le-ltb (leastOf (sheetIn ws)) none h in
+      let e₁ : fault ≡ 10 = l .fault-is ∙ rw b in
+      let e₂ : out ≡ o = l .out-is ∙ rw b in
+      rw (e₁, e₂, l .work-is) (two-sided-none ws k o t two h))
+      (λ h.
+      let b : ltb (leastOf (sheetIn ws)) none ≡ true = lt-ltb (leastOf (sheetIn ws)) none h in
+      let e₁ : fault ≡ 0 = l .fault-is ∙ rw b in
+      let e₂ : out ≡ laidBy (measuresOf (sheetIn ws)) (instanceOf (sheetIn ws)) ++ drop (length ((sheetIn ws) .sites) + 1) o = l .out-is ∙ rw b in
+      let e₃ : capHalved (instanceOf (sheetIn ws)) (leastOf (sheetIn ws)) (length ((sheetIn ws) .sites)) uncapped ≡ capsOf (sheetIn ws) =
+      halved-all (sheetIn ws) (sound ws (t .1)) two h (length ((sheetIn ws) .sites)) uncapped refl in
+      rw (e₁, e₂, l .work-is, e₃) (two-sided-call ws k o t two h))
+
+  table-words : workFor (sheetIn ws) ≡ tableWords (measuresOf (sheetIn ws)) ((sheetIn ws) .slots)
+  table-words = rw two
+
+  -- the same of the arrays that code has
+  pub made : (q : Measures) (hs bs rs ys cs xs : List ℕ) (fault : ℕ) (work out : List ℕ) →
+      q ≡ measuresOf (sheetIn ws) → hs ≡ (sheetIn ws) .slots → bs ≡ boundsOf ((sheetIn ws) .colours) → rs ≡ radicesBy bs → ys ≡ ysOf ((sheetIn ws) .sites) →
+      cs ≡ coloursOf ((sheetIn ws) .sites) → xs ≡ xsOf ((sheetIn ws) .sites) →
+      Laid q (instanceBy q hs bs rs ys cs xs) (tableWords q hs) k o fault work out → Result ws k o fault out work
+  made q hs bs rs ys cs xs fault work out e₁ e₂ e₃ e₄ e₅ e₆ e₇ l =
+      let r : rs ≡ radicesBy (boundsOf ((sheetIn ws) .colours)) = rw e₃ at e₄ in
+      made-from fault work out (rw (e₁, e₂, e₃, r, e₅, e₆, e₇, instance-is (sheetIn ws), ← table-words) at l)
+
+-- ---- parts of padded arrays
+
+pub part-is : (size : ℕ) (l r : List ℕ) (k : ℕ) → r ≡ padded size l → k ≡ length l → take k r ≡ l
+part-is size l r k e h = ap (take k) e ∙ front size l k h
+
+pub part-long : (size : ℕ) (l r : List ℕ) (k : ℕ) → r ≡ padded size l → k ≡ length l → k ≡ length (take k r)
+part-long size l r k e h = h ∙ ap length (sym (part-is size l r k e h))
+
+pub zero-part : (k n i : ℕ) → getD (take k (replicate {A = ℕ} n 0)) i 0 ≡ 0
+zero-part zero n i = refl
+zero-part (suc k) zero i = refl
+zero-part (suc k) (suc n) zero = refl
+zero-part (suc k) (suc n) (suc i) = zero-part k n i
+
+cons-low : (b : ℕ) (l : List ℕ) → b < 256 → ((i : ℕ) → getD l i 0 < 256) → (i : ℕ) → getD (b ∷ l) i 0 < 256
+cons-low b l h k zero = h
+cons-low b l h k (suc i) = k i
+
+bound-low : (ws : List ℕ) (i : ℕ) → getD (boundsOf (coloursIn ws)) i 0 < 256
+unfolding boundsOf coloursIn
+bound-low [] i = omega arith
+bound-low (w ∷ ws) i =
+    by-test (eqb (kindOf w) 3)
+    (λ e. rw e (cons-low (w / 2 ^ 0 % 2 ^ 8) (boundsOf (coloursIn ws)) (omega arith) (bound-low ws) i))
+    (λ e. rw e (bound-low ws i))
+
+-- the arrays of an accepted sheet as code has them, in parts of the sizes that a caller read
+module _ (ws : List ℕ) (f : sheetFault ws ≡ 0) where
+  pub bounds-part : (r : List ℕ) (k : ℕ) → r ≡ padded 8 (boundsOf ((sheetIn ws) .colours)) → k ≡ length ((sheetIn ws) .colours) → take k r ≡ boundsOf ((sheetIn ws) .colours)
+  bounds-part r k e h = part-is 8 (boundsOf ((sheetIn ws) .colours)) r k e (h ∙ sym (bounds-long ((sheetIn ws) .colours)))
+
+  pub bounds-low : (bs : List ℕ) → bs ≡ boundsOf ((sheetIn ws) .colours) → (i : ℕ) → getD bs i 0 < 256
+  bounds-low bs e i = rw e (bound-low (bodyOf ws) i)
+
+  pub product-low : (bs : List ℕ) → bs ≡ boundsOf ((sheetIn ws) .colours) → productBy bs ≤ 64
+  product-low bs e = rw (e, product-are ((sheetIn ws) .colours)) (sound ws f .product)
+
+  pub fits-from : (q : Measures) (hs bs rs ds ys cs caps : List ℕ) → q ≡ measuresOf (sheetIn ws) → hs ≡ (sheetIn ws) .slots → bs ≡ boundsOf ((sheetIn ws) .colours) →
+      rs ≡ radicesBy bs → ds ≡ drawsBy 1 bs → ys ≡ ysOf ((sheetIn ws) .sites) → cs ≡ coloursOf ((sheetIn ws) .sites) → length caps ≡ length ((sheetIn ws) .sites) →
+      Fits q hs bs rs ds ys cs caps
+  fits-from q hs bs rs ds ys cs caps e₁ e₂ e₃ e₄ e₅ e₆ e₇ n =
+      rw (e₁, e₂, e₄, e₅, e₃, e₆, e₇) (sheet-fits (sheetIn ws) (sound ws f) caps n)
+
+-- and the areas are long enough for them
+pub areas-from : (ws k o : List ℕ) → takesSheet ws k o → (sheetIn ws) .isTwoSided ≡ true → (q : Measures) (hs ys : List ℕ) →
+    q ≡ measuresOf (sheetIn ws) → hs ≡ (sheetIn ws) .slots → ys ≡ ysOf ((sheetIn ws) .sites) → (tableWords q hs ≤ length k) × (length ys + 1 ≤ length o)
+areas-from ws k o t two q hs ys e₁ e₂ e₃ =
+    let w : workFor (sheetIn ws) ≤ length k = t .2 in
+    let n = ys-long ((sheetIn ws) .sites) in
+    rw (e₁, e₂, e₃) ((rw two at w), omega (arith, t .3))

@@ -1,0 +1,2 @@
+pub mod Caps
+pub mod Answer

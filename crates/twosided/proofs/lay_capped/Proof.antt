@@ -1,0 +1,106 @@
+use Rattle.usedslots.specs.Table.{tableWords}
+use Rattle.twosided.proofs.Answer.{laid-none, laid-some, low-none}
+use mathlib.Core.Path.{_≡_, refl, ap, sym, _∙_}
+use mathlib.Core.List.{List, [], _∷_, _++_}
+use mathlib.Core.Logic.{⊎-elim}
+use Prim.Native.Nat.{ℕ, zero, suc, _+_, _-_, _*_, _<_, _≤_}
+use native.Mathlib.Omega.{arith}
+use native.Mathlib.Numerals.{add-one}
+use lib.ListN.{length, getD, take, drop, set, length-set}
+use borrow.Author.Tests.{eq-eqb, ne-eqb, lt-ltb, le-ltb, le-leb, lt-leb}
+use borrow.Author.Needs.{needs}
+use Rattle.twosided.proofs.lay_capped.Statement.{statement}
+use Rattle.twosided.proofs.lay_capped.Tie as tie
+use Rattle.twosided.proofs.lay_capped.Reads as reads
+use Rattle.twosided.proofs.lay_capped.Lts as lts
+use Rattle.twosided.proofs.cap_all.Reads as cap-all-reads
+use Rattle.twosided.proofs.clear.Reads as clear-reads
+use Rattle.twosided.proofs.head_word.Reads as head-word-reads
+use Rattle.twosided.proofs.table_words.Reads as table-words-reads
+use Rattle.twosided.proofs.write_layout.Reads as write-layout-reads
+use Rattle.usedslots.proofs.value_of.Reads as value-of-reads
+
+-- src/lib.rt:232:9
+table-words-requires : tie.Need-table-words-requires
+table-words-requires c κs = search needs
+
+-- src/lib.rt:233:9
+value-of-requires : tie.Need-value-of-requires
+value-of-requires c κs = search needs
+
+-- src/lib.rt:235:9
+clear-requires : tie.Need-clear-requires
+clear-requires c κs = search needs
+
+-- src/lib.rt:236:9
+same-length : tie.Need-same-length
+same-length c = search needs
+
+-- src/lib.rt:236:9
+same-length-2 : tie.Need-same-length-2
+same-length-2 c = search needs
+
+-- src/lib.rt:236:9
+returns : tie.Need-returns
+returns c =
+    let a = c .before .before .before .before .before .before .before .before .before .before .before .before .before .before .before .before .before .before .before .before .before .args in let p = c .before .before .before .before .before .before .before .before .before .before .before .before .before .before .before .before .before .before .before .before .before .pre in let v = c .before .before .before .before .before .before .before .value-of in
+    laid-none (a .q) (a .heights .now) (a .bounds .now) (a .radices .now) (a .ys .now) (a .colours .now) (a .ranks .now) (a .caps .now) (p .1 .0) (v .result) (tableWords (a .q) (a .heights .now)) (a .work .now) (v .last .1 .1 .1 .1 .1 .1 .1 .1 .0) (c .before .before .clear .last .0) (a .out .now) (v .ensures .0) (c .before .before .before .before .if1 .taken) (v .ensures .1)
+    (rw (c .before .before .before .before .before .before .before .before .before .before .table-words .ensures) at (c .before .before .clear .ensures))
+
+-- src/lib.rt:238:5
+cap-all-requires : tie.Need-cap-all-requires
+cap-all-requires c κs = search needs
+
+-- src/lib.rt:239:18
+head-word-requires : tie.Need-head-word-requires
+head-word-requires c κs = search needs
+
+-- src/lib.rt:239:5
+write-layout-requires : tie.Need-write-layout-requires
+write-layout-requires c κs =
+    let a = c .before .before .before .before .before .before .before .before .before .before .before .before .before .before .before .before .before .before .before .before .before .before .before .before .before .before .before .args in let p = c .before .before .before .before .before .before .before .before .before .before .before .before .before .before .before .before .before .before .before .before .before .before .before .before .before .before .before .pre in let k = c .before .before .before .before .before .before .before .cap-all in
+    (omega (arith, k .kept .1 .1 .1 .1 .1 .1 .1 .1 .0, p .0 .caps-long, p .1 .1), omega (arith, k .kept .1 .1 .1 .1 .1 .1 .1 .1 .0, p .0 .caps-long, p .0 .few-sites), k .ensures .1 .0 (low-none (a .q) (a .heights .now) (a .bounds .now) (a .radices .now) (a .ys .now) (a .colours .now) (a .ranks .now) (a .caps .now) (p .1 .0)))
+
+-- src/lib.rt:240:5
+clear-requires-2 : tie.Need-clear-requires-2
+clear-requires-2 c κs =
+    omega (arith, c .before .before .before .before .before .before .before .before .before .before .before .before .before .before .before .before .before .before .before .before .table-words .ensures, c .before .before .before .before .before .before .before .before .before .before .before .cap-all .kept .1 .1 .1 .1 .1 .1 .1 .1 .1 .0, c .before .before .before .before .before .before .before .before .before .before .before .before .before .before .before .before .before .value-of .kept .1 .1 .1 .1 .1 .1 .1 .1 .0, c .before .before .before .before .before .before .before .before .before .before .before .before .before .before .before .before .before .before .before .before .before .before .before .before .before .before .before .before .before .before .before .pre .1 .1)
+
+-- src/lib.rt:214:1
+same-length-3 : tie.Need-same-length-3
+same-length-3 c = search needs
+
+-- src/lib.rt:214:1
+same-length-4 : tie.Need-same-length-4
+same-length-4 c = search needs
+
+-- src/lib.rt:214:1
+same-length-5 : tie.Need-same-length-5
+same-length-5 c = search needs
+
+-- src/lib.rt:214:1
+returns-2 : tie.Need-returns-2
+returns-2 c =
+    let a = c .before .before .before .before .before .before .before .before .before .before .before .before .before .before .before .before .before .before .before .before .before .before .before .before .before .before .before .before .before .before .before .before .before .before .args in let p = c .before .before .before .before .before .before .before .before .before .before .before .before .before .before .before .before .before .before .before .before .before .before .before .before .before .before .before .before .before .before .before .before .before .before .pre in let v = c .before .before .before .before .before .before .before .before .before .before .before .before .before .before .before .before .before .before .before .before .value-of in let k = c .before .before .before .before .before .before .before .before .before .before .before .before .before .before .cap-all in
+    laid-some (a .q) (a .heights .now) (a .bounds .now) (a .radices .now) (a .ys .now) (a .colours .now) (a .ranks .now) (a .caps .now) (p .1 .0) (v .result) (c .before .before .before .before .before .before .before .before .before .head-word .result) (tableWords (a .q) (a .heights .now)) (k .last .1 .1 .1 .1 .1 .1 .1 .1 .0) (a .work .now) (k .last .1 .1 .1 .1 .1 .1 .1 .1 .1 .0) (c .before .before .clear2 .last .0) (a .out .now) (c .before .before .before .before .before .before .write-layout .last .1 .1 .0)
+    (v .ensures .0) (c .before .before .before .before .before .before .before .before .before .before .before .before .before .before .before .before .before .if1 .left) (omega (arith, v .ok)) (k .kept .1 .1 .1 .1 .1 .1 .1 .1 .0 ∙ p .0 .caps-long) (k .ensures .0) (c .before .before .before .before .before .before .before .before .before .head-word .ensures) (c .before .before .before .before .before .before .write-layout .ensures)
+    (k .ensures .1 .1 ∙ v .ensures .1) (rw (c .before .before .before .before .before .before .before .before .before .before .before .before .before .before .before .before .before .before .before .before .before .before .before .table-words .ensures) at (c .before .before .clear2 .ensures))
+
+pub lay-capped-spec : {M : Type 1} → statement M
+lay-capped-spec =
+    tie.close
+    (tie.spec
+    table-words-requires
+    value-of-requires
+    clear-requires
+    same-length
+    same-length-2
+    returns
+    cap-all-requires
+    head-word-requires
+    write-layout-requires
+    clear-requires-2
+    same-length-3
+    same-length-4
+    same-length-5
+    returns-2)

@@ -1,0 +1,49 @@
+use Rattle.twosided.proofs.Answer.{words-low}
+use mathlib.Core.Path.{_≡_, refl, ap, sym, _∙_}
+use mathlib.Core.List.{List, [], _∷_, _++_}
+use mathlib.Core.Logic.{⊎-elim}
+use Prim.Native.Nat.{ℕ, zero, suc, _+_, _-_, _*_, _<_, _≤_}
+use native.Mathlib.Omega.{arith}
+use native.Mathlib.Numerals.{add-one}
+use lib.ListN.{length, getD, take, drop, set, length-set}
+use borrow.Author.Tests.{eq-eqb, ne-eqb, lt-ltb, le-ltb, le-leb, lt-leb}
+use borrow.Author.Needs.{needs}
+use Rattle.twosided.proofs.table_words.Statement.{statement}
+use Rattle.twosided.proofs.table_words.Tie as tie
+use Rattle.twosided.proofs.table_words.Reads as reads
+use Rattle.twosided.proofs.table_words.Lts as lts
+
+-- src/lib.rt:210:17
+cast-codes : tie.Need-cast-codes
+cast-codes c = search needs
+
+-- src/lib.rt:210:17
+add-codes : tie.Need-add-codes
+add-codes c = search needs
+
+-- src/lib.rt:211:6
+add-result : tie.Need-add-result
+add-result c = search needs
+
+-- src/lib.rt:211:5
+mul-result : tie.Need-mul-result
+mul-result c =
+    let a = c .before .args in let p = c .before .pre in omega (arith, words-low (a .slots) (a .q .colours) (a .q .budgets) (p .0) (p .1) (p .2) .0)
+
+-- src/lib.rt:211:28
+cast-result : tie.Need-cast-result
+cast-result c = search needs
+
+-- src/lib.rt:211:5
+mul-result-2 : tie.Need-mul-result-2
+mul-result-2 c =
+    let a = c .before .before .args in let p = c .before .before .pre in omega (arith, words-low (a .slots) (a .q .colours) (a .q .budgets) (p .0) (p .1) (p .2) .1)
+
+-- src/lib.rt:206:1
+returns : tie.Need-returns
+returns c = search needs
+
+pub table-words-spec : {M : Type 1} → statement M
+table-words-spec =
+    tie.close
+    (tie.spec cast-codes add-codes add-result mul-result cast-result mul-result-2 returns)

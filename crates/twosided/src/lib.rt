@@ -1,0 +1,366 @@
+// Layouts of two-sided sheets: the least cost from the table, a cap for each site by rising rank, and the layout's words.
+ghost use mathlib.Core.Path.{_≡_};
+ghost use mathlib.Core.Bool.{true, cond, _&&_, _||_};
+ghost use mathlib.Core.List.{_++_};
+ghost use Prim.Native.Nat.{ℕ, suc, _+_, _-_, _*_, _/_, _%_, _<_, _≤_};
+ghost use lib.Dec.{eqb, leb, ltb};
+ghost use lib.ListN.{length, getD, set, drop, replicate};
+ghost use Rattle.sheet.specs.Sheet.{sheetIn, productOf};
+ghost use Rattle.labelling.specs.Entry.{makeFault, makeWork, makeAnswer};
+ghost use Rattle.labelling.specs.Promise.{takesSheet};
+ghost use Rattle.optimum.specs.UsedSlots.{value};
+ghost use Rattle.optimum.proofs.Halve.{halve};
+ghost use Rattle.usedslots.specs.Table.{instanceBy, tableBy, capsIn, Fits, tableWords};
+ghost use Rattle.twosided.specs.Caps.{leftmostBy, keepsCost, halfOf, capHalved, countBy, lengthBy, wordsBy, Low, Laid};
+use arrays::Measures;
+use arrays::bounds_of;
+use arrays::colours_of;
+use arrays::draws_of;
+use arrays::heights_of;
+use arrays::measures_of;
+use arrays::radices_of;
+use arrays::xs_of;
+use arrays::ys_of;
+use usedslots::value_of;
+use words::NONE;
+use words::at_most;
+use words::both;
+use words::choose;
+use words::either;
+use words::get;
+use words::less;
+use words::monus;
+use words::same;
+
+// Slots from low to high.
+pub struct Range {
+    pub low: u32,
+    pub high: u32,
+}
+
+// ---- the leftmost site without a cap
+
+fn leftmost_after(best: u32, site: u32, cap: u32, sites: u32, rank: u32, bound: u32) -> u32
+    ensures { λ r. ⌜ r ≡ cond (eqb cap 0 && (leb sites best || ltb rank bound)) site best ⌝ }
+{
+    choose(
+        both(
+            same(cap, 0),
+            either(at_most(sites, best), less(rank, bound)),
+        ),
+        site,
+        best,
+    )
+}
+
+fn leftmost(ranks: &[u32], caps: &[u32]) -> u32
+    requires { ⌜ length (now caps) ≤ 32 ⌝ }
+    ensures { λ r. ⌜ r ≡ leftmostBy (length (now (caps .entry))) (now (ranks .entry)) (now (caps .entry)) (length (now (caps .entry))) ⌝ }
+{
+    let n = caps.len() as u32;
+    let mut best = n;
+    let mut c: u32 = 0;
+    while c < n {
+        best = leftmost_after(best, c, get(caps, c), n, get(ranks, c), get(ranks, best));
+        c += 1;
+    }
+    best
+}
+
+// ---- the cap of a site, by halving
+
+// With the site's cap at k + 1 the least cost stays.
+fn keeps_cost(
+    q: Measures,
+    heights: &[u32],
+    bounds: &[u32],
+    radices: &[u32],
+    draws: &[u32],
+    ys: &[u32],
+    colours: &[u32],
+    caps: &mut [u32],
+    work: &mut [u32],
+    least: u32,
+    site: usize,
+    k: u32,
+) -> bool
+    requires { ⌜ Fits q (now heights) (now bounds) (now radices) (now draws) (now ys) (now colours) (now caps) ⌝ }
+    requires { ⌜ (tableWords q (now heights) ≤ length (now work)) × (site < length (now caps)) × (k ≤ 48) ⌝ }
+    ensures { λ r. ⌜ r ≡ keepsCost (tableBy q (now (heights .entry)) (now (bounds .entry)) (now (radices .entry)) (now (ys .entry)) (now (colours .entry))) (now (caps .entry)) least site k ⌝ }
+    ensures { λ _. ⌜ now (caps .exit) ≡ set (now (caps .entry)) site (suc k) ⌝ }
+    ensures { λ _. ⌜ drop (tableWords q (now (heights .entry))) (now (work .exit)) ≡ drop (tableWords q (now (heights .entry))) (now (work .entry)) ⌝ }
+{
+    caps[site] = k + 1;
+    value_of(q, heights, bounds, radices, draws, ys, colours, caps, work) == least
+}
+
+// Half of a range: the site's cap is lost, no other is.
+fn halved(
+    q: Measures,
+    heights: &[u32],
+    bounds: &[u32],
+    radices: &[u32],
+    draws: &[u32],
+    ys: &[u32],
+    colours: &[u32],
+    caps: &mut [u32],
+    work: &mut [u32],
+    least: u32,
+    site: usize,
+    range: Range,
+) -> Range
+    requires { ⌜ Fits q (now heights) (now bounds) (now radices) (now draws) (now ys) (now colours) (now caps) ⌝ }
+    requires { ⌜ (tableWords q (now heights) ≤ length (now work)) × (site < length (now caps)) × (range .low ≤ 48) × (range .high ≤ 48) ⌝ }
+    ensures { λ r. ⌜ r ≡ halfOf (keepsCost (tableBy q (now (heights .entry)) (now (bounds .entry)) (now (radices .entry)) (now (ys .entry)) (now (colours .entry))) (now (caps .entry)) least site) range ⌝ }
+    ensures { λ _. ⌜ ((p : ℕ) → set (now (caps .exit)) site p ≡ set (now (caps .entry)) site p) ⌝ }
+    ensures { λ _. ⌜ drop (tableWords q (now (heights .entry))) (now (work .exit)) ≡ drop (tableWords q (now (heights .entry))) (now (work .entry)) ⌝ }
+{
+    let low = range.low;
+    let high = range.high;
+    if high <= low {
+        return range;
+    }
+    let middle = (low + high) / 2;
+    if keeps_cost(
+        q,
+        heights,
+        bounds,
+        radices,
+        draws,
+        ys,
+        colours,
+        caps,
+        work,
+        least,
+        site,
+        middle,
+    ) {
+        return Range {
+            low: low,
+            high: middle,
+        };
+    }
+    Range {
+        low: middle + 1,
+        high: high,
+    }
+}
+
+// The least cap that keeps the cost.
+fn cap_site(
+    q: Measures,
+    heights: &[u32],
+    bounds: &[u32],
+    radices: &[u32],
+    draws: &[u32],
+    ys: &[u32],
+    colours: &[u32],
+    caps: &mut [u32],
+    work: &mut [u32],
+    least: u32,
+    site: usize,
+)
+    requires { ⌜ Fits q (now heights) (now bounds) (now radices) (now draws) (now ys) (now colours) (now caps) ⌝ }
+    requires { ⌜ (tableWords q (now heights) ≤ length (now work)) × (site < length (now caps)) ⌝ }
+    ensures { λ _. ⌜ now (caps .exit) ≡ set (now (caps .entry)) site (suc (halve (keepsCost (tableBy q (now (heights .entry)) (now (bounds .entry)) (now (radices .entry)) (now (ys .entry)) (now (colours .entry))) (now (caps .entry)) least site) 6 0 (length (now (heights .entry)) - 1))) ⌝ }
+    ensures { λ _. ⌜ (Low (now (caps .entry)) → Low (now (caps .exit))) ⌝ }
+    ensures { λ _. ⌜ drop (tableWords q (now (heights .entry))) (now (work .exit)) ≡ drop (tableWords q (now (heights .entry))) (now (work .entry)) ⌝ }
+{
+    let mut range = Range {
+        low: 0,
+        high: monus(heights.len() as u32, 1),
+    };
+    let mut steps: u32 = 6;
+    while steps > 0 {
+        range = halved(
+            q,
+            heights,
+            bounds,
+            radices,
+            draws,
+            ys,
+            colours,
+            caps,
+            work,
+            least,
+            site,
+            range,
+        );
+        steps -= 1;
+    }
+    caps[site] = range.low + 1;
+}
+
+// All caps, by rising rank: the number of sites without one falls at each turn.
+fn cap_all(
+    q: Measures,
+    heights: &[u32],
+    bounds: &[u32],
+    radices: &[u32],
+    draws: &[u32],
+    ys: &[u32],
+    colours: &[u32],
+    ranks: &[u32],
+    caps: &mut [u32],
+    work: &mut [u32],
+    least: u32,
+)
+    requires { ⌜ Fits q (now heights) (now bounds) (now radices) (now draws) (now ys) (now colours) (now caps) ⌝ }
+    requires { ⌜ tableWords q (now heights) ≤ length (now work) ⌝ }
+    ensures { λ _. ⌜ capsIn (now (caps .exit)) ≡ capHalved (instanceBy q (now (heights .entry)) (now (bounds .entry)) (now (radices .entry)) (now (ys .entry)) (now (colours .entry)) (now (ranks .entry))) least (length (now (ys .entry))) (capsIn (now (caps .entry))) ⌝ }
+    ensures { λ _. ⌜ (Low (now (caps .entry)) → Low (now (caps .exit))) ⌝ }
+    ensures { λ _. ⌜ drop (tableWords q (now (heights .entry))) (now (work .exit)) ≡ drop (tableWords q (now (heights .entry))) (now (work .entry)) ⌝ }
+{
+    let mut left = caps.len();
+    while left > 0 {
+        let site = leftmost(ranks, caps) as usize;
+        if caps.len() <= site {
+            return;
+        }
+        cap_site(
+            q,
+            heights,
+            bounds,
+            radices,
+            draws,
+            ys,
+            colours,
+            caps,
+            work,
+            least,
+            site,
+        );
+        left -= 1;
+    }
+}
+
+// ---- the layout's words
+
+fn head_word(q: Measures, cost: u32) -> u32
+    ensures { λ r. ⌜ r ≡ 8 * 268435456 + countBy q cost * 2097152 + lengthBy q cost ⌝ }
+{
+    if q.shortest {
+        return 2147483648 + cost % 64 * 2097152 + cost / 64;
+    }
+    2147483648 + cost / 33554432 * 2097152 + cost % 33554432
+}
+
+// A layout's first word, and a tie for each cap.
+fn write_layout(head: u32, caps: &[u32], out: &mut [u32])
+    requires { ⌜ (length (now caps) + 1 ≤ length (now out)) × (length (now caps) ≤ 32) × Low (now caps) ⌝ }
+    ensures { λ _. ⌜ now (out .exit) ≡ wordsBy head (now (caps .entry)) ++ drop (length (now (caps .entry)) + 1) (now (out .entry)) ⌝ }
+{
+    out[0] = head;
+    let mut i: usize = 0;
+    while i < caps.len() {
+        let tie = monus(caps[i], 1);
+        out[i + 1] = 2415919104 + tie;
+        i += 1;
+    }
+}
+
+fn clear(work: &mut [u32], count: usize)
+    requires { ⌜ count ≤ length (now work) ⌝ }
+    ensures { λ _. ⌜ now (work .exit) ≡ replicate count 0 ++ drop count (now (work .entry)) ⌝ }
+{
+    let mut i: usize = 0;
+    while i < count {
+        work[i] = 0;
+        i += 1;
+    }
+}
+
+// ---- the layout
+
+// The words of the table.
+fn table_words(q: Measures, slots: usize) -> usize
+    requires { ⌜ (slots ≤ 48) × (q .colours ≤ 8) × (q .budgets ≤ 64) ⌝ }
+    ensures { λ r. ⌜ r ≡ (slots + 2) * (q .colours + 1) * q .budgets ⌝ }
+{
+    let codes = q.colours as usize + 1;
+    (slots + 2) * codes * (q.budgets as usize)
+}
+
+fn lay_capped(
+    q: Measures,
+    heights: &[u32],
+    bounds: &[u32],
+    radices: &[u32],
+    draws: &[u32],
+    ys: &[u32],
+    colours: &[u32],
+    ranks: &[u32],
+    caps: &mut [u32],
+    work: &mut [u32],
+    out: &mut [u32],
+) -> u8
+    requires { ⌜ Fits q (now heights) (now bounds) (now radices) (now draws) (now ys) (now colours) (now caps) ⌝ }
+    requires { ⌜ ((i : ℕ) → getD (now caps) i 0 ≡ 0) ⌝ }
+    requires { ⌜ (tableWords q (now heights) ≤ length (now work)) × (length (now ys) + 1 ≤ length (now out)) ⌝ }
+    ensures { λ r. ⌜ Laid q (instanceBy q (now (heights .entry)) (now (bounds .entry)) (now (radices .entry)) (now (ys .entry)) (now (colours .entry)) (now (ranks .entry))) (tableWords q (now (heights .entry))) (now (work .entry)) (now (out .entry)) r (now (work .exit)) (now (out .exit)) ⌝ }
+{
+    let cells = table_words(q, heights.len());
+    let least = value_of(q, heights, bounds, radices, draws, ys, colours, caps, work);
+    if least == NONE {
+        clear(work, cells);
+        return 10;
+    }
+    cap_all(
+        q,
+        heights,
+        bounds,
+        radices,
+        draws,
+        ys,
+        colours,
+        ranks,
+        caps,
+        work,
+        least,
+    );
+    write_layout(head_word(q, least), caps, out);
+    clear(work, cells);
+    0
+}
+
+// What the layout maker does with an accepted two-sided sheet of these sizes, its areas long enough.
+pub fn lay_two_sided(
+    sheet: &[u32],
+    slots: usize,
+    colours: u32,
+    sites: usize,
+    budgets: u32,
+    work: &mut [u32],
+    out: &mut [u32],
+) -> u8
+    requires { ⌜ takesSheet (now sheet) (now work) (now out) ⌝ }
+    requires { ⌜ sheetIn (now sheet) .isTwoSided ≡ true ⌝ }
+    requires { ⌜ (slots ≡ length (sheetIn (now sheet) .slots)) × (colours ≡ length (sheetIn (now sheet) .colours)) × (sites ≡ length (sheetIn (now sheet) .sites)) × (budgets ≡ productOf (sheetIn (now sheet) .colours)) ⌝ }
+    ensures { λ r. ⌜ r ≡ makeFault (now (sheet .entry)) (now (work .entry)) (now (out .entry)) ⌝ }
+    ensures { λ _. ⌜ now (work .exit) ≡ makeWork (now (sheet .entry)) (now (work .entry)) (now (out .entry)) ⌝ }
+    ensures { λ _. ⌜ now (out .exit) ≡ makeAnswer (now (sheet .entry)) (now (work .entry)) (now (out .entry)) ⌝ }
+{
+    let q = measures_of(sheet, colours, budgets);
+    let heights = heights_of(sheet);
+    let bounds = bounds_of(sheet);
+    let kinds = colours as usize;
+    let radices = radices_of(&bounds[..kinds]);
+    let draws = draws_of(&bounds[..kinds]);
+    let xs = xs_of(sheet);
+    let ys = ys_of(sheet);
+    let codes = colours_of(sheet);
+    let mut caps = [0u32; 32];
+    lay_capped(
+        q,
+        &heights[..slots],
+        &bounds[..kinds],
+        &radices[..kinds],
+        &draws[..kinds],
+        &ys[..sites],
+        &codes[..sites],
+        &xs[..sites],
+        &mut caps[..sites],
+        work,
+        out,
+    )
+}

@@ -1,0 +1,107 @@
+-- Rows of budgets: what the loops over a row keep. Assumes nothing.
+use mathlib.Core.Path.{_≡_, refl, sym, ap, ap₂, _∙_}
+use mathlib.Core.Logic.{_≢_}
+use mathlib.Core.Bool.{Bool, true, false, cond, _&&_, _||_}
+use mathlib.Core.List.{List, [], _∷_}
+use Prim.Native.Nat.{ℕ, zero, suc, _+_, _*_, _-_, _/_, _%_, _≤_, _<_, min}
+use native.Mathlib.Nat.{mul-le-mul-right}
+use native.Mathlib.Omega.{arith}
+use native.Mathlib.Numerals.{add-one}
+use lib.Dec.{ltb, leb, eqb}
+use lib.ListN.{length, getD, set}
+use lib.Seq.{getD-set-same, getD-set-other}
+use lib.Arith.{digits-mod}
+use borrow.Author.Tests.{le-leb, lt-leb, lt-ltb, le-ltb}
+use Rattle.lists.proofs.Tests.{by-test, by-order, by-equal}
+use Rattle.search.specs.Cost.{plus}
+use Rattle.usedslots.specs.Table.{none, relaxed, linked}
+
+-- ---- a run of places lowered
+
+module _ (row work : List ℕ) (to from n cost v : ℕ) where
+  in-run : to ≤ v → v < to + n → relaxed row work to from n cost v ≡ min (getD row v 0) (plus none cost (getD work (from + (v - to)) 0))
+  in-run h l = rw (le-leb to v h, lt-ltb v (to + n) l)
+
+  before-run : v < to → relaxed row work to from n cost v ≡ getD row v 0
+  before-run h = rw (lt-leb to v h)
+
+  after-run : to + n ≤ v → relaxed row work to from n cost v ≡ getD row v 0
+  after-run h = by-test (leb to v) (λ e. rw (e, le-ltb v (to + n) h)) (λ e. rw e)
+
+pub run-none : (row work : List ℕ) (to from cost v : ℕ) → getD row v 0 ≡ relaxed row work to from 0 cost v
+run-none row work to from cost v =
+    by-order to v (λ h. sym (after-run row work to from 0 cost v (omega arith))) (λ h. sym (before-run row work to from 0 cost v h))
+
+capped : (cost t : ℕ) → cost ≤ none → cost + min t (none - cost) ≡ plus none cost t
+unfolding plus
+capped cost t h = omega arith
+
+pub run-more : (row now work : List ℕ) (to from i cost new : ℕ) → to + i < length now → cost ≤ none →
+    new ≡ min (getD now (to + i) 0) (cost + min (getD work (from + i) 0) (none - cost)) →
+    ((v : ℕ) → getD now v 0 ≡ relaxed row work to from i cost v) →
+    (v : ℕ) → getD (set now (to + i) new) v 0 ≡ relaxed row work to from (i + 1) cost v
+run-more row now work to from i cost new h low e old v =
+    by-equal v (to + i)
+    (λ q. rw q (here q))
+    (λ q. getD-set-other now (to + i) v new 0 q ∙ old v ∙ there q)
+  where
+    here : v ≡ to + i → getD (set now (to + i) new) (to + i) 0 ≡ relaxed row work to from (i + 1) cost (to + i)
+    here q =
+        let p : getD now (to + i) 0 ≡ getD row (to + i) 0 = old (to + i) ∙ after-run row work to from i cost (to + i) (omega arith) in
+        let d : from + (to + i - to) ≡ from + i = omega arith in
+        getD-set-same now (to + i) new 0 h ∙ e ∙ rw (p, capped cost (getD work (from + i) 0) low) (sym (in-run row work to from (i + 1) cost (to + i) (omega arith) (omega arith) ∙ rw d))
+
+    there : v ≢ to + i → relaxed row work to from i cost v ≡ relaxed row work to from (i + 1) cost v
+    there q =
+        by-order to v
+        (λ l. by-order (to + i) v
+        (λ u. after-run row work to from i cost v u ∙ sym (after-run row work to from (i + 1) cost v (omega (arith, q))))
+        (λ u. in-run row work to from i cost v l u ∙ sym (in-run row work to from (i + 1) cost v l (omega arith))))
+        (λ l. before-run row work to from i cost v l ∙ sym (before-run row work to from (i + 1) cost v l))
+
+-- ---- block by block
+
+-- the budgets before a place are done, the others as they were
+pub record Blockwise (row now work : List ℕ) (from skip size cost start : ℕ) : Type 0 where
+  pub block : (j : ℕ) × (start ≡ j * size)
+  pub done : (v : ℕ) → v < start → getD now v 0 ≡ linked row work from skip size cost v
+  pub rest : (v : ℕ) → start ≤ v → getD now v 0 ≡ getD row v 0
+
+pub blocks-none : (row work : List ℕ) (from skip size cost : ℕ) → Blockwise row row work from skip size cost 0
+blocks-none row work from skip size cost = record { block = (0, omega arith); done = λ v l. absurd (omega arith); rest = λ v l. refl }
+
+-- whole blocks: one that begins below the end ends there at the latest
+pub block-fits : (size start end : ℕ) → ((j : ℕ) × (start ≡ j * size)) → ((b : ℕ) × (end ≡ b * size)) → start < end → start + size ≤ end
+block-fits size start end (j, e) (b, f) l =
+    by-order b j
+    (λ h. let q : b * size ≤ j * size = mul-le-mul-right size h in absurd (omega arith))
+    (λ h. let q : suc j * size ≤ b * size = mul-le-mul-right size h in omega arith)
+
+in-block : (size j v : ℕ) → j * size ≤ v → v < j * size + size → v % size ≡ v - j * size
+in-block size j v h l =
+    let r : v - j * size < size = omega arith in
+    let e : v ≡ j * size + (v - j * size) = omega arith in
+    ap (λ (z : ℕ). z % size) e ∙ digits-mod j r
+
+pub blocks-more : (row now new work : List ℕ) (from skip size cost start : ℕ) → skip ≤ size →
+    ((v : ℕ) → getD new v 0 ≡ relaxed now work (start + skip) (from + start) (size - skip) cost v) →
+    Blockwise row now work from skip size cost start → Blockwise row new work from skip size cost (start + size)
+blocks-more row now new work from skip size cost start low e b =
+    record {
+      block = (suc (b .block .0), (let q = b .block .1 in omega arith));
+      done = λ v l. by-order start v (λ h. inside v h l) (λ h. e v ∙ before-run now work (start + skip) (from + start) (size - skip) cost v (omega arith) ∙ b .done v h);
+      rest = λ v l. e v ∙ after-run now work (start + skip) (from + start) (size - skip) cost v (omega arith) ∙ b .rest v (omega arith);
+    }
+  where
+    inside : (v : ℕ) → start ≤ v → v < start + size → getD new v 0 ≡ linked row work from skip size cost v
+    inside v h l =
+        let q = b .block .1 in
+        let m : v % size ≡ v - start = in-block size (b .block .0) v (omega arith) (omega arith) ∙ ap (λ (z : ℕ). v - z) (sym q) in
+        by-order (start + skip) v
+        (λ g.
+        let d : from + start + (v - (start + skip)) ≡ from + (v - skip) = omega arith in
+        let t : leb skip (v % size) ≡ true = le-leb skip (v % size) (omega arith) in
+        e v ∙ in-run now work (start + skip) (from + start) (size - skip) cost v g (omega arith) ∙ rw (d, b .rest v h, t))
+        (λ g.
+        let t : leb skip (v % size) ≡ false = lt-leb skip (v % size) (omega arith) in
+        e v ∙ before-run now work (start + skip) (from + start) (size - skip) cost v g ∙ rw (t, b .rest v h))

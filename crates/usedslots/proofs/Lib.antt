@@ -1,0 +1,4 @@
+pub mod Strips
+pub mod Budgets
+pub mod Links
+pub mod Entries

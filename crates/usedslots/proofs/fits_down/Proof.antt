@@ -1,0 +1,61 @@
+use Rattle.usedslots.specs.Table.{downFits}
+use mathlib.Core.Path.{_≡_, refl, ap, sym, _∙_}
+use mathlib.Core.List.{List, [], _∷_, _++_}
+use mathlib.Core.Logic.{⊎-elim}
+use Prim.Native.Nat.{ℕ, zero, suc, _+_, _-_, _*_, _<_, _≤_}
+use native.Mathlib.Omega.{arith}
+use native.Mathlib.Numerals.{add-one}
+use lib.ListN.{length, getD, take, drop, set, length-set}
+use borrow.Author.Tests.{eq-eqb, ne-eqb, lt-ltb, le-ltb, le-leb, lt-leb}
+use borrow.Author.Needs.{needs}
+use Rattle.usedslots.proofs.fits_down.Statement.{statement}
+use Rattle.usedslots.proofs.fits_down.Tie as tie
+use Rattle.usedslots.proofs.fits_down.Reads as reads
+use Rattle.usedslots.proofs.fits_down.Lts as lts
+use Rattle.usedslots.proofs.is_capped.Reads as is-capped-reads
+use Rattle.usedslots.proofs.is_clear.Reads as is-clear-reads
+use Rattle.usedslots.proofs.is_code.Reads as is-code-reads
+use Rattle.words.proofs.both.Reads as both-reads
+use Rattle.words.proofs.either.Reads as either-reads
+
+-- src/lib.rt:95:10
+is-code-requires : tie.Need-is-code-requires
+is-code-requires c κs = search needs
+
+-- src/lib.rt:95:63
+is-clear-requires : tie.Need-is-clear-requires
+is-clear-requires c κs = search needs
+
+-- src/lib.rt:95:44
+either-requires : tie.Need-either-requires
+either-requires c κs = search needs
+
+-- src/lib.rt:95:94
+is-capped-requires : tie.Need-is-capped-requires
+is-capped-requires c κs = search needs
+
+-- src/lib.rt:95:39
+both-requires : tie.Need-both-requires
+both-requires c κs = search needs
+
+-- src/lib.rt:95:5
+both-requires-2 : tie.Need-both-requires-2
+both-requires-2 c κs = search needs
+
+-- src/lib.rt:92:1
+returns : tie.Need-returns
+unfolding downFits
+returns c =
+    rw (c .both2 .ensures, c .before .both .ensures, c .before .before .is-capped .ensures, c .before .before .before .either .ensures, c .before .before .before .before .is-clear .ensures, c .before .before .before .before .before .is-code .ensures)
+
+pub fits-down-spec : {M : Type 1} → statement M
+fits-down-spec =
+    tie.close
+    (tie.spec
+    is-code-requires
+    is-clear-requires
+    either-requires
+    is-capped-requires
+    both-requires
+    both-requires-2
+    returns)

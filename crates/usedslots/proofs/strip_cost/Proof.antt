@@ -1,0 +1,134 @@
+use mathlib.Core.Bool.{cond}
+use Prim.Native.Nat.{min}
+use Rattle.search.specs.Cost.{plus}
+use Rattle.optimum.specs.Sums.{sumTo}
+use Rattle.optimum.proofs.Rows.{plus-code}
+use Rattle.usedslots.specs.Table.{none, siteOf, stripOf}
+use Rattle.usedslots.proofs.Strips.{sum-more, sum-ends}
+use mathlib.Core.Path.{_≡_, refl, ap, sym, _∙_}
+use mathlib.Core.List.{List, [], _∷_, _++_}
+use mathlib.Core.Logic.{⊎-elim}
+use Prim.Native.Nat.{ℕ, zero, suc, _+_, _-_, _*_, _<_, _≤_}
+use native.Mathlib.Omega.{arith}
+use native.Mathlib.Numerals.{add-one}
+use lib.ListN.{length, getD, take, drop, set, length-set}
+use borrow.Author.Tests.{eq-eqb, ne-eqb, lt-ltb, le-ltb, le-leb, lt-leb}
+use borrow.Author.Needs.{needs}
+use Rattle.usedslots.proofs.strip_cost.Statement.{statement}
+use Rattle.usedslots.proofs.strip_cost.Tie as tie
+use Rattle.usedslots.proofs.strip_cost.Reads as reads
+use Rattle.usedslots.proofs.strip_cost.Lts as lts
+use Rattle.usedslots.proofs.site_cost.Reads as site-cost-reads
+
+abbrev Inv-loop : tie.InvT-loop
+Inv-loop q above below ys colours caps sum₀ i₀ sum i = (i ≤ length ys) × (sum < none) × (sum ≡ sumTo none (λ j. siteOf q above below (getD ys j 0) (getD colours j 0) (getD caps j 0)) i)
+
+abbrev μ-loop : tie.MeasureT-loop
+μ-loop q above below ys colours caps sum₀ i₀ sum i = length ys - i
+
+-- src/lib.rt:126:5
+loop-holds : tie.Need-loop-holds Inv-loop μ-loop
+unfolding sumTo
+loop-holds c =
+    search needs
+
+-- src/lib.rt:127:47
+mul-site-cost : tie.Need-mul-site-cost Inv-loop μ-loop
+mul-site-cost c = search needs
+
+-- src/lib.rt:127:47
+shared-slice-read-site-cost : tie.Need-shared-slice-read-site-cost Inv-loop μ-loop
+shared-slice-read-site-cost c = search needs
+
+-- src/lib.rt:127:54
+mul-site-cost-2 : tie.Need-mul-site-cost-2 Inv-loop μ-loop
+mul-site-cost-2 c = search needs
+
+-- src/lib.rt:127:54
+shared-slice-read-site-cost-2 : tie.Need-shared-slice-read-site-cost-2 Inv-loop μ-loop
+shared-slice-read-site-cost-2 c = search needs
+
+-- src/lib.rt:127:66
+mul-site-cost-3 : tie.Need-mul-site-cost-3 Inv-loop μ-loop
+mul-site-cost-3 c = search needs
+
+-- src/lib.rt:127:66
+shared-slice-read-site-cost-3 : tie.Need-shared-slice-read-site-cost-3 Inv-loop μ-loop
+shared-slice-read-site-cost-3 c = search needs
+
+-- src/lib.rt:127:13
+site-cost-requires : tie.Need-site-cost-requires Inv-loop μ-loop
+site-cost-requires c κs = search needs
+
+-- src/lib.rt:128:21
+sub-room : tie.Need-sub-room Inv-loop μ-loop
+sub-room c = search needs
+
+-- src/lib.rt:128:20
+cast-room : tie.Need-cast-room Inv-loop μ-loop
+cast-room c = search needs
+
+-- src/lib.rt:130:13
+returns : tie.Need-returns Inv-loop μ-loop
+unfolding stripOf
+returns c =
+    let a = c .before .before .before .before .before .before .before .before .before .before .args in let l = c .before .before .before .before .before .before .loop in
+    sum-ends (λ j. siteOf (a .q) (a .above) (a .below) (getD (a .ys .now) j 0) (getD (a .colours .now) j 0) (getD (a .caps .now) j 0)) (l .i) (length (a .ys .now)) (l .sum) (c .before .site-cost .result)
+    (l .inv .2) (sym (c .before .site-cost .ensures)) (c .if1 .taken) (c .before .before .before .before .before .loop-test .taken)
+
+-- src/lib.rt:132:16
+cast-sum : tie.Need-cast-sum Inv-loop μ-loop
+cast-sum c = search needs
+
+-- src/lib.rt:132:9
+add-sum : tie.Need-add-sum Inv-loop μ-loop
+add-sum c = search needs
+
+-- src/lib.rt:133:9
+add-i : tie.Need-add-i Inv-loop μ-loop
+add-i c = search needs
+
+-- src/lib.rt:126:5
+loop-less : tie.Need-loop-less Inv-loop μ-loop
+loop-less c = search needs
+
+-- src/lib.rt:126:5
+loop-again : tie.Need-loop-again Inv-loop μ-loop
+loop-again c =
+    let a = c .before .before .before .before .before .before .before .before .before .before .args in let l = c .before .before .before .before .before .before .loop in (
+      omega arith,
+      omega arith,
+      sum-more (λ j. siteOf (a .q) (a .above) (a .below) (getD (a .ys .now) j 0) (getD (a .colours .now) j 0) (getD (a .caps .now) j 0)) (l .i) (l .sum) (c .before .site-cost .result)
+          (l .inv .2) (sym (c .before .site-cost .ensures)) (omega arith),
+    )
+
+-- src/lib.rt:120:1
+returns-2 : tie.Need-returns-2 Inv-loop μ-loop
+unfolding stripOf
+returns-2 c =
+    let a = c .before .before .before .before .before .args in let l = c .before .loop in
+    let e : l .i ≡ length (a .ys .now) = omega arith in rw e at (l .inv .2)
+
+pub strip-cost-spec : {M : Type 1} → statement M
+strip-cost-spec =
+    tie.close
+    (tie.spec
+    Inv-loop
+    μ-loop
+    loop-holds
+    mul-site-cost
+    shared-slice-read-site-cost
+    mul-site-cost-2
+    shared-slice-read-site-cost-2
+    mul-site-cost-3
+    shared-slice-read-site-cost-3
+    site-cost-requires
+    sub-room
+    cast-room
+    returns
+    cast-sum
+    add-sum
+    add-i
+    loop-less
+    loop-again
+    returns-2)

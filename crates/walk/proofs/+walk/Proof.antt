@@ -1,0 +1,119 @@
+use Rattle.walk.proofs.Tying.{long, ended}
+use mathlib.Core.Path.{_≡_, refl, ap, sym, _∙_}
+use mathlib.Core.List.{List, [], _∷_, _++_}
+use mathlib.Core.Logic.{⊎-elim}
+use Prim.Native.Nat.{ℕ, zero, suc, _+_, _-_, _*_, _<_, _≤_}
+use native.Mathlib.Omega.{arith}
+use native.Mathlib.Numerals.{add-one}
+use lib.ListN.{length, getD, take, drop, set, length-set}
+use borrow.Author.Tests.{eq-eqb, ne-eqb, lt-ltb, le-ltb, le-leb, lt-leb}
+use borrow.Author.Needs.{needs}
+use Prim.Native.Nat.{ℕ, _<_}
+use borrow.Fn.Kinds.{In}
+use borrow.Fn.PlainCycle.{Measures, is, falls, and}
+use Rattle.walk.proofs.walk.Reads as walk
+use Rattle.walk.proofs.walk.Kinds as walk-kinds
+use Rattle.walk.proofs.+walk.Lts-walk as walk-lts
+use Rattle.walk.proofs.tie_site.Reads as tie-site-reads
+use Rattle.walk.proofs.+walk.{statement}
+use Rattle.walk.proofs.+walk.Tie.{close}
+
+abbrev μ-walk : Measures 13 walk-kinds.ps ℕ
+μ-walk κs a = length (a .1 .1 .1 .1 .1 .1 .1 .1 .1 .1 .1 .0 .now) - a .1 .1 .1 .1 .1 .1 .1 .1 .1 .1 .1 .1 .1 .1 .0
+
+abbrev walk-at : ℕ → In 13 walk-kinds.ps
+walk-at t = and 13 walk-kinds.ps (is 13 walk-kinds.ps μ-walk t) walk.Pre
+
+abbrev walk-below : ℕ → In 13 walk-kinds.ps
+walk-below t = and 13 walk-kinds.ps (falls 13 walk-kinds.ps _<_ μ-walk t) walk.Pre
+
+-- src/lib.rt:340:9
+walk-returns : (t : ℕ) → walk-lts.Need-returns (
+  tie-site-reads.Asked,
+  tie-site-reads.Learnt,
+  walk-below t,
+  walk.Post,
+) (walk-at t) walk.Post
+walk-returns t c =
+    let a = c .before .before .before .before .before .before .before .before .before .before .before .before .before .before .args in
+    ended (a .q) (a .heights .now) (a .bounds .now) (a .radices .now) (a .draws .now) (a .parts .now) (a .counts .now) (a .work .now) (a .xs .now) (a .ys .now) (a .colours .now) (a .order .now) (c .before .before .before .before .before .before .before .before .before .before .before .before .before .before .pre .1 .0) (a .j) (a .labels .now) (a .out .now) (a .left .budget) (c .if1 .taken)
+
+-- src/lib.rt:342:9
+walk-tie-site-requires : (t : ℕ) → walk-lts.Need-tie-site-requires (
+  tie-site-reads.Asked,
+  tie-site-reads.Learnt,
+  walk-below t,
+  walk.Post,
+) (walk-at t) walk.Post
+walk-tie-site-requires t c κs =
+    let p = c .before .before .before .before .before .before .before .before .before .before .before .before .before .before .before .before .pre .1 in let a = c .before .before .before .before .before .before .before .before .before .before .before .before .before .before .before .before .args in
+    (p .0, (p .1, omega (arith, p .1 .tied, long (a .q) (a .heights .now) (a .bounds .now) (a .radices .now) (a .draws .now) (a .parts .now) (a .counts .now) (a .work .now) (a .xs .now) (a .ys .now) (a .colours .now) (a .order .now) (p .0), c .before .before .if1 .left)))
+
+-- src/lib.rt:343:96
+walk-add-walk : (t : ℕ) → walk-lts.Need-add-walk (
+  tie-site-reads.Asked,
+  tie-site-reads.Learnt,
+  walk-below t,
+  walk.Post,
+) (walk-at t) walk.Post
+walk-add-walk t c =
+    let p = c .before .before .before .before .before .before .before .before .before .before .before .before .before .before .before .before .before .before .before .before .before .before .before .pre .1 in let a = c .before .before .before .before .before .before .before .before .before .before .before .before .before .before .before .before .before .before .before .before .before .before .before .args in
+    omega (arith, p .1 .tied, long (a .q) (a .heights .now) (a .bounds .now) (a .radices .now) (a .draws .now) (a .parts .now) (a .counts .now) (a .work .now) (a .xs .now) (a .ys .now) (a .colours .now) (a .order .now) (p .0), p .0 .fewSites)
+
+-- src/lib.rt:343:5
+walk-walk-requires : (t : ℕ) → walk-lts.Need-walk-requires (
+  tie-site-reads.Asked,
+  tie-site-reads.Learnt,
+  walk-below t,
+  walk.Post,
+) (walk-at t) walk.Post
+walk-walk-requires t c κs =
+    let p = c .before .before .before .before .before .before .before .before .before .before .before .before .before .before .before .before .before .before .before .before .before .before .before .pre .1 in let a = c .before .before .before .before .before .before .before .before .before .before .before .before .before .before .before .before .before .before .before .before .before .before .before .args in
+    (omega (arith, c .before .before .before .before .before .before .before .before .before .before .before .before .before .before .before .before .before .before .before .before .before .before .before .pre .0, p .1 .tied, long (a .q) (a .heights .now) (a .bounds .now) (a .radices .now) (a .draws .now) (a .parts .now) (a .counts .now) (a .work .now) (a .xs .now) (a .ys .now) (a .colours .now) (a .order .now) (p .0), c .before .before .before .before .before .before .before .before .before .if1 .left), (p .0, c .before .before .before .before .before .before .tie-site .ensures .0))
+
+-- src/lib.rt:334:1
+walk-same-length : (t : ℕ) → walk-lts.Need-same-length (
+  tie-site-reads.Asked,
+  tie-site-reads.Learnt,
+  walk-below t,
+  walk.Post,
+) (walk-at t) walk.Post
+walk-same-length t c =
+    c .before .before .before .before .walk .kept .1 .1 .1 .1 .1 .1 .1 .1 .1 .1 .1 .1 .0 ∙ c .before .before .before .before .before .before .before .before .before .before .before .tie-site .kept .1 .1 .1 .1 .1 .1 .1 .1 .1 .1 .1 .1 .0
+
+-- src/lib.rt:334:1
+walk-same-length-2 : (t : ℕ) → walk-lts.Need-same-length-2 (
+  tie-site-reads.Asked,
+  tie-site-reads.Learnt,
+  walk-below t,
+  walk.Post,
+) (walk-at t) walk.Post
+walk-same-length-2 t c =
+    c .before .before .before .before .walk .kept .1 .1 .1 .1 .1 .1 .1 .1 .1 .1 .1 .1 .1 .0 ∙ c .before .before .before .before .before .before .before .before .before .before .before .tie-site .kept .1 .1 .1 .1 .1 .1 .1 .1 .1 .1 .1 .1 .1 .0
+
+-- src/lib.rt:334:1
+walk-returns-2 : (t : ℕ) → walk-lts.Need-returns-2 (
+  tie-site-reads.Asked,
+  tie-site-reads.Learnt,
+  walk-below t,
+  walk.Post,
+) (walk-at t) walk.Post
+walk-returns-2 t c =
+    c .before .before .before .before .walk .ensures ∙ sym (c .before .before .before .before .before .before .before .before .before .before .before .tie-site .ensures .1)
+
+pub +walk-spec : {M : Type 1} → statement M
++walk-spec = close μ-walk λ t. walk-lts.spec (
+  tie-site-reads.Asked,
+  tie-site-reads.Learnt,
+  walk-below t,
+  walk.Post,
+)
+    (walk-at t)
+    walk.Post
+    (walk-returns t)
+    (walk-tie-site-requires t)
+    (walk-add-walk t)
+    (walk-walk-requires t)
+    (walk-same-length t)
+    (walk-same-length-2 t)
+    (walk-returns-2 t)

@@ -1,0 +1,4 @@
+pub mod Value
+mod Holding
+mod Prices
+pub mod Tying

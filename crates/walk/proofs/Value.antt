@@ -1,0 +1,172 @@
+-- REST over the words is the value of the state, where the rows of its strips hold the table; so the walk over the words is the
+-- walk by the table. Assumes nothing but that the heights rise, the parts counts are right, and the table is, wherever it is asked.
+use mathlib.Core.Path.{_≡_, refl, sym, ap, ap₂, _∙_, subst}
+use mathlib.Core.Bool.{Bool, true, false, cond}
+use mathlib.Core.List.{List, [], _∷_}
+use Prim.Native.Nat.{ℕ, zero, suc, _+_, _-_, _*_, _/_, _%_, _≤_, _<_, min}
+use native.Mathlib.Omega.{arith}
+use lib.Dec.{eqb}
+use lib.ListN.{length, getD, set, drop, replicate, length-set, length-replicate, length-drop}
+use lib.Seq.{getD-drop, drop-drop}
+use Rattle.lists.proofs.Tests.{by-test, by-order}
+use Rattle.search.specs.Cost.{plus, least, first, least-cong}
+use Rattle.search.specs.Radix.{below}
+use Rattle.search.specs.Share.{just, conv}
+use Rattle.search.specs.Plan.{T}
+use Rattle.search.specs.Walk.{Process, chooseBy, walkBy}
+use Rattle.arrays.specs.declared.Measures.{Measures}
+use Rattle.arrays.specs.Arrays.{instanceBy}
+use Rattle.optimum.specs.Strips.{Point, Strip, Instance, rulesOf, hold, draw, stripsFrom, strips, marked, State, price, next, labels, value}
+use Rattle.optimum.specs.OneSided.{topWord}
+use Rattle.optimum.specs.Cells.{build, cells, cellOf, joinCells, foldCells, startCells}
+use Rattle.optimum.specs.Reached.{In, noPoint, Reached, TableOf}
+use Rattle.optimum.proofs.StripsHeld.{Rising, Fit, next-fit}
+use Rattle.optimum.proofs.Levels.{build-at, build-long, Row, value-rows}
+use Rattle.optimum.proofs.Loops.{walk-step, skip-step}
+use Rattle.optimum.proofs.Reached.{reached-next, reached-rows}
+use Rattle.optimum.proofs.Pairs.{zeros}
+use Rattle.budgets.specs.Budgets.{Splits}
+use Rattle.budgets.proofs.Sharing.{share-by}
+use Rattle.rest.specs.Rest.{rowOf, levelSize, shareRow, joinRow, foldRows, restRows}
+use Rattle.walk.specs.Walk.{Found, valueIn}
+use Rattle.rest.proofs.Rows.{join-long}
+
+pub build-cong : (n : ℕ) (f g : ℕ → ℕ) → ((k : ℕ) → k < n → f k ≡ g k) → build n f ≡ build n g
+unfolding build
+build-cong zero f g h = refl
+build-cong (suc n) f g h = ap₂ (λ (x : ℕ) (l : List ℕ). x ∷ l) (h 0 (omega arith)) (build-cong n (λ k. f (suc k)) (λ k. g (suc k)) (λ k l. h (suc k) (omega arith)))
+
+pub first-under : (n : ℕ) (t u : ℕ → Bool) → ((k : ℕ) → k < n → t k ≡ u k) → first n t ≡ first n u
+unfolding first
+first-under zero t u h = refl
+first-under (suc n) t u h = ap₂ (λ (b : Bool) (z : ℕ). cond b 0 (suc z)) (h 0 (omega arith)) (first-under n (λ k. t (suc k)) (λ k. u (suc k)) (λ k l. h (suc k) (omega arith)))
+
+past : (a b : ℕ) → topWord ≤ a → plus topWord a b ≡ topWord
+unfolding plus
+past a b h = omega arith
+
+-- marks that are all 0 stay so
+pub set-zero : (n i : ℕ) → set {A = ℕ} (replicate n 0) i 0 ≡ replicate n 0
+set-zero zero i = refl
+set-zero (suc n) zero = refl
+set-zero (suc n) (suc i) = ap (λ (z : List ℕ). 0 ∷ z) (set-zero n i)
+
+module _ (q : Measures) (hs bs rs ds : List ℕ) where
+  abbrev P : Instance
+  P = instanceBy q hs bs rs ds
+
+  abbrev unmarked : List ℕ
+  unmarked = replicate (suc (length hs)) 0
+
+  -- a step leaves the marks as they are
+  pub next-is : (L : List ℕ) (v : ℕ) (s : Point) (k : ℕ) → next P (L, v, unmarked) s k ≡ (set L k (suc (s .c)), v - draw P (hold P L unmarked (s .y)) s k, unmarked)
+  unfolding next marked
+  next-is L v s k =
+      by-test (eqb (getD L k 0) 0)
+      (λ e. rw (e, set-zero (suc (length hs)) (suc k), set-zero (suc (length hs)) (hold P L unmarked (s .y) .a)))
+      (λ e. rw (e, set-zero (suc (length hs)) (hold P L unmarked (s .y) .a)))
+
+  module _ (parts counts work : List ℕ) (C R : ℕ) where
+    pub level-cells : cells P C R ≡ levelSize (length hs) C R
+    level-cells = ap (λ (z : ℕ). z * R) (omega arith)
+
+    cell-row : (a ca b cb u : ℕ) → cellOf P C R (record { a = a; ca = ca; b = b; cb = cb; d = getD unmarked a 0 }) u ≡ rowOf (length hs) C R a ca b cb + u
+    unfolding cellOf
+    cell-row a ca b cb u =
+        ap (λ (z : ℕ). z * R + u) (ap (λ (z : ℕ). (((a * (C + 1) + ca) * (length hs + 2) + b) * (C + 1) + cb) * 1 + z) (zeros (suc (length hs)) a) ∙ omega arith)
+
+    module _ (right : Splits rs R parts counts) where
+      join-same : (base : ℕ) (acc : List ℕ) (a ca b cb : ℕ) → length acc ≡ R
+          → joinRow parts counts acc work (base + rowOf (length hs) C R a ca b cb) ≡ joinCells P C R (drop base work) acc (record { a = a; ca = ca; b = b; cb = cb; d = getD unmarked a 0 })
+      unfolding joinRow joinCells conv
+      join-same base acc a ca b cb h =
+          ap (λ (n : ℕ). build n (shareRow parts counts acc work (base + rowOf (length hs) C R a ca b cb))) h
+          ∙ build-cong R _ _ (λ v l.
+          share-by rs R parts counts right (λ w. getD acc w 0) (λ w. getD work (base + rowOf (length hs) C R a ca b cb + w) 0) v l
+          ∙ least-cong topWord (suc v) _ _ (λ w k. ap (λ (z : ℕ). cond (below rs w v) (plus topWord (getD acc w 0) z) topWord) (word v w)))
+        where
+          word : (v w : ℕ) → getD work (base + rowOf (length hs) C R a ca b cb + (v - w)) 0
+              ≡ getD (drop base work) (cellOf P C R (record { a = a; ca = ca; b = b; cb = cb; d = getD unmarked a 0 }) (v - w)) 0
+          word v w =
+              ap (λ (z : ℕ). getD work z 0) (omega (arith, cell-row a ca b cb (v - w)))
+              ∙ sym (getD-drop base work (cellOf P C R (record { a = a; ca = ca; b = b; cb = cb; d = getD unmarked a 0 }) (v - w)) 0)
+
+      fold-same : (base : ℕ) (L : List ℕ) (r i a ca : ℕ) (acc : List ℕ) → length acc ≡ R
+          → foldRows parts counts work base (length hs) C R r i a ca L acc ≡ foldCells P C R (drop base work) r i a ca L unmarked acc
+      unfolding foldRows foldCells
+      fold-same base L zero i a ca acc h = join-same base acc a ca (suc i) 0 h
+      fold-same base L (suc r) i a ca acc h =
+          by-test (eqb (getD L i 0) 0)
+          (λ e. rw e (fold-same base L r (suc i) a ca acc h))
+          (λ e. rw e (fold-same base L r (suc i) (suc i) (getD L i 0) _ (join-long parts counts acc work _ ∙ h)
+          ∙ ap (foldCells P C R (drop base work) r (suc i) (suc i) (getD L i 0) L unmarked) (join-same base acc a ca (suc i) (getD L i 0) h)))
+
+      module _ (rising : Rising P) where
+        -- THE VALUE of a state is REST over the words, where the rows of its strips hold the table
+        pub rest-value : (base : ℕ) (ss : List Point) (L : List ℕ) (v : ℕ) → v < R
+            → ((p : Strip) → In p (strips P L unmarked) → (u : ℕ) → u < R → getD work (base + cellOf P C R p u) 0 ≡ T (rulesOf P) ss p u)
+            → restRows parts counts work base (length hs) C R L v ≡ value P (L, v, unmarked) ss
+        unfolding restRows
+        rest-value base ss L v l rows =
+            ap (λ (z : List ℕ). getD z v 0) (fold-same base L (length hs) 0 0 0 (build R (just topWord 0 0)) (build-long R (just topWord 0 0)))
+            ∙ (unfold startCells in value-rows P C R rising (λ s k. omega arith) (drop base work) ss (L, v, unmarked) l (λ p i u lu. getD-drop base work (cellOf P C R p u) 0 ∙ rows p i u lu))
+
+        -- THE WALK over the words is the walk by the table, and finds a slot at each step
+        module _ (points : List Point) (table : TableOf P C R points work) where
+          abbrev inWords : State P → List Point → ℕ
+          inWords = valueIn P parts counts work C R (length points)
+
+          -- the states that the walk meets
+          pub record Met (j : ℕ) (L : List ℕ) (v : ℕ) : Type 0 where
+            pub long : length L ≡ length hs
+            pub budget : v < R
+            pub reached : (p : Strip) → In p (strips P L unmarked) → Reached P points j p
+
+          pub met-value : (j : ℕ) (ss : List Point) (L : List ℕ) (v : ℕ) → drop j points ≡ ss → j + length ss ≡ length points → Met j L v → inWords (L, v, unmarked) ss ≡ value P (L, v, unmarked) ss
+          unfolding valueIn
+          met-value j ss L v e n w =
+              let b : (length points - length ss) * levelSize (length hs) C R ≡ j * cells P C R = ap₂ (λ (x y : ℕ). x * y) (omega arith) (sym level-cells) in
+              ap (λ (z : ℕ). restRows parts counts work z (length hs) C R L v) b
+              ∙ rest-value (j * cells P C R) ss L v (w .budget) (λ p i u lu. reached-rows P C R points work table j (omega arith) p (w .reached p i) u lu ∙ ap (λ (z : List Point). T (rulesOf P) z p u) e)
+
+          point-at : (j : ℕ) (s : Point) (ss : List Point) → drop j points ≡ s ∷ ss → getD points j noPoint ≡ s
+          point-at j s ss e =
+              ap (λ (z : ℕ). getD points z noPoint) (omega arith) ∙ sym (getD-drop j points 0 noPoint) ∙ ap (λ (z : List Point). getD z 0 noPoint) e
+
+          later : (j : ℕ) (s : Point) (ss : List Point) → drop j points ≡ s ∷ ss → drop (suc j) points ≡ ss
+          later j s ss e = let z : suc j ≡ j + 1 = omega arith in ap (λ (z : ℕ). drop z points) z ∙ sym (drop-drop 1 j points) ∙ ap (drop 1) e
+
+          met-next : (j : ℕ) (s : Point) (ss : List Point) (L : List ℕ) (v k : ℕ) → drop j points ≡ s ∷ ss → Met j L v → k < length hs → price P (L, v, unmarked) s k < topWord
+              → Met (suc j) (set L k (suc (s .c))) (v - draw P (hold P L unmarked (s .y)) s k)
+          met-next j s ss L v k e w lk h =
+              record {
+                long = length-set L k (suc (s .c)) ∙ w .long;
+                budget = omega (arith, w .budget);
+                reached = λ p i. reached-next P rising points j (L, v, unmarked) k (w .long, length-replicate (suc (length hs)) 0) lk
+                    (subst (λ (z : Point). price P (L, v, unmarked) z k < topWord) (sym (point-at j s ss e)) h) (w .reached) p
+                    (subst (λ (y : State P). In p (strips P (y .0) (y .2))) (sym (ap (λ (z : Point). next P (L, v, unmarked) z k) (point-at j s ss e) ∙ next-is L v s k)) i);
+              }
+
+          same-step : (j : ℕ) (s : Point) (ss : List Point) (L : List ℕ) (v k : ℕ) → drop j points ≡ s ∷ ss → j + length (s ∷ ss) ≡ length points → Met j L v → k < length hs
+              → plus topWord (price P (L, v, unmarked) s k) (inWords (next P (L, v, unmarked) s k) ss) ≡ plus topWord (price P (L, v, unmarked) s k) (value P (next P (L, v, unmarked) s k) ss)
+          same-step j s ss L v k e n w lk =
+              by-order topWord (price P (L, v, unmarked) s k)
+              (λ h. past (price P (L, v, unmarked) s k) _ h ∙ sym (past (price P (L, v, unmarked) s k) _ h))
+              (λ h. ap (plus topWord (price P (L, v, unmarked) s k)) (rw (next-is L v s k) (met-value (suc j) ss _ _ (later j s ss e) (omega arith) (met-next j s ss L v k e w lk h))))
+
+          same-choice : (j : ℕ) (s : Point) (ss : List Point) (L : List ℕ) (v : ℕ) → drop j points ≡ s ∷ ss → j + length (s ∷ ss) ≡ length points → Met j L v
+              → chooseBy (labels P) inWords (L, v, unmarked) s ss ≡ chooseBy (labels P) (value P) (L, v, unmarked) s ss
+          unfolding chooseBy
+          same-choice j s ss L v e n w = first-under (length hs) _ _ (λ k lk. ap₂ eqb (same-step j s ss L v k e n w lk) (met-value j (s ∷ ss) L v e n w))
+
+          pub walk-right : (ss : List Point) (j : ℕ) (L : List ℕ) (v : ℕ) → drop j points ≡ ss → j + length ss ≡ length points → Met j L v → value P (L, v, unmarked) ss < topWord
+              → (walkBy (labels P) inWords (L, v, unmarked) ss ≡ walkBy (labels P) (value P) (L, v, unmarked) ss) × Found (labels P) inWords (L, v, unmarked) ss
+          unfolding walkBy Found
+          walk-right [] j L v e n w h = (refl, tt)
+          walk-right (s ∷ ss) j L v e n w h =
+              let x : State P = (L, v, unmarked) in
+              let k = chooseBy (labels P) (value P) x s ss in
+              let c = same-choice j s ss L v e n w in
+              let o = walk-step P C R rising s ss x (w .long, length-replicate (suc (length hs)) 0) h in
+              let r = walk-right ss (suc j) _ _ (later j s ss e) (omega arith) (met-next j s ss L v k e w (o .0) (o .1)) (rw (next-is L v s k) at (o .2)) in
+              rw (c, next-is L v s k) (ap (λ (z : List ℕ). k ∷ z) (r .0), (o .0, r .1))

@@ -1,0 +1,80 @@
+/* Backbone labelling of parts sheets: the C interface of the static library libcabi.a.
+ *
+ * A sheet, a layout and a stored sheet are lists of 32-bit words. No function keeps a pointer, allocates or
+ * touches anything but the areas that it is given. Areas must not overlap. */
+#ifndef BACKBONE_H
+#define BACKBONE_H
+
+#include <stddef.h>
+#include <stdint.h>
+
+#ifdef __cplusplus
+extern "C" {
+#endif
+
+enum {
+    BACKBONE_MOST_SLOTS = 48,
+    BACKBONE_MOST_COLOURS = 8,
+    BACKBONE_MOST_SITES = 32,
+    /* Answer words that serve for every sheet. */
+    BACKBONE_ANSWER_WORDS = BACKBONE_MOST_SITES + 1,
+    /* The bound of a colour without one. */
+    BACKBONE_UNBOUNDED = 255
+};
+
+/* Refusals. The program alone has refusal 12. */
+enum {
+    BACKBONE_ACCEPTED = 0,
+    BACKBONE_NO_HEAD = 1,           /* empty, or the first word is no head, or its width or gap is 0 */
+    BACKBONE_BAD_WORD = 2,          /* a word of another kind, out of its order, or with a spare bit set */
+    BACKBONE_TOO_MANY = 3,          /* more than 48 slots, 8 colours or 32 sites */
+    BACKBONE_SLOTS_NOT_RISING = 4,  /* slot heights are not strictly rising */
+    BACKBONE_SITE_BEYOND_WIDTH = 5, /* a site's x is above the width */
+    BACKBONE_EQUAL_X = 6,           /* two sites have equal x */
+    BACKBONE_TOO_MANY_BUDGETS = 7,  /* the product of bound plus one over the bounded colours is above 64 */
+    BACKBONE_WORK_TOO_SHORT = 8,    /* the work area is shorter than needed */
+    BACKBONE_ANSWER_TOO_SHORT = 9,  /* the answer area is shorter than needed */
+    BACKBONE_NO_LAYOUT = 10,        /* no layout obeys rules 1 to 5 */
+    BACKBONE_BAD_LAYOUT = 11,       /* the stored sheet has no layout, or one that is not in its form */
+    BACKBONE_BAD_INPUT = 12         /* more than 1,024 bytes or not whole words */
+};
+
+/* A colour's label bound and its number of sites; both 0 for a colour that the sheet doesn't have. */
+typedef struct {
+    uint8_t bound;
+    uint8_t sites;
+} backbone_colour;
+
+/* What the reader gives. Beside a refusal all else is 0. */
+typedef struct {
+    uint8_t refusal;
+    uint8_t n;     /* sites */
+    uint8_t m;     /* slots */
+    uint8_t c;     /* colours */
+    uint8_t p;     /* budgets: the product of bound plus one over the bounded colours */
+    uint32_t work; /* work words that backbone_make needs */
+    backbone_colour colours[BACKBONE_MOST_COLOURS];
+} backbone_sizes;
+
+/* What the judge gives: the least broken rule, or 0. Beside a refusal it is 0. */
+typedef struct {
+    uint8_t refusal;
+    uint8_t rule;
+} backbone_verdict;
+
+/* Reads a sheet: refusals 1 to 7. */
+backbone_sizes backbone_read(const uint32_t *sheet, size_t len);
+
+/* Judges a stored sheet, which is a sheet followed by a layout: refusals 1 to 7 and 11. */
+backbone_verdict backbone_judge(const uint32_t *stored, size_t len);
+
+/* Lays out a sheet: refusals 1 to 10, or 0 with the best layout in the first n + 1 words of out.
+ * Refusals 1 to 9 change neither area. On 0 and on 10 the needed work words are all zero afterwards. */
+uint32_t backbone_make(const uint32_t *sheet, size_t len, uint32_t *work, size_t work_len, uint32_t *out,
+                       size_t out_len);
+
+#ifdef __cplusplus
+}
+#endif
+
+#endif

@@ -1,0 +1,51 @@
+//! Backbone labelling of parts sheets: a safe crate over the verified static library.
+//!
+//! A drawing of parts has numbered sites. Each label at the right margin has one horizontal line, its backbone,
+//! to which the label's sites drop. The library ties each site to one of the given slots so that backbones and
+//! drops keep clear of each other, with the fewest labels or the shortest lines. Its answer is proved to be the
+//! best, and the only one.
+//!
+//! ```
+//! use backbone::{Aim, Sheet, Side};
+//!
+//! let mut sheet = Sheet::new(Side::One, Aim::Fewest, 2, 8)?;
+//! for height in [2, 5, 8] {
+//!     sheet.add_slot(height)?;
+//! }
+//! let (bolts, nuts) = (sheet.add_colour(None)?, sheet.add_colour(None)?);
+//! sheet.add_site(bolts, 2, 4)?;
+//! sheet.add_site(bolts, 6, 6)?;
+//! sheet.add_site(nuts, 4, 5)?;
+//! let layout = sheet.lay_out()?;
+//! assert_eq!((layout.labels, layout.length), (2, 19));
+//! assert_eq!(layout.slots, [0, 0, 2]);
+//! # Ok::<(), Box<dyn std::error::Error>>(())
+//! ```
+//!
+//! [`read`], [`make`] and [`judge`] are the library's own operations, on lists of words. [`Sheet`] builds such
+//! lists, [`Layout`] takes answers apart, [`Word`] names the fields of one word.
+//!
+//! One unit of length is an eighth of a printer's point. x counts from the left edge, heights downwards from the
+//! top.
+
+mod layout;
+mod library;
+mod numbered;
+mod refusal;
+mod rule;
+mod sheet;
+mod word;
+
+pub use layout::{split_stored, Layout};
+pub use library::{judge, lay_out, make, read, ColourSizes, Sizes};
+pub use refusal::Refusal;
+pub use rule::Rule;
+pub use sheet::{Sheet, Site};
+pub use word::{Aim, FormError, Side, Word};
+
+/// The most slots that a sheet may have.
+pub const MOST_SLOTS: usize = 48;
+/// The most colours that a sheet may have.
+pub const MOST_COLOURS: usize = 8;
+/// The most sites that a sheet may have.
+pub const MOST_SITES: usize = 32;

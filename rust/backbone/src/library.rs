@@ -1,0 +1,148 @@
+//! The library's operations on slices. All code of this crate that is not safe stands here.
+
+use crate::{Layout, Refusal, Rule, MOST_COLOURS, MOST_SITES};
+
+/// A colour's label bound (255: unbounded) and its number of sites.
+#[repr(C)]
+#[derive(Clone, Copy, Debug, Default, PartialEq, Eq)]
+pub struct ColourSizes {
+    pub bound: u8,
+    pub sites: u8,
+}
+
+#[repr(C)]
+struct RawSizes {
+    refusal: u8,
+    n: u8,
+    m: u8,
+    c: u8,
+    p: u8,
+    work: u32,
+    colours: [ColourSizes; MOST_COLOURS],
+}
+
+#[repr(C)]
+struct RawVerdict {
+    refusal: u8,
+    rule: u8,
+}
+
+extern "C" {
+    fn backbone_read(sheet: *const u32, len: usize) -> RawSizes;
+    fn backbone_judge(stored: *const u32, len: usize) -> RawVerdict;
+    fn backbone_make(
+        sheet: *const u32,
+        len: usize,
+        work: *mut u32,
+        work_len: usize,
+        out: *mut u32,
+        out_len: usize,
+    ) -> u32;
+}
+
+/// What the reader says of a sheet that it accepts.
+#[derive(Clone, Copy, Debug, PartialEq, Eq)]
+pub struct Sizes {
+    pub sites: usize,
+    pub slots: usize,
+    pub colours: usize,
+    /// The product of bound plus one over the bounded colours.
+    pub budgets: usize,
+    /// The work words that [`make`] needs.
+    pub work_words: usize,
+    /// Both numbers are 0 for a colour that the sheet doesn't have.
+    pub each_colour: [ColourSizes; MOST_COLOURS],
+}
+
+impl Sizes {
+    /// The answer words that [`make`] needs.
+    pub fn answer_words(&self) -> usize {
+        self.sites + 1
+    }
+}
+
+/// No number that the library gives is out of its range.
+fn refusal(number: u32) -> Result<(), Refusal> {
+    match number {
+        0 => Ok(()),
+        _ => Err(Refusal::from_number(number).expect("the library gives refusals 1 to 11")),
+    }
+}
+
+/// Reads a sheet: its sizes, or one of the refusals 1 to 7.
+///
+/// ```
+/// use backbone::{read, Refusal};
+/// let sizes = read(&[0x10008008, 0x20000002, 0x300000FF, 0x40008004])?;
+/// assert_eq!((sizes.sites, sizes.slots, sizes.colours, sizes.budgets), (1, 1, 1, 1));
+/// assert_eq!(sizes.work_words, 3 * 3 * 2 * 2 * 2);
+/// assert_eq!(read(&[]), Err(Refusal::NoHead));
+/// # Ok::<(), Refusal>(())
+/// ```
+pub fn read(sheet: &[u32]) -> Result<Sizes, Refusal> {
+    // SAFETY: the pointer and the length are those of a slice, which the library only reads.
+    let sizes = unsafe { backbone_read(sheet.as_ptr(), sheet.len()) };
+    refusal(u32::from(sizes.refusal))?;
+    Ok(Sizes {
+        sites: usize::from(sizes.n),
+        slots: usize::from(sizes.m),
+        colours: usize::from(sizes.c),
+        budgets: usize::from(sizes.p),
+        work_words: sizes.work as usize,
+        each_colour: sizes.colours,
+    })
+}
+
+/// Judges a stored sheet (a sheet followed by a layout): the least broken rule, none if the layout is lawful, or
+/// one of the refusals 1 to 7 and 11.
+///
+/// ```
+/// use backbone::{judge, Rule};
+/// let mut stored = vec![0x10008008, 0x20000002, 0x300000FF, 0x40008004, 0x80200008, 0x90000000];
+/// assert_eq!(judge(&stored), Ok(None));
+/// stored[4] -= 1; // a length that is not the layout's
+/// assert_eq!(judge(&stored), Ok(Some(Rule::TrueNumbers)));
+/// ```
+pub fn judge(stored: &[u32]) -> Result<Option<Rule>, Refusal> {
+    // SAFETY: the pointer and the length are those of a slice, which the library only reads.
+    let verdict = unsafe { backbone_judge(stored.as_ptr(), stored.len()) };
+    refusal(u32::from(verdict.refusal))?;
+    match verdict.rule {
+        0 => Ok(None),
+        rule => Ok(Some(Rule::from_number(u32::from(rule)).expect("the library gives rules 1 to 6"))),
+    }
+}
+
+/// Lays out a sheet in the caller's areas, or gives one of the refusals 1 to 10.
+///
+/// On success the layout is in the first [`Sizes::answer_words`] of `answer`. Refusals but 10 change neither
+/// area; on success and on 10 the needed work words are all zero. What stood in the areas plays no part.
+///
+/// ```
+/// use backbone::{make, read, Layout, Refusal};
+/// let sheet = [0x10008008, 0x20000002, 0x300000FF, 0x40008004];
+/// let mut work = vec![0; read(&sheet)?.work_words];
+/// let mut answer = [0; 33];
+/// make(&sheet, &mut work, &mut answer)?;
+/// assert_eq!(answer[..2], [0x80200008, 0x90000000]);
+/// assert_eq!(make(&sheet, &mut work[1..], &mut answer), Err(Refusal::WorkTooShort));
+/// # Ok::<(), Refusal>(())
+/// ```
+pub fn make(sheet: &[u32], work: &mut [u32], answer: &mut [u32]) -> Result<(), Refusal> {
+    // SAFETY: pointers and lengths are those of three slices that Rust keeps apart.
+    let number = unsafe {
+        backbone_make(sheet.as_ptr(), sheet.len(), work.as_mut_ptr(), work.len(), answer.as_mut_ptr(), answer.len())
+    };
+    refusal(number)
+}
+
+/// Lays out a sheet in areas of its own: the best layout, or one of the refusals 1 to 7 and 10.
+///
+/// The work area of the largest sheets is 427 million words; see [`Sizes::work_words`].
+pub fn lay_out(sheet: &[u32]) -> Result<Layout, Refusal> {
+    let sizes = read(sheet)?;
+    let mut work = vec![0; sizes.work_words];
+    let mut answer = [0; MOST_SITES + 1];
+    make(sheet, &mut work, &mut answer)?;
+    Layout::from_words(&answer[..sizes.answer_words()]).ok_or(Refusal::BadLayout)
+}

@@ -1,0 +1,26 @@
+use crate::numbered::numbered;
+
+numbered! {
+    /// Why a list of words, an area or an input is refused. The lowest that applies is given.
+    ///
+    /// ```
+    /// use backbone::Refusal;
+    /// assert_eq!(Refusal::from_number(10), Some(Refusal::NoLayout));
+    /// assert_eq!(Refusal::NoLayout.to_string(), "no layout obeys rules 1 to 5");
+    /// ```
+    Refusal, 12:
+    NoHead = 1, "the list is empty, or its first word is no head, or its width or gap is 0";
+    BadWord = 2, "a word of another kind, out of its order, or with a spare bit set";
+    TooMany = 3, "more than 48 slots, 8 colours or 32 sites";
+    SlotsNotRising = 4, "slot heights are not strictly rising";
+    SiteBeyondWidth = 5, "a site's x is above the width";
+    EqualX = 6, "two sites have equal x";
+    TooManyBudgets = 7, "the product of bound plus one over the bounded colours is above 64";
+    WorkTooShort = 8, "the work area is shorter than needed";
+    AnswerTooShort = 9, "the answer area has fewer words than the sites and one";
+    NoLayout = 10, "no layout obeys rules 1 to 5";
+    BadLayout = 11, "there is no layout, or it is not one tie to a slot for each site";
+    BadInput = 12, "more than 1,024 bytes, or not whole words";
+}
+
+impl std::error::Error for Refusal {}

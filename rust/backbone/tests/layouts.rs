@@ -1,0 +1,89 @@
+//! The library's layouts against a search over all layouts and against a plain table and walk.
+
+mod common;
+
+use backbone::{judge, Refusal};
+use common::{make_in_enough, numbered};
+use model::random::{medium_sheet, small_sheet, Random};
+use model::sheet::{Sheet, UNBOUNDED};
+use model::{maker, rules, search};
+
+const SMALL_SHEETS: usize = 120_000;
+const MEDIUM_SHEETS: usize = 3_000;
+
+/// The plain table and walk.
+fn plainly_made(sheet: &Sheet) -> Result<Vec<u32>, u8> {
+    let mut work = vec![0; sheet.work_words() as usize];
+    let mut answer = vec![0; sheet.sites.len() + 1];
+    match maker::make(&sheet.words(), &mut work, &mut answer) {
+        0 => Ok(answer),
+        refusal => Err(refusal as u8),
+    }
+}
+
+/// Lays out with the library, compares with the plain table, and has the layout judged twice.
+fn checked(sheet: &Sheet, random: &mut Random) -> Result<Vec<u32>, u8> {
+    let words = sheet.words();
+    let made = numbered(make_in_enough(&words, random));
+    assert_eq!(made, plainly_made(sheet), "{sheet:?}");
+    if let Ok(layout) = &made {
+        let stored = [&words[..], layout].concat();
+        assert_eq!(judge(&stored), Ok(None), "{sheet:?}");
+        assert_eq!(rules::judge(&stored), (0, 0), "{sheet:?}");
+    }
+    made
+}
+
+/// What the random sheets must have had among them.
+#[derive(Debug, Default)]
+struct Met {
+    laid_out: [[usize; 2]; 2],
+    no_layout: [[usize; 2]; 2],
+    bound_shared: usize,
+    equal_y: usize,
+    site_on_slot: usize,
+}
+
+impl Met {
+    fn note(&mut self, sheet: &Sheet, laid_out: bool) {
+        let kind = if laid_out { &mut self.laid_out } else { &mut self.no_layout };
+        kind[usize::from(sheet.two_sided)][usize::from(sheet.shortest)] += 1;
+        let y = |i: usize| sheet.sites[i].y;
+        let level = |i: usize| (0..i).any(|j| y(i) == y(j));
+        let own = |colour: usize| sheet.sites.iter().filter(|site| site.colour == colour).count();
+        let binds = |(colour, bound): (usize, &u32)| *bound != UNBOUNDED && *bound > 1 && own(colour) > *bound as usize;
+        self.equal_y += usize::from((0..sheet.sites.len()).any(level));
+        self.bound_shared += usize::from(sheet.bounds.iter().enumerate().any(binds));
+        self.site_on_slot += usize::from(sheet.sites.iter().any(|site| sheet.slots.contains(&site.y)));
+    }
+
+    fn least(&self) -> usize {
+        let counts = self.laid_out.into_iter().chain(self.no_layout).flatten();
+        counts.chain([self.bound_shared, self.equal_y, self.site_on_slot]).min().unwrap_or(0)
+    }
+}
+
+#[test]
+fn small_sheets_as_the_search_has_them() {
+    let mut random = Random::new(21);
+    let mut met = Met::default();
+    for _ in 0..SMALL_SHEETS {
+        let sheet = small_sheet(&mut random);
+        let made = checked(&sheet, &mut random);
+        assert_eq!(made, search::best(&sheet).ok_or(Refusal::NoLayout.number()), "{sheet:?}");
+        met.note(&sheet, made.is_ok());
+    }
+    assert!(met.least() > SMALL_SHEETS / 50, "{met:?}");
+}
+
+#[test]
+fn medium_sheets_as_the_plain_table_has_them() {
+    let mut random = Random::new(22);
+    let mut met = Met::default();
+    for _ in 0..MEDIUM_SHEETS {
+        let sheet = medium_sheet(&mut random);
+        let made = checked(&sheet, &mut random);
+        met.note(&sheet, made.is_ok());
+    }
+    assert!(met.least() > MEDIUM_SHEETS / 50, "{met:?}");
+}

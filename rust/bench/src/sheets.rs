@@ -1,0 +1,56 @@
+//! The sheets that are timed.
+
+use model::random::banded_sheet;
+use model::sheet::{read, Sheet};
+
+pub struct Named {
+    pub name: String,
+    pub sheet: Sheet,
+}
+
+const FREE: u32 = 255;
+
+fn example(name: &str, text: &str) -> Named {
+    let words = sheet::encode(text).expect("an example is a sheet's text");
+    Named { name: name.to_string(), sheet: read(&words).expect("an example is a sheet") }
+}
+
+fn banded(name: &str, sites: u32, slots: u32, bounds: &[u32]) -> Named {
+    let two_sided = name.starts_with("two-sided");
+    let sheet = banded_sheet(two_sided, slots, sites, bounds, u64::from(sites));
+    Named { name: name.to_string(), sheet }
+}
+
+fn fewest(mut named: Named) -> Named {
+    named.sheet.shortest = false;
+    named
+}
+
+/// From 3 to 32 sites, the largest sheets of both sides last.
+pub fn dozen() -> Vec<Named> {
+    vec![
+        example("A, fewest", include_str!("../../../examples/a.txt")),
+        example("shared bound", include_str!("../../../examples/shared_bound.txt")),
+        fewest(banded("fewest", 5, 6, &[FREE, FREE])),
+        banded("shortest", 6, 8, &[2, FREE, FREE]),
+        banded("two-sided", 7, 8, &[FREE, FREE]),
+        example("rounding", include_str!("../../../examples/rounding.txt")),
+        fewest(banded("fewest", 10, 12, &[3, 1, FREE])),
+        example("gearbox, two-sided", include_str!("../../../examples/gearbox.txt")),
+        banded("shortest", 16, 24, &[7, FREE, FREE, FREE]),
+        example("tractor, fewest", include_str!("../../../examples/tractor.txt")),
+        banded("shortest", 24, 32, &[3, 3, FREE, FREE, FREE, FREE]),
+        banded("two-sided, largest", 32, 48, &[1, 1, 1, 1, 1, 1, FREE, FREE]),
+        banded("one-sided, largest", 32, 48, &[1, 1, 1, 1, 1, 1, FREE, FREE]),
+    ]
+}
+
+/// One number grows, the others stay.
+pub fn growing() -> Vec<Named> {
+    let mut sheets = Vec::new();
+    sheets.extend([4, 8, 16, 32].map(|sites| banded("sites", sites, 16, &[3, FREE])));
+    sheets.extend([6, 12, 24, 48].map(|slots| banded("slots", 12, slots, &[3, FREE])));
+    sheets.extend([1, 2, 4, 8].map(|colours| banded("colours", 12, 16, &[FREE; 8][..colours])));
+    sheets.extend([FREE, 3, 15, 63].map(|bound| banded("budgets", 12, 16, &[bound, FREE])));
+    sheets
+}

@@ -1,0 +1,22 @@
+//! Backbone labelling in plain Rust, written from the rules of the format and from nothing else.
+//!
+//! It shares no code with the library: the tests compare the two, and the benchmark times them side by side.
+//!
+//! - [`sheet`]: a sheet, its words, the reader's refusals;
+//! - [`rules`]: the rules of a lawful layout, and the judge;
+//! - [`search`]: the best layout by trying every layout;
+//! - [`maker`]: the best layout by a table and a walk, in the caller's areas;
+//! - [`program`]: what the program prints;
+//! - [`random`]: random sheets, and damage to them.
+
+mod budgets;
+mod costs;
+pub mod maker;
+mod one_sided;
+mod places;
+pub mod program;
+pub mod random;
+pub mod rules;
+pub mod search;
+pub mod sheet;
+mod two_sided;

@@ -1,0 +1,35 @@
+//! The layout maker in the caller's areas, with its refusals 1 to 10.
+
+use crate::sheet::{read, Sheet};
+use crate::{one_sided, two_sided};
+
+/// The number of the refusal, or 0 with the layout in the first answer words.
+pub fn make(words: &[u32], work: &mut [u32], answer: &mut [u32]) -> u32 {
+    match read(words) {
+        Err(refusal) => u32::from(refusal),
+        Ok(sheet) => make_sheet(&sheet, work, answer),
+    }
+}
+
+fn make_sheet(sheet: &Sheet, work: &mut [u32], answer: &mut [u32]) -> u32 {
+    let (needed, sites) = (sheet.work_words() as usize, sheet.sites.len());
+    if work.len() < needed {
+        return 8;
+    }
+    if answer.len() < sites + 1 {
+        return 9;
+    }
+    let work = &mut work[..needed];
+    let order = sheet.by_x();
+    let best = if sheet.two_sided { two_sided::best } else { one_sided::best };
+    let made = best(sheet, &order, work);
+    work.fill(0);
+    let Some((stated, slots)) = made else {
+        return 10;
+    };
+    answer[0] = stated;
+    for (site, slot) in order.iter().zip(slots) {
+        answer[site + 1] = 9 << 28 | u32::from(slot);
+    }
+    0
+}

@@ -1,0 +1,47 @@
+//! The best layout by trying every layout: the definition, run.
+
+use crate::rules::{layout_words, Ties};
+use crate::sheet::Sheet;
+
+/// The words of the best layout, or none where no layout obeys rules 1 to 5.
+///
+/// Layouts are tried in the order of choice (the site with the least x first, its lowest slot first), so the
+/// first of the equals is the one that is kept.
+pub fn best(sheet: &Sheet) -> Option<Vec<u32>> {
+    let order = sheet.by_x();
+    let mut slot_of = vec![0; sheet.sites.len()];
+    let mut least: Option<((u32, u32), Vec<usize>)> = None;
+    if sheet.slots.is_empty() && !slot_of.is_empty() {
+        return None;
+    }
+    loop {
+        let ties = Ties::new(sheet, &slot_of);
+        if ties.broken() == 0 {
+            let (count, length) = ties.numbers();
+            let cost = if sheet.shortest { (length, count) } else { (count, length) };
+            if least.as_ref().is_none_or(|(old, _)| cost < *old) {
+                least = Some((cost, slot_of.clone()));
+            }
+        }
+        if !next(&mut slot_of, &order, sheet.slots.len()) {
+            return least.map(|(_, slot_of)| layout_words(sheet, &slot_of));
+        }
+    }
+}
+
+/// How many layouts the search tries.
+pub fn layouts(sheet: &Sheet) -> f64 {
+    (sheet.slots.len() as f64).powi(sheet.sites.len() as i32)
+}
+
+/// The next layout in the order of choice; false after the last.
+fn next(slot_of: &mut [usize], order: &[usize], slots: usize) -> bool {
+    for site in order.iter().rev() {
+        slot_of[*site] += 1;
+        if slot_of[*site] < slots {
+            return true;
+        }
+        slot_of[*site] = 0;
+    }
+    false
+}

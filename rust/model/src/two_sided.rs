@@ -1,0 +1,156 @@
+//! Two-sided sheets: every backbone runs from edge to edge, so a layout is a chain of labels read downwards, and
+//! each site goes to the label next above or next below it.
+
+use crate::budgets::Budgets;
+use crate::costs::{Aim, NONE};
+use crate::places::{heights, FAR, PLACES};
+use crate::sheet::{Sheet, MOST_SITES};
+
+/// A site with the last place that it may be tied to. Colours count from 1 here; 0 is an edge's.
+#[derive(Clone, Copy, Default)]
+struct Capped {
+    y: i32,
+    colour: usize,
+    cap: usize,
+}
+
+struct Maker<'a> {
+    sheet: &'a Sheet,
+    aim: Aim,
+    budgets: Budgets,
+    heights: [i32; PLACES],
+    bottom: usize,
+    colours: usize,
+    /// Sites by rising y, and how many of them lie above each place.
+    sites: [Capped; MOST_SITES],
+    sites_above: [usize; PLACES],
+}
+
+/// Fills the work area and gives the first word of the layout and each site's slot, by rising x.
+pub fn best(sheet: &Sheet, order: &[usize], work: &mut [u32]) -> Option<(u32, [u8; MOST_SITES])> {
+    let mut by_y = [0; MOST_SITES];
+    let by_y = &mut by_y[..order.len()];
+    by_y.copy_from_slice(order);
+    by_y.sort_by_key(|site| sheet.sites[*site].y);
+    let mut maker = Maker::new(sheet, by_y);
+    let least = maker.fill(work);
+    if least == NONE {
+        return None;
+    }
+    let mut slots = [0; MOST_SITES];
+    for (rank, site) in order.iter().enumerate() {
+        let index = by_y.iter().position(|other| other == site).unwrap_or(0);
+        slots[rank] = maker.lower_cap(index, least, work) as u8 - 1;
+    }
+    Some((maker.aim.stated(least), slots))
+}
+
+impl<'a> Maker<'a> {
+    fn new(sheet: &'a Sheet, by_y: &[usize]) -> Maker<'a> {
+        let bottom = sheet.slots.len() + 1;
+        let heights = heights(sheet);
+        let mut sites = [Capped::default(); MOST_SITES];
+        for (site, number) in sites.iter_mut().zip(by_y) {
+            let own = sheet.sites[*number];
+            *site = Capped { y: own.y as i32, colour: own.colour + 1, cap: bottom - 1 };
+        }
+        let mut sites_above = [0; PLACES];
+        for place in 0..=bottom {
+            let above = sites[..by_y.len()].iter().filter(|site| site.y < heights[place]);
+            sites_above[place] = above.count();
+        }
+        Maker {
+            sheet,
+            aim: Aim::of(sheet),
+            budgets: Budgets::of(sheet),
+            heights,
+            bottom,
+            colours: sheet.bounds.len() + 1,
+            sites,
+            sites_above,
+        }
+    }
+
+    /// Lowers a site's cap as far as the least cost allows. The cost falls as a cap rises, so halving finds it.
+    fn lower_cap(&mut self, index: usize, least: u32, work: &mut [u32]) -> usize {
+        let (mut low, mut high) = (1, self.bottom - 1);
+        while low < high {
+            let middle = (low + high) / 2;
+            self.sites[index].cap = middle;
+            if self.fill(work) == least {
+                high = middle;
+            } else {
+                low = middle + 1;
+            }
+        }
+        self.sites[index].cap = high;
+        high
+    }
+
+    fn row(&self, place: usize, colour: usize) -> usize {
+        (place * self.colours + colour) * self.budgets.count
+    }
+
+    /// Fills the table upwards from the bottom edge and gives the least cost within the caps.
+    fn fill(&self, work: &mut [u32]) -> u32 {
+        for above in (0..self.bottom).rev() {
+            let colours = if above == 0 { 0..1 } else { 1..self.colours };
+            for above_colour in colours {
+                let start = self.row(above, above_colour);
+                let (head, lower) = work.split_at_mut(self.row(above + 1, 0));
+                let row = &mut head[start..][..self.budgets.count];
+                row.fill(self.strip_cost(above, above_colour, self.bottom, 0));
+                self.fill_row(above, above_colour, lower, row);
+            }
+        }
+        work[self.row(0, 0) + self.budgets.count - 1]
+    }
+
+    /// Lowers a row by each label that may come next below. `lower` begins at the place below `above`.
+    fn fill_row(&self, above: usize, above_colour: usize, lower: &[u32], row: &mut [u32]) {
+        let label = self.aim.cost(1, self.sheet.width);
+        for below in above + 1..self.bottom {
+            if self.heights[below] - self.heights[above] < self.sheet.gap as i32 {
+                continue;
+            }
+            for below_colour in 1..self.colours {
+                let strip = self.strip_cost(above, above_colour, below, below_colour);
+                if strip == NONE {
+                    continue;
+                }
+                let next = &lower[self.row(below - above - 1, below_colour)..][..row.len()];
+                self.lower_row(row, next, strip + label, below_colour - 1);
+            }
+        }
+    }
+
+    fn lower_row(&self, row: &mut [u32], next: &[u32], step: u32, colour: usize) {
+        let (draw, allowing) = (self.budgets.draw[colour], self.budgets.allowing[colour]);
+        for (budget, cost) in row.iter_mut().enumerate() {
+            if allowing >> budget & 1 == 1 {
+                *cost = (*cost).min(next[budget - draw].saturating_add(step));
+            }
+        }
+    }
+
+    /// The sum, over the sites between two neighbouring labels, of the cheaper lawful tie.
+    fn strip_cost(&self, above: usize, above_colour: usize, below: usize, below_colour: usize) -> u32 {
+        let (top, bottom, gap) = (self.heights[above], self.heights[below], self.sheet.gap as i32);
+        let mut length = 0;
+        for site in &self.sites[self.sites_above[above]..self.sites_above[below]] {
+            let (up, down) = (site.y - top, bottom - site.y);
+            let mut drop = FAR;
+            if site.colour == above_colour && down >= gap && above <= site.cap {
+                drop = up;
+            }
+            if site.colour == below_colour && up >= gap && below <= site.cap {
+                drop = drop.min(down);
+            }
+            if drop == FAR {
+                return NONE;
+            }
+            length += drop as u32;
+        }
+        self.aim.cost(0, length)
+    }
+}
