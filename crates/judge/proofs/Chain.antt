@@ -4,9 +4,9 @@ use mathlib.Core.Bool.{Bool, true, false, _&&_, not, cond}
 use mathlib.Core.List.{List}
 use Prim.Native.Nat.{ℕ}
 use lib.Dec.{eqb}
-use Rattle.sheet.specs.Sheet.{all, Sheet}
-use Rattle.labelling.specs.Layout.{tied, coloursKept, boundsKept, gapsKept, missesAll, clearsAll, countOf, lengthOf, statedCount, statedLength, layoutTies, brokenBy}
-use Rattle.judge.specs.Judge.{firstBroken}
+use Rattle.sheet.specs.Sheet.{sheetIn}
+use Rattle.labelling.specs.Layout.{brokenBy}
+use Rattle.judge.specs.Judge.{keepsOne, keepsTwo, keepsThree, keepsFour, keepsFive, keepsSix, firstBroken}
 
 chain : (a b c d e f : Bool) →
     cond (not (eqb (cond (not a) 1 (cond (not b) 2 (cond (not c) 3 (cond (not d) 4 (cond (not e) 5 0))))) 0))
@@ -19,11 +19,6 @@ chain true true true true false f = refl
 chain true true true true true false = refl
 chain true true true true true true = refl
 
-pub broken-first : (s : Sheet) (ws : List ℕ) → brokenBy s ws ≡
-    firstBroken (coloursKept (tied s (layoutTies ws))) (boundsKept s (layoutTies ws) 0 (s .colours)) (gapsKept s (tied s (layoutTies ws)))
-    (all (missesAll s (layoutTies ws)) (tied s (layoutTies ws))) (all (clearsAll s (layoutTies ws)) (tied s (layoutTies ws)))
-    (eqb (statedCount ws) (countOf s (layoutTies ws)) && eqb (statedLength ws) (lengthOf s (layoutTies ws)))
-broken-first s ws =
-    chain (coloursKept (tied s (layoutTies ws))) (boundsKept s (layoutTies ws) 0 (s .colours)) (gapsKept s (tied s (layoutTies ws)))
-    (all (missesAll s (layoutTies ws)) (tied s (layoutTies ws))) (all (clearsAll s (layoutTies ws)) (tied s (layoutTies ws)))
-    (eqb (statedCount ws) (countOf s (layoutTies ws)) && eqb (statedLength ws) (lengthOf s (layoutTies ws)))
+pub broken-first : (ss ls : List ℕ) →
+    brokenBy (sheetIn ss) ls ≡ firstBroken (keepsOne ss ls) (keepsTwo ss ls) (keepsThree ss ls) (keepsFour ss ls) (keepsFive ss ls) (keepsSix ss ls)
+broken-first ss ls = chain (keepsOne ss ls) (keepsTwo ss ls) (keepsThree ss ls) (keepsFour ss ls) (keepsFive ss ls) (keepsSix ss ls)

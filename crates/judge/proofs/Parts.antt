@@ -1,6 +1,6 @@
 -- The parts of a stored list, place by place; how many words an accepted sheet has. Assumes nothing.
-use mathlib.Core.Path.{_≡_, refl, sym, ap, _∙_}
-use mathlib.Core.Bool.{Bool, true, false, _&&_, cond}
+use mathlib.Core.Path.{_≡_, refl, ap}
+use mathlib.Core.Bool.{true, _&&_}
 use mathlib.Core.List.{List, [], _∷_}
 use Prim.Native.Nat.{ℕ, suc, _+_, _-_, _<_, _≤_}
 use native.Mathlib.Omega.{arith}
@@ -9,8 +9,8 @@ use lib.ListN.{length, getD, take, drop, length-drop, drop-of-length-le}
 use borrow.Author.Tests.{eq-eqb, ne-eqb}
 use Rattle.lists.proofs.Places.{at}
 use Rattle.lists.proofs.Tests.{by-test, by-equal}
-use Rattle.sheet.specs.Sheet.{all, kindOf, bits, inOrder, slotsIn, coloursIn, sitesIn, bodyOf, sheetIn, sheetFault}
-use Rattle.sheet.proofs.Accepted.{Step, step, Sound, sound, unrefused}
+use Rattle.sheet.specs.Sheet.{all, kindOf, inOrder, slotsIn, coloursIn, sitesIn, bodyOf, sheetFault}
+use Rattle.sheet.proofs.Accepted.{Step, step, sound, unrefused}
 use Rattle.labelling.specs.Layout.{sheetPart}
 use Rattle.judge.specs.Judge.{tieFits}
 

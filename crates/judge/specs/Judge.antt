@@ -4,13 +4,14 @@ use mathlib.Core.Bool.{Bool, true, _&&_, not, cond}
 use mathlib.Core.List.{List}
 use Prim.Native.Nat.{ℕ}
 use lib.Dec.{eqb, ltb}
-use Rattle.sheet.specs.Sheet.{kindOf, bits, sheetIn, sheetFault}
-use Rattle.labelling.specs.Layout.{isLayout, brokenBy, judgeFault, judged}
+use Rattle.sheet.specs.Sheet.{all, kindOf, bits, sheetIn, sheetFault}
+use Rattle.labelling.specs.Layout.{tied, coloursKept, boundsKept, gapsKept, missesAll, clearsAll, countOf, lengthOf, statedCount, statedLength, layoutTies, isLayout, brokenBy, judgeFault, judged}
 use Rattle.pairs.specs.declared.Head.{Head}
 use Rattle.rules.specs.Words.{headOf}
 use Rattle.judge.specs.declared.Verdict.{Verdict}
 
--- THE JUDGE: document 01's refusal, or 0 and the least broken rule, or 0. The rule beside a refusal is left free; it is 0
+-- THE JUDGE: its refusal, 1 to 7 or 11, or 0; and the least broken rule, or 0. Document 01 leaves free what stands beside a
+-- refusal: 0
 abbrev pub judgePost : (stored : List ℕ) → Verdict
 judgePost ws = record { refusal = judgeFault ws; rule = cond (eqb (judgeFault ws) 0) (judged ws) 0 }
 
@@ -27,9 +28,28 @@ pub record Stored (h : Head) (sheet layout : List ℕ) : Type 0 where
   pub formed : isLayout (sheetIn sheet) layout ≡ true
   pub head : h ≡ headOf sheet
 
--- a tie word where there are m slots
+-- a word of kind 9 without a spare bit, its slot below m
 abbrev pub tieFits : (slots word : ℕ) → Bool
 tieFits m w = eqb (kindOf w) 9 && eqb (bits w 8 20) 0 && ltb (bits w 0 8) m
+
+-- THE RULES, each as labelling's test of the sheet and the ties in these words
+abbrev pub keepsOne : (sheet layout : List ℕ) → Bool
+keepsOne ss ls = coloursKept (tied (sheetIn ss) (layoutTies ls))
+
+abbrev pub keepsTwo : (sheet layout : List ℕ) → Bool
+keepsTwo ss ls = boundsKept (sheetIn ss) (layoutTies ls) 0 (sheetIn ss .colours)
+
+abbrev pub keepsThree : (sheet layout : List ℕ) → Bool
+keepsThree ss ls = gapsKept (sheetIn ss) (tied (sheetIn ss) (layoutTies ls))
+
+abbrev pub keepsFour : (sheet layout : List ℕ) → Bool
+keepsFour ss ls = all (missesAll (sheetIn ss) (layoutTies ls)) (tied (sheetIn ss) (layoutTies ls))
+
+abbrev pub keepsFive : (sheet layout : List ℕ) → Bool
+keepsFive ss ls = all (clearsAll (sheetIn ss) (layoutTies ls)) (tied (sheetIn ss) (layoutTies ls))
+
+abbrev pub keepsSix : (sheet layout : List ℕ) → Bool
+keepsSix ss ls = eqb (statedCount ls) (countOf (sheetIn ss) (layoutTies ls)) && eqb (statedLength ls) (lengthOf (sheetIn ss) (layoutTies ls))
 
 -- the first of six tests that fails, or 0
 abbrev pub firstBroken : (one two three four five six : Bool) → ℕ

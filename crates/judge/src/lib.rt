@@ -1,12 +1,9 @@
 // The judge: a refusal, or the least broken rule of a stored sheet.
 ghost use mathlib.Core.Path.{_≡_};
-ghost use mathlib.Core.Bool.{_&&_};
-ghost use Prim.Native.Nat.{ℕ};
-ghost use lib.Dec.{eqb};
 ghost use lib.ListN.{length};
 ghost use Rattle.sheet.specs.Sheet.{all, sheetIn};
-ghost use Rattle.labelling.specs.Layout.{tied, coloursKept, boundsKept, gapsKept, missesAll, clearsAll, countOf, lengthOf, statedCount, statedLength, layoutBody, layoutTies, isLayout, brokenBy, sheetPart};
-ghost use Rattle.judge.specs.Judge.{judgePost, partsPost, Stored, tieFits};
+ghost use Rattle.labelling.specs.Layout.{layoutBody, isLayout, brokenBy, sheetPart};
+ghost use Rattle.judge.specs.Judge.{judgePost, partsPost, Stored, tieFits, keepsOne, keepsTwo, keepsThree, keepsFour, keepsFive, keepsSix};
 use pairs::Head;
 use pairs::Test;
 use reader::sheet_fault;
@@ -81,7 +78,7 @@ fn is_layout(sheet: &[u32], layout: &[u32]) -> bool
 // Rule 1: sites that share a slot share a colour.
 fn colours_kept(h: Head, sheet: &[u32], layout: &[u32]) -> bool
     requires { ⌜ Stored h (now sheet) (now layout) ⌝ }
-    ensures { λ r. ⌜ r ≡ coloursKept (tied (sheetIn (now (sheet .entry))) (layoutTies (now (layout .entry)))) ⌝ }
+    ensures { λ r. ⌜ r ≡ keepsOne (now (sheet .entry)) (now (layout .entry)) ⌝ }
 {
     pairs_pass(Test::Colours, h, sheet, layout)
 }
@@ -89,7 +86,7 @@ fn colours_kept(h: Head, sheet: &[u32], layout: &[u32]) -> bool
 // Rule 2: no colour uses more slots than its bound.
 fn bounds_kept(h: Head, sheet: &[u32], layout: &[u32]) -> bool
     requires { ⌜ Stored h (now sheet) (now layout) ⌝ }
-    ensures { λ r. ⌜ r ≡ boundsKept (sheetIn (now (sheet .entry))) (layoutTies (now (layout .entry))) 0 ((sheetIn (now (sheet .entry))) .colours) ⌝ }
+    ensures { λ r. ⌜ r ≡ keepsTwo (now (sheet .entry)) (now (layout .entry)) ⌝ }
 {
     bounds_pass(h, sheet, layout)
 }
@@ -97,7 +94,7 @@ fn bounds_kept(h: Head, sheet: &[u32], layout: &[u32]) -> bool
 // Rule 3: used slots are at least D apart.
 fn gaps_kept(h: Head, sheet: &[u32], layout: &[u32]) -> bool
     requires { ⌜ Stored h (now sheet) (now layout) ⌝ }
-    ensures { λ r. ⌜ r ≡ gapsKept (sheetIn (now (sheet .entry))) (tied (sheetIn (now (sheet .entry))) (layoutTies (now (layout .entry)))) ⌝ }
+    ensures { λ r. ⌜ r ≡ keepsThree (now (sheet .entry)) (now (layout .entry)) ⌝ }
 {
     pairs_pass(Test::Gaps, h, sheet, layout)
 }
@@ -105,7 +102,7 @@ fn gaps_kept(h: Head, sheet: &[u32], layout: &[u32]) -> bool
 // Rule 4: no vertical shares a point with the backbone of another label.
 fn verticals_miss(h: Head, sheet: &[u32], layout: &[u32]) -> bool
     requires { ⌜ Stored h (now sheet) (now layout) ⌝ }
-    ensures { λ r. ⌜ r ≡ all (missesAll (sheetIn (now (sheet .entry))) (layoutTies (now (layout .entry)))) (tied (sheetIn (now (sheet .entry))) (layoutTies (now (layout .entry)))) ⌝ }
+    ensures { λ r. ⌜ r ≡ keepsFour (now (sheet .entry)) (now (layout .entry)) ⌝ }
 {
     pairs_pass(Test::Misses, h, sheet, layout)
 }
@@ -113,7 +110,7 @@ fn verticals_miss(h: Head, sheet: &[u32], layout: &[u32]) -> bool
 // Rule 5: backbones lie clear of the sites of other labels.
 fn backbones_clear(h: Head, sheet: &[u32], layout: &[u32]) -> bool
     requires { ⌜ Stored h (now sheet) (now layout) ⌝ }
-    ensures { λ r. ⌜ r ≡ all (clearsAll (sheetIn (now (sheet .entry))) (layoutTies (now (layout .entry)))) (tied (sheetIn (now (sheet .entry))) (layoutTies (now (layout .entry)))) ⌝ }
+    ensures { λ r. ⌜ r ≡ keepsFive (now (sheet .entry)) (now (layout .entry)) ⌝ }
 {
     pairs_pass(Test::Clears, h, sheet, layout)
 }
@@ -121,7 +118,7 @@ fn backbones_clear(h: Head, sheet: &[u32], layout: &[u32]) -> bool
 // Rule 6: the stated count and length are those of the ties.
 fn totals_stated(h: Head, sheet: &[u32], layout: &[u32]) -> bool
     requires { ⌜ Stored h (now sheet) (now layout) ⌝ }
-    ensures { λ r. ⌜ r ≡ (eqb (statedCount (now (layout .entry))) (countOf (sheetIn (now (sheet .entry))) (layoutTies (now (layout .entry)))) && eqb (statedLength (now (layout .entry))) (lengthOf (sheetIn (now (sheet .entry))) (layoutTies (now (layout .entry))))) ⌝ }
+    ensures { λ r. ⌜ r ≡ keepsSix (now (sheet .entry)) (now (layout .entry)) ⌝ }
 {
     let w = get(layout, 0);
     let stated = (w / 2097152 % 128) as usize;

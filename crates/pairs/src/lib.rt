@@ -37,7 +37,7 @@ pub enum Test {
     FirstIn(usize),
 }
 
-// Rule 1.
+// Rule 1: sites that share a slot share a colour.
 fn colours_pass(t: TiedSite, u: TiedSite) -> bool
     ensures { λ r. ⌜ r ≡ coloursPass t u ⌝ }
 {
@@ -45,7 +45,7 @@ fn colours_pass(t: TiedSite, u: TiedSite) -> bool
     either(is_not(same(t.slot, u.slot)), agree)
 }
 
-// Rule 3.
+// Rule 3: labels lie at least D apart.
 fn gaps_pass(h: Head, t: TiedSite, u: TiedSite) -> bool
     ensures { λ r. ⌜ r ≡ gapsPass h t u ⌝ }
 {
@@ -53,7 +53,7 @@ fn gaps_pass(h: Head, t: TiedSite, u: TiedSite) -> bool
     either(same(t.slot, u.slot), far)
 }
 
-// The left end of u's label if u alone is on it.
+// The left end of u's label if u alone is on it. Some site of a label has its left end, so pairs are enough.
 fn start_of(h: Head, u: TiedSite) -> u32
     ensures { λ r. ⌜ r ≡ startOf h u ⌝ }
 {
@@ -77,7 +77,7 @@ fn vertical_has(y: u32, end: u32, h: u32) -> bool
     over(choose(end < y, end, y), choose(down, end, y), h)
 }
 
-// Rule 4.
+// Rule 4: t's vertical misses the backbone of u's label.
 fn misses_pass(h: Head, t: TiedSite, u: TiedSite) -> bool
     ensures { λ r. ⌜ r ≡ missesPass h t u ⌝ }
 {
@@ -86,7 +86,7 @@ fn misses_pass(h: Head, t: TiedSite, u: TiedSite) -> bool
     either(same(t.slot, u.slot), is_not(meets))
 }
 
-// Rule 5.
+// Rule 5: the backbone of u's label lies at least D from t.
 fn clears_pass(h: Head, t: TiedSite, u: TiedSite) -> bool
     ensures { λ r. ⌜ r ≡ clearsPass h t u ⌝ }
 {
@@ -113,6 +113,7 @@ fn first_in_pass(c: usize, t: TiedSite, u: TiedSite) -> bool
     both(of, either(other, first_pass(t, u)))
 }
 
+// The test of this name.
 pub fn pass(test: Test, h: Head, t: TiedSite, u: TiedSite) -> bool
     ensures { λ r. ⌜ r ≡ passes test h t u ⌝ }
 {

@@ -3,15 +3,15 @@
 use mathlib.Core.Path.{_≡_, refl, sym, ap, ap₂, _∙_}
 use mathlib.Core.Bool.{Bool, true, false, _&&_, _||_, not, cond}
 use mathlib.Core.List.{List, [], _∷_}
-use Prim.Native.Nat.{ℕ, zero, suc, _+_, _-_, _<_, _≤_, min}
+use Prim.Native.Nat.{ℕ, zero, suc, _+_, _-_, _<_}
 use native.Mathlib.Omega.{arith}
-use lib.Dec.{eqb, ltb, leb}
+use lib.Dec.{eqb, ltb}
 use lib.ListN.{length, getD, drop}
-use borrow.Author.Tests.{eq-eqb, ne-eqb, eqb-true, ltb-true, lt-ltb}
-use Rattle.lists.proofs.Tests.{by-test, by-either, and-l, and-r, and-i, or-e, is-false, same-test, clash, not-f, tests}
-use Rattle.sheet.specs.Sheet.{all, bits, Site, Sheet, coloursIn, sheetIn, sheetFault}
-use Rattle.sheet.proofs.Accepted.{Sound, sound}
-use Rattle.labelling.specs.Layout.{siteAt, Tied, tied, tiesIn, heightOf, usedOf, leastX, leftEnd, colourKept, coloursKept, slotsOf, boundsKept, gapKept, gapsKept, missesAll, clearsAll, countOf, backbones, siteShare, drops, lengthOf, isLayout}
+use borrow.Author.Tests.{eq-eqb, eqb-true, ltb-true, lt-ltb}
+use Rattle.lists.proofs.Tests.{by-test, and-l, and-r, and-i, is-false, same-test, clash, not-f}
+use Rattle.sheet.specs.Sheet.{all, Sheet, coloursIn, sheetIn, sheetFault}
+use Rattle.sheet.proofs.Accepted.{sound}
+use Rattle.labelling.specs.Layout.{siteAt, Tied, tied, tiesIn, heightOf, usedOf, leastX, leftEnd, colourKept, coloursKept, slotsOf, boundsKept, gapKept, gapsKept, missesAll, clearsAll, countOf, siteShare, lengthOf, isLayout}
 use Rattle.labelling.specs.Pairs.{missesPair, clearsPair}
 use Rattle.labelling.specs.Counted.{allBefore, sumBefore, isTaken, isFirst, anySite, ofColour}
 use Rattle.labelling.proofs.Counted.{all-before, before-all, taken-at, at-taken, count-counted, colour-counted, backbones-counted, drops-counted}

@@ -1,29 +1,29 @@
 -- The tied sites that the words of an accepted sheet and its layout give are its sites with their ties, by their numbers.
 -- Assumes nothing.
 use mathlib.Core.Path.{_≡_, refl, sym, ap, ap₂, _∙_, fun-ext}
-use mathlib.Core.Bool.{Bool, true, false, _&&_, _||_, not, cond}
+use mathlib.Core.Bool.{Bool, true, false, _&&_, cond}
 use mathlib.Core.List.{List, [], _∷_}
-use Prim.Native.Nat.{ℕ, zero, suc, _+_, _-_, _<_, _≤_}
+use Prim.Native.Nat.{ℕ, zero, suc, _+_, _<_}
 use native.Mathlib.Omega.{arith}
 use lib.Dec.{eqb, ltb}
 use lib.ListN.{length, getD, drop, length-drop}
 use lib.Seq.{getD-drop, drop-drop}
 use borrow.Author.Tests.{eq-eqb, ne-eqb, eqb-true, ltb-true}
 use Rattle.lists.proofs.Tests.{by-test}
-use Rattle.sheet.specs.Sheet.{all, kindOf, bits, inOrder, Site, Sheet, slotsIn, coloursIn, sitesIn, siteIn, bodyOf, sheetIn, sheetFault}
+use Rattle.sheet.specs.Sheet.{all, kindOf, bits, inOrder, Site, Sheet, slotsIn, coloursIn, sitesIn, bodyOf, sheetIn, sheetFault}
 use Rattle.sheet.proofs.Accepted.{unrefused, Step, step}
 use Rattle.labelling.specs.Layout.{noSite, siteAt, Tied, tieAt, tied, heightOf, tiesIn, isLayout}
 use Rattle.labelling.specs.Counted.{allBefore, sumBefore}
 use Rattle.labelling.proofs.Counted.{all-is, tied-is}
 use Rattle.labelling.proofs.Members.{all-at}
 use Rattle.labelling.proofs.Best.{below}
-use Rattle.labelling.proofs.Words.{Formed, formed, length-tiesIn, ties-low}
+use Rattle.labelling.proofs.Words.{formed, length-tiesIn, ties-low}
 use Rattle.pairs.specs.declared.TiedSite.{TiedSite}
 use Rattle.pairs.specs.declared.Head.{Head}
 use Rattle.pairs.specs.declared.Test.{Test}
 use Rattle.pairs.specs.Pairs.{passes}
 use Rattle.rules.specs.declared.Place.{Place}
-use Rattle.rules.specs.Words.{isColour, isSite, slotsRun, headOf, heightIn, begin, placeAfter, tiedAt, tiedFrom, tiedIn, passesAll, pairsPass, sumOver}
+use Rattle.rules.specs.Words.{isColour, isSite, slotsRun, headOf, heightIn, begin, tiedFrom, tiedIn, passesAll, pairsPass, sumOver}
 
 -- a site's word is no colour's; a slot's is neither
 site-no-colour : (w : ℕ) → isSite w ≡ true → isColour w ≡ false

@@ -1,6 +1,6 @@
--- The tied sites of a stored sheet as its words give them, and tests and sums over them. Assumes nothing: these are definitions.
--- That they come to document 01's rules is shown in proofs/.
-use mathlib.Core.Bool.{Bool, true, false, _&&_, _||_, not, cond}
+-- The model that the loops follow: the tied sites of a stored sheet as its words give them, tests and sums over them.
+-- Assumes nothing: these are definitions. proofs/Kept shows that they come to document 01's rules.
+use mathlib.Core.Bool.{Bool, true, _&&_, _||_, not, cond}
 use mathlib.Core.List.{List, [], _∷_}
 use Prim.Native.Nat.{ℕ, suc, _+_, _-_, min}
 use lib.Dec.{eqb, leb}
@@ -17,17 +17,20 @@ use Rattle.rules.specs.declared.Place.{Place}
 abbrev pub oneIf : Bool → ℕ
 oneIf b = cond b 1 0
 
+-- a word of kind 4, and of kind 3
 abbrev pub isSite : (word : ℕ) → Bool
 isSite w = eqb (kindOf w) 4
 
 abbrev pub isColour : (word : ℕ) → Bool
 isColour w = eqb (kindOf w) 3
 
--- THE HEAD of a sheet; its slots stand right after it
+-- THE HEAD
+-- how many words of kind 2 stand first
 unfoldable pub slotsRun : List ℕ → ℕ
 slotsRun [] = 0
 slotsRun (w ∷ ws) = cond (eqb (kindOf w) 2) (suc (slotsRun ws)) 0
 
+-- side, gap and width, and the place of the first word after the slots, which stand right after the head
 abbrev pub headOf : (sheet : List ℕ) → Head
 headOf ss =
     record {
@@ -37,19 +40,23 @@ headOf ss =
       body = 1 + slotsRun (bodyOf ss);
     }
 
+-- the height of a slot
 abbrev pub heightIn : (sheet : List ℕ) → (slot : ℕ) → ℕ
 heightIn ss k = bits (getD (bodyOf ss) k 0) 0 14
 
 -- THE TIED SITES, word by word
+-- no colour has been passed, and the first tie stands at place 1 of the layout
 abbrev pub begin : Place
 begin = record { colours = 0; tie = 1 }
 
 abbrev pub placeAfter : Place → (word : ℕ) → Place
 placeAfter p w = record { colours = p .colours + oneIf (isColour w); tie = p .tie + oneIf (isSite w) }
 
+-- the slot of the next site
 abbrev pub slotIn : (layout : List ℕ) → Place → ℕ
 slotIn ls p = bits (getD ls (p .tie) 0) 0 8
 
+-- the site in a word, of the last colour passed, with its slot
 abbrev pub tiedAt : (sheet layout : List ℕ) → Place → (word : ℕ) → TiedSite
 tiedAt ss ls p w =
     record {
@@ -61,6 +68,7 @@ tiedAt ss ls p w =
       height = heightIn ss (slotIn ls p);
     }
 
+-- the sites in words from a place on; in all words after the slots
 unfoldable pub tiedFrom : (sheet layout : List ℕ) → Place → (words : List ℕ) → List TiedSite
 tiedFrom ss ls p [] = []
 tiedFrom ss ls p (w ∷ ws) =
@@ -76,7 +84,7 @@ passesAll k h ts t = all (passes k h t) ts
 abbrev pub pairsPass : Test → Head → List TiedSite → Bool
 pairsPass k h ts = all (passesAll k h ts) ts
 
--- SUMS over them
+-- a sum over items
 unfoldable pub sumOver : {A : Type 0} → (A → ℕ) → List A → ℕ
 sumOver f [] = 0
 sumOver f (x ∷ xs) = f x + sumOver f xs
@@ -88,7 +96,7 @@ passOne k h ts t = oneIf (passesAll k h ts t)
 abbrev pub passing : Test → Head → List TiedSite → ℕ
 passing k h ts = sumOver (passOne k h ts) ts
 
--- a colour's bound is kept by so many labels
+-- RULE 2: a colour's bound is kept by so many labels; by each colour's from a word on
 abbrev pub boundKept : (labels word : ℕ) → Bool
 boundKept n w = eqb (bits w 0 8) 255 || leb n (bits w 0 8)
 
@@ -96,10 +104,11 @@ unfoldable pub boundsFrom : (labels : ℕ → ℕ) → (colours : ℕ) → (word
 boundsFrom f c [] = true
 boundsFrom f c (w ∷ ws) = (not (isColour w) || boundKept (f c) w) && boundsFrom f (c + oneIf (isColour w)) ws
 
+-- a colour's labels: its sites that are the first of the colour on their slot
 abbrev pub labelsIn : Head → List TiedSite → (colour : ℕ) → ℕ
 labelsIn h ts c = passing (FirstIn c) h ts
 
--- the left end of a slot's label
+-- RULE 6: the least x of a slot's sites, or the width; the left end of its label
 unfoldable pub leastIn : (slot width : ℕ) → List TiedSite → ℕ
 leastIn k w [] = w
 leastIn k w (t ∷ ts) = cond (eqb (t .slot) k) (min (t .x) (leastIn k w ts)) (leastIn k w ts)
@@ -111,5 +120,6 @@ leftIn h ts k = cond (h .twosided) 0 (leastIn k (h .width) ts)
 abbrev pub lengthAt : Sheet → Head → List TiedSite → TiedSite → ℕ
 lengthAt s h ts t = cond (passesAll First h ts t) (h .width - leftIn h ts (t .slot)) 0 + siteShare s (t .height) (t .y)
 
+-- the length
 abbrev pub lengthIn : Sheet → Head → List TiedSite → ℕ
 lengthIn s h ts = sumOver (lengthAt s h ts) ts

@@ -1,18 +1,17 @@
 // Rules 1 to 6 on the words of a stored sheet, by loops over pairs of tied sites. No list of slots or labels is kept.
 ghost use mathlib.Core.Path.{_≡_};
 ghost use mathlib.Core.Bool.{_||_, not, cond};
-ghost use Prim.Native.Nat.{ℕ, _+_, _-_, _<_, _≤_, min};
+ghost use Prim.Native.Nat.{_+_, _-_, _<_, _≤_, min};
 ghost use lib.Dec.{eqb};
 ghost use lib.ListN.{length, getD, drop};
 ghost use Rattle.sheet.specs.Sheet.{bits, sheetIn, bodyOf};
 ghost use Rattle.pairs.specs.Pairs.{passes};
-ghost use Rattle.rules.specs.Words.{oneIf, isSite, isColour, headOf, slotsRun, heightIn, placeAfter, slotIn, tiedAt, tiedIn, passesAll, pairsPass, passOne, passing, boundKept, boundsFrom, labelsIn, leastIn, leftIn, lengthAt, lengthIn};
+ghost use Rattle.rules.specs.Words.{oneIf, isSite, isColour, headOf, slotsRun, heightIn, placeAfter, slotIn, tiedAt, tiedIn, passesAll, pairsPass, passOne, passing, boundKept, boundsFrom, labelsIn, leftIn, lengthAt, lengthIn};
 use drops::share_of;
 use pairs::Head;
 use pairs::Test;
 use pairs::TiedSite;
 use pairs::pass;
-use words::both;
 use words::byte_field;
 use words::choose;
 use words::gap_field;

@@ -2,36 +2,22 @@ use Rattle.drops.proofs.Signed.{small, back, diff-fits}
 use mir.Syntax.{w32}
 use mir.ValLaws.{toZ-ofZ}
 use lib.IntN.{pos, _-ℤ_}
-use mathlib.Core.Path.{_≡_, refl, ap, sym, _∙_}
-use mathlib.Core.List.{List, [], _∷_, _++_}
-use mathlib.Core.Logic.{⊎-elim}
-use Prim.Native.Nat.{ℕ, zero, suc, _+_, _-_, _*_, _<_, _≤_}
 use native.Mathlib.Omega.{arith}
-use native.Mathlib.Numerals.{add-one}
-use lib.ListN.{length, getD, take, drop, set, length-set}
-use borrow.Author.Tests.{eq-eqb, ne-eqb, lt-ltb, le-ltb, le-leb, lt-leb}
-use borrow.Author.Needs.{needs}
 use Rattle.drops.proofs.drop_of.Statement.{statement}
 use Rattle.drops.proofs.drop_of.Tie as tie
-use Rattle.drops.proofs.drop_of.Reads as reads
-use Rattle.drops.proofs.drop_of.Lts as lts
 
--- src/lib.rt:23:6
 cast-result : tie.Need-cast-result
 cast-result c =
     small (c .args .h) (omega arith)
 
--- src/lib.rt:23:19
 cast-result-2 : tie.Need-cast-result-2
 cast-result-2 c =
     small (c .args .y) (omega arith)
 
--- src/lib.rt:23:5
 sub-result : tie.Need-sub-result
 sub-result c =
     rw (back (c .args .h) (c .pre .0), back (c .args .y) (c .pre .1)) (diff-fits (c .args .h) (c .args .y) (c .pre .0) (c .pre .1))
 
--- src/lib.rt:19:1
 returns : tie.Need-returns
 returns c =
     rw (back (c .args .h) (c .pre .0), back (c .args .y) (c .pre .1)) (toZ-ofZ w32 (pos (c .args .h) -ℤ pos (c .args .y)) (diff-fits (c .args .h) (c .args .y) (c .pre .0) (c .pre .1)))

@@ -3,19 +3,10 @@ use Rattle.drops.proofs.Signed.{small, neg-of, pos-of}
 use mir.Syntax.{w32}
 use mir.ValLaws.{toZ-ofZ}
 use lib.IntN.{pos, natAbs, _-ℤ_}
-use mathlib.Core.Path.{_≡_, refl, ap, sym, _∙_}
-use mathlib.Core.List.{List, [], _∷_, _++_}
-use mathlib.Core.Logic.{⊎-elim}
-use Prim.Native.Nat.{ℕ, zero, suc, _+_, _-_, _*_, _<_, _≤_}
+use mathlib.Core.Path.{_≡_, refl, _∙_}
 use native.Mathlib.Omega.{arith}
-use native.Mathlib.Numerals.{add-one}
-use lib.ListN.{length, getD, take, drop, set, length-set}
-use borrow.Author.Tests.{eq-eqb, ne-eqb, lt-ltb, le-ltb, le-leb, lt-leb}
-use borrow.Author.Needs.{needs}
 use Rattle.drops.proofs.magnitude.Statement.{statement}
 use Rattle.drops.proofs.magnitude.Tie as tie
-use Rattle.drops.proofs.magnitude.Reads as reads
-use Rattle.drops.proofs.magnitude.Lts as lts
 
 -- d behind its bits, and what is cast
 at-d : (c : tie.Then1) → toZ w32 (ofZ w32 (c .before .args .d)) ≡ c .before .args .d
@@ -32,27 +23,22 @@ same c =
     let b = toZ-ofZ w32 (c .before .args .d) (c .before .fits .d) in
     b ∙ pos-of (c .before .args .d) (rw b at (c .if1 .left))
 
--- src/lib.rt:56:17
 sub-result : tie.Need-sub-result
 sub-result c =
     rw (minus c) (small (natAbs (c .before .args .d)) (c .before .pre))
 
--- src/lib.rt:56:16
 cast-result : tie.Need-cast-result
 cast-result c =
     rw (minus c, again c) (tt, record { fits = omega arith })
 
--- src/lib.rt:56:9
 returns : tie.Need-returns
 returns c =
     rw (minus c, again c) refl
 
--- src/lib.rt:58:5
 cast-result-2 : tie.Need-cast-result-2
 cast-result-2 c =
     rw (same c) (tt, record { fits = omega arith })
 
--- src/lib.rt:51:1
 returns-2 : tie.Need-returns-2
 returns-2 c =
     rw (same c) refl

@@ -3,20 +3,12 @@ use Rattle.sheet.specs.Sheet.{all}
 use Rattle.lists.proofs.Places.{stop, go}
 use Rattle.judge.specs.Judge.{tieFits}
 use Rattle.judge.proofs.Parts.{ties-at, ties-end}
-use mathlib.Core.Path.{_≡_, refl, ap, sym, _∙_}
-use mathlib.Core.List.{List, [], _∷_, _++_}
-use mathlib.Core.Logic.{⊎-elim}
-use Prim.Native.Nat.{ℕ, zero, suc, _+_, _-_, _*_, _<_, _≤_}
-use native.Mathlib.Omega.{arith}
-use native.Mathlib.Numerals.{add-one}
-use lib.ListN.{length, getD, take, drop, set, length-set}
-use borrow.Author.Tests.{eq-eqb, ne-eqb, lt-ltb, le-ltb, le-leb, lt-leb}
+use mathlib.Core.Path.{_≡_, sym, _∙_}
+use Prim.Native.Nat.{_-_}
+use lib.ListN.{length, drop}
 use borrow.Author.Needs.{needs}
 use Rattle.judge.proofs.are_ties.Statement.{statement}
 use Rattle.judge.proofs.are_ties.Tie as tie
-use Rattle.judge.proofs.are_ties.Reads as reads
-use Rattle.judge.proofs.are_ties.Lts as lts
-use Rattle.judge.proofs.is_tie.Reads as is-tie-reads
 
 abbrev Inv-loop : tie.InvT-loop
 Inv-loop m layout i₀ i = all (tieFits m) (drop 1 layout) ≡ all (tieFits m) (drop i layout)
@@ -24,43 +16,34 @@ Inv-loop m layout i₀ i = all (tieFits m) (drop 1 layout) ≡ all (tieFits m) (
 abbrev μ-loop : tie.MeasureT-loop
 μ-loop m layout i₀ i = length layout - i
 
--- src/lib.rt:50:5
 loop-holds : tie.Need-loop-holds Inv-loop μ-loop
 loop-holds c = search needs
 
--- src/lib.rt:51:23
 mul-is-tie : tie.Need-mul-is-tie Inv-loop μ-loop
 mul-is-tie c = search needs
 
--- src/lib.rt:51:23
 shared-slice-read-is-tie : tie.Need-shared-slice-read-is-tie Inv-loop μ-loop
 shared-slice-read-is-tie c = search needs
 
--- src/lib.rt:51:13
 is-tie-requires : tie.Need-is-tie-requires Inv-loop μ-loop
 is-tie-requires c κs = search needs
 
--- src/lib.rt:52:13
 returns : tie.Need-returns Inv-loop μ-loop
 returns c =
     let a = c .before .before .before .before .before .before .args in let l = c .before .before .before .before .loop in
     rw (l .inv) (stop _ (ties-at (a .m) (a .layout .now) (l .i) (c .before .before .before .loop-test .taken)) (sym (c .before .is-tie .ensures) ∙ not-true _ (c .if1 .taken)))
 
--- src/lib.rt:54:9
 add-i : tie.Need-add-i Inv-loop μ-loop
 add-i c = search needs
 
--- src/lib.rt:50:5
 loop-less : tie.Need-loop-less Inv-loop μ-loop
 loop-less c = search needs
 
--- src/lib.rt:50:5
 loop-again : tie.Need-loop-again Inv-loop μ-loop
 loop-again c =
     let a = c .before .before .before .before .before .before .args in let l = c .before .before .before .before .loop in
     l .inv ∙ go _ (ties-at (a .m) (a .layout .now) (l .i) (c .before .before .before .loop-test .taken)) (sym (c .before .is-tie .ensures) ∙ not-false _ (c .if1 .left))
 
--- src/lib.rt:46:1
 returns-2 : tie.Need-returns-2 Inv-loop μ-loop
 returns-2 c =
     let a = c .before .before .before .args in let l = c .before .loop in

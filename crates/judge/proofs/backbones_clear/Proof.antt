@@ -1,24 +1,12 @@
 use Rattle.rules.proofs.Kept.{rule-five}
-use mathlib.Core.Path.{_≡_, refl, ap, sym, _∙_}
-use mathlib.Core.List.{List, [], _∷_, _++_}
-use mathlib.Core.Logic.{⊎-elim}
-use Prim.Native.Nat.{ℕ, zero, suc, _+_, _-_, _*_, _<_, _≤_}
-use native.Mathlib.Omega.{arith}
-use native.Mathlib.Numerals.{add-one}
-use lib.ListN.{length, getD, take, drop, set, length-set}
-use borrow.Author.Tests.{eq-eqb, ne-eqb, lt-ltb, le-ltb, le-leb, lt-leb}
+use mathlib.Core.Path.{_∙_}
 use borrow.Author.Needs.{needs}
 use Rattle.judge.proofs.backbones_clear.Statement.{statement}
 use Rattle.judge.proofs.backbones_clear.Tie as tie
-use Rattle.judge.proofs.backbones_clear.Reads as reads
-use Rattle.judge.proofs.backbones_clear.Lts as lts
-use Rattle.rules.proofs.pairs_pass.Reads as pairs-pass-reads
 
--- src/lib.rt:109:5
 pairs-pass-requires : tie.Need-pairs-pass-requires
 pairs-pass-requires c κs = search needs
 
--- src/lib.rt:105:1
 returns : tie.Need-returns
 returns c =
     let a = c .before .before .before .args in let p = c .before .before .before .pre in

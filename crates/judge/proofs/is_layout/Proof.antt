@@ -1,78 +1,55 @@
 use mathlib.Core.Bool.{_&&_}
-use mathlib.Core.Path.{ap₂}
+use mathlib.Core.Path.{ap₂, _≡_, refl, ap, sym, _∙_}
 use lib.Dec.{eqb}
-use Rattle.sheet.specs.Sheet.{kindOf, slotsIn, sitesIn, bodyOf, sheetIn, all}
+use Rattle.sheet.specs.Sheet.{slotsIn, sitesIn, bodyOf, sheetIn, all}
 use Rattle.sheet.proofs.Counts.{slots-count, sites-count}
 use Rattle.labelling.specs.Layout.{wordsFor, layoutBody}
 use Rattle.judge.specs.Judge.{tieFits}
 use Rattle.judge.proofs.Parts.{one-more}
-use mathlib.Core.Path.{_≡_, refl, ap, sym, _∙_}
-use mathlib.Core.List.{List, [], _∷_, _++_}
-use mathlib.Core.Logic.{⊎-elim}
-use Prim.Native.Nat.{ℕ, zero, suc, _+_, _-_, _*_, _<_, _≤_}
+use mathlib.Core.List.{List}
+use Prim.Native.Nat.{ℕ, _-_}
 use native.Mathlib.Omega.{arith}
-use native.Mathlib.Numerals.{add-one}
-use lib.ListN.{length, getD, take, drop, set, length-set}
-use borrow.Author.Tests.{eq-eqb, ne-eqb, lt-ltb, le-ltb, le-leb, lt-leb}
+use lib.ListN.{length}
+use borrow.Author.Tests.{ne-eqb}
 use borrow.Author.Needs.{needs}
 use Rattle.judge.proofs.is_layout.Statement.{statement}
 use Rattle.judge.proofs.is_layout.Tie as tie
-use Rattle.judge.proofs.is_layout.Reads as reads
-use Rattle.judge.proofs.is_layout.Lts as lts
-use Rattle.judge.proofs.are_ties.Reads as are-ties-reads
-use Rattle.refusals.proofs.body_of.Reads as body-of-reads
-use Rattle.refusals.proofs.count_kind.Reads as count-kind-reads
-use Rattle.words.proofs.both.Reads as both-reads
-use Rattle.words.proofs.kind_of.Reads as kind-of-reads
-use Rattle.words.proofs.same.Reads as same-reads
 
--- src/lib.rt:64:9
 returns : tie.Need-returns
 returns c =
     let a = c .before .before .before .args in
     rw (ne-eqb (length (a .layout .now)) (wordsFor (sheetIn (a .sheet .now))) (λ e. omega (arith, c .if1 .taken))) refl
 
--- src/lib.rt:66:9
 body-of-requires : tie.Need-body-of-requires
 body-of-requires c κs = search needs
 
--- src/lib.rt:67:16
 sub-long : tie.Need-sub-long
 sub-long c = search needs
 
--- src/lib.rt:67:36
 count-kind-requires : tie.Need-count-kind-requires
 count-kind-requires c κs = search needs
 
--- src/lib.rt:68:9
 count-kind-requires-2 : tie.Need-count-kind-requires-2
 count-kind-requires-2 c κs = search needs
 
--- src/lib.rt:69:34
 shared-slice-read-kind-of : tie.Need-shared-slice-read-kind-of
 shared-slice-read-kind-of c = search needs
 
--- src/lib.rt:69:26
 kind-of-requires : tie.Need-kind-of-requires
 kind-of-requires c κs = search needs
 
--- src/lib.rt:69:21
 same-requires : tie.Need-same-requires
 same-requires c κs = search needs
 
--- src/lib.rt:69:10
 both-requires : tie.Need-both-requires
 both-requires c κs = search needs
 
--- src/lib.rt:69:51
 are-ties-requires : tie.Need-are-ties-requires
 are-ties-requires c κs = search needs
 
--- src/lib.rt:69:5
 both-requires-2 : tie.Need-both-requires-2
 both-requires-2 c κs = search needs
 
--- src/lib.rt:60:1
 returns-2 : tie.Need-returns-2
 returns-2 c =
     let a = c .before .before .before .before .before .before .before .before .before .before .before .before .args in
