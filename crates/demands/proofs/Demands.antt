@@ -1,26 +1,23 @@
 -- The three demands, proved from the promises about the definitions. Assumes nothing.
-use mathlib.Core.Path.{_≡_, refl, sym, ap, _∙_, subst}
-use mathlib.Core.Logic.{_⊎_, inl, inr, _↔_}
+use mathlib.Core.Path.{_≡_, sym, ap, _∙_}
+use mathlib.Core.Logic.{_⊎_, inl, inr}
 use mathlib.Core.Bool.{Bool, true, false, cond}
-use mathlib.Core.List.{List, [], _++_}
-use Prim.Native.Nat.{ℕ, _+_, _≤_, _<_}
+use mathlib.Core.List.{List}
+use Prim.Native.Nat.{ℕ, _≤_, _<_}
 use native.Mathlib.Omega.{arith}
 use lib.Dec.{eqb}
-use lib.ListN.{length, take, drop}
+use lib.ListN.{take, drop}
 use lib.Seq.{drop-at}
-use borrow.Author.Tests.{eqb-true, eqb-false, ne-eqb, eq-eqb}
-use Rattle.lists.proofs.Tests.{by-test, by-equal}
-use Rattle.sheet.specs.Sheet.{sheetIn, sheetFault, workFor}
+use borrow.Author.Tests.{ne-eqb, eq-eqb}
+use Rattle.sheet.specs.Sheet.{sheetIn, sheetFault}
 use Rattle.labelling.specs.Layout.{wordsFor, best, answerOf, judgeFault, judged}
-use Rattle.labelling.specs.Lawful.{Lawful, LeastBroken}
-use Rattle.labelling.specs.Entry.{isNone, makeFault, makeAnswer, makeWork}
-use Rattle.labelling.specs.Promise.{areWords, same, isBeaten}
+use Rattle.labelling.specs.Entry.{isNone, makeFault, makeAnswer}
 use Rattle.labelling.proofs.Maker.{Result, Serves, Outcome, outcome, fault-is, length-answer, fault-seven, refused-sheet, refused-work, refused-out}
 use Rattle.labelling.proofs.Kept.{areas-kept, best-of-all, judged-so}
 use Rattle.reader.specs.declared.Sizes.{Sizes}
-use Rattle.reader.proofs.Reading.{Reading, reading, refusal-is}
+use Rattle.reader.proofs.Reading.{reading, refusal-is}
 use Rattle.judge.specs.declared.Verdict.{Verdict}
-use Rattle.demands.specs.Demands.{WasRead, WasMade, WasJudged, wiped, Sized, Served, DemandOne, DemandTwo, DemandThree}
+use Rattle.demands.specs.Demands.{WasRead, WasMade, wiped, Sized, Served, DemandOne, DemandTwo, DemandThree}
 
 -- ---- demand 1
 

@@ -1,24 +1,21 @@
 -- What is laid out from the arrays of an accepted one-sided sheet is what the maker is to answer and leave. Assumes nothing.
 use mathlib.Core.Path.{_≡_, refl, sym, ap, ap₂, _∙_}
-use mathlib.Core.Bool.{Bool, true, false, cond}
+use mathlib.Core.Bool.{true, false}
 use mathlib.Core.List.{List, [], _∷_, _++_}
-use Prim.Native.Nat.{ℕ, zero, suc, _+_, _-_, _*_, _≤_, _<_}
+use Prim.Native.Nat.{ℕ, suc, _+_, _-_, _*_}
 use native.Mathlib.Omega.{arith}
 use lib.Dec.{ltb}
-use lib.ListN.{length, getD, set, drop, replicate}
+use lib.ListN.{length, set, drop, replicate}
 use borrow.Author.Tests.{lt-ltb, le-ltb}
 use Rattle.lists.proofs.Tests.{by-order}
-use Rattle.sheet.specs.Sheet.{Sheet, sheetIn, sheetFault, productOf, workFor}
-use Rattle.sheet.proofs.Accepted.{Sound, sound, sites-coloured}
+use Rattle.sheet.specs.Sheet.{Sheet, sheetIn, productOf, workFor}
+use Rattle.sheet.proofs.Accepted.{sound, sites-coloured}
 use Rattle.labelling.specs.Entry.{makeFault, makeWork, makeAnswer}
 use Rattle.labelling.specs.Promise.{takesSheet}
-use Rattle.labelling.proofs.Maker.{Result, cleared}
-use Rattle.search.specs.Walk.{walkBy}
-use Rattle.optimum.specs.Strips.{Point, Instance, labels, value}
-use Rattle.optimum.specs.Cells.{cells}
+use Rattle.labelling.proofs.Maker.{cleared}
 use Rattle.optimum.specs.OneSided.{topWord, instanceOf, order, pointsAt, writeTies}
 use Rattle.optimum.specs.CostWord.{countIn, lengthIn}
-use Rattle.optimum.proofs.Order.{Ordered, ordered}
+use Rattle.optimum.proofs.Order.{ordered}
 use Rattle.optimum.proofs.OneSidedAnswer.{firstCell, slotsWalked, cell-value, slots-walked, work-cells, call-unmade}
 use Rattle.optimum.proofs.Write.{call-written}
 use Rattle.arrays.specs.declared.Measures.{Measures}
@@ -26,7 +23,7 @@ use Rattle.arrays.specs.Arrays.{measuresOf, boundsOf, drawsList, xsOf, ysOf, co
 use Rattle.arrays.proofs.Instances.{instance-by, points-by}
 use Rattle.optimum.specs.Budgets.{radicesOf}
 use Rattle.rest.specs.Rest.{levelSize}
-use Rattle.onesided.specs.Laid.{leastCost, emptySheet, headWord, laidFault, written, laidOut, wiped}
+use Rattle.onesided.specs.Laid.{leastCost, headWord, laidFault, written, laidOut, wiped}
 
 points-long : (s : Sheet) (is : List ℕ) → length (pointsAt s is) ≡ length is
 unfolding pointsAt

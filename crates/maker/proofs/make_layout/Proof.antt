@@ -1,121 +1,95 @@
 use Rattle.maker.proofs.Calls.{refused, short, narrow, takes, sizes, two-sided, one-sided}
-use mathlib.Core.Path.{_≡_, refl, ap, sym, _∙_}
-use mathlib.Core.List.{List, [], _∷_, _++_}
-use mathlib.Core.Logic.{⊎-elim}
-use Prim.Native.Nat.{ℕ, zero, suc, _+_, _-_, _*_, _<_, _≤_}
+use mathlib.Core.Path.{_≡_}
+use Prim.Native.Nat.{_-_}
 use native.Mathlib.Omega.{arith}
-use native.Mathlib.Numerals.{add-one}
-use lib.ListN.{length, getD, take, drop, set, length-set}
-use borrow.Author.Tests.{eq-eqb, ne-eqb, lt-ltb, le-ltb, le-leb, lt-leb}
 use borrow.Author.Needs.{needs}
 use Rattle.maker.proofs.make_layout.Statement.{statement}
 use Rattle.maker.proofs.make_layout.Tie as tie
-use Rattle.maker.proofs.make_layout.Reads as reads
-use Rattle.maker.proofs.make_layout.Lts as lts
-use Rattle.onesided.proofs.lay_one_sided.Reads as lay-one-sided-reads
-use Rattle.reader.proofs.read_sheet.Reads as read-sheet-reads
-use Rattle.twosided.proofs.lay_two_sided.Reads as lay-two-sided-reads
-use Rattle.words.proofs.get.Reads as get-reads
-use Rattle.words.proofs.side_bit.Reads as side-bit-reads
 
--- src/lib.rt:11:9
 read-sheet-requires : tie.Need-read-sheet-requires
 read-sheet-requires c κs = search needs
 
--- src/lib.rt:14:9
 returns : tie.Need-returns
 returns c =
     let a = c .before .before .before .before .before .args in
     refused (a .sheet .now) (a .work .now) (a .out .now) (c .before .read-sheet .result) (c .before .read-sheet .ensures) (λ (z : c .before .read-sheet .result .refusal ≡ 0). omega (arith, z, c .if1 .taken))
 
--- src/lib.rt:16:22
 cast-if2 : tie.Need-cast-if2
 cast-if2 c = search needs
 
--- src/lib.rt:17:9
 returns-2 : tie.Need-returns-2
 returns-2 c =
     let a = c .before .before .before .before .before .before .before .args in
     let r = c .before .before .before .read-sheet in
     short (a .sheet .now) (a .work .now) (a .out .now) (r .result) (r .ensures) (omega (arith, c .before .before .if1 .left)) (omega (arith, c .if2 .taken))
 
--- src/lib.rt:19:17
 cast-sites : tie.Need-cast-sites
 cast-sites c = search needs
 
--- src/lib.rt:20:20
 add-if3 : tie.Need-add-if3
 add-if3 c = search needs
 
--- src/lib.rt:21:9
 returns-3 : tie.Need-returns-3
 returns-3 c =
     let a = c .before .before .before .before .before .before .before .before .before .args in
     let r = c .before .before .before .before .before .read-sheet in
     narrow (a .sheet .now) (a .work .now) (a .out .now) (r .result) (r .ensures) (omega (arith, c .before .before .before .before .if1 .left)) (omega (arith, c .before .before .if2 .left)) (omega (arith, c .if3 .taken))
 
--- src/lib.rt:23:17
 cast-slots : tie.Need-cast-slots
 cast-slots c = search needs
 
--- src/lib.rt:24:19
 cast-colours : tie.Need-cast-colours
 cast-colours c = search needs
 
--- src/lib.rt:25:19
 cast-budgets : tie.Need-cast-budgets
 cast-budgets c = search needs
 
--- src/lib.rt:26:24
 get-requires : tie.Need-get-requires
 get-requires c κs = search needs
 
--- src/lib.rt:26:8
 side-bit-requires : tie.Need-side-bit-requires
 side-bit-requires c κs = search needs
 
--- src/lib.rt:27:9
 lay-two-sided-requires : tie.Need-lay-two-sided-requires
 lay-two-sided-requires c κs =
     let a = c .before .before .before .before .before .before .before .before .before .before .before .before .before .before .before .before .before .args in
     let r = c .before .before .before .before .before .before .before .before .before .before .before .before .before .read-sheet in
-    let z : r .result .refusal ≡ 0 = omega (arith, c .before .before .before .before .before .before .before .before .before .before .before .before .if1 .left) in
-    (takes (a .sheet .now) (a .work .now) (a .out .now) (r .result) (r .ensures) (λ i. omega (arith, c .before .before .before .before .before .before .before .before .before .before .before .before .before .before .before .before .shared-slice-known .given i)) z (omega (arith, c .before .before .before .before .before .before .before .before .before .before .if2 .left)) (omega (arith, c .before .before .before .before .before .before .before .before .if3 .left)),
-    (two-sided (a .sheet .now) _ _ (c .before .before .before .before .get .ensures) (c .before .before .before .side-bit .ensures) (omega (arith, c .before .before .if4 .taken)),
-    sizes (a .sheet .now) (a .work .now) (a .out .now) (r .result) (r .ensures) z))
+    let z : r .result .refusal ≡ 0 = omega (arith, c .before .before .before .before .before .before .before .before .before .before .before .before .if1 .left) in (
+      takes (a .sheet .now) (a .work .now) (a .out .now) (r .result) (r .ensures) (λ i. omega (arith, c .before .before .before .before .before .before .before .before .before .before .before .before .before .before .before .before .shared-slice-known .given i)) z (omega (arith, c .before .before .before .before .before .before .before .before .before .before .if2 .left)) (omega (arith, c .before .before .before .before .before .before .before .before .if3 .left)),
+      (
+        two-sided (a .sheet .now) _ _ (c .before .before .before .before .get .ensures) (c .before .before .before .side-bit .ensures) (omega (arith, c .before .before .if4 .taken)),
+        sizes (a .sheet .now) (a .work .now) (a .out .now) (r .result) (r .ensures) z,
+      ),
+    )
 
--- src/lib.rt:27:9
 same-length : tie.Need-same-length
 same-length c = search needs
 
--- src/lib.rt:27:9
 same-length-2 : tie.Need-same-length-2
 same-length-2 c = search needs
 
--- src/lib.rt:27:9
 returns-4 : tie.Need-returns-4
 returns-4 c =
     let f = c .before .before .before .before .lay-two-sided .ensures in (f .0, (f .1 .0, f .1 .1))
 
--- src/lib.rt:29:5
 lay-one-sided-requires : tie.Need-lay-one-sided-requires
 lay-one-sided-requires c κs =
     let a = c .before .before .before .before .before .before .before .before .before .before .before .before .before .before .before .before .before .args in
     let r = c .before .before .before .before .before .before .before .before .before .before .before .before .before .read-sheet in
-    let z : r .result .refusal ≡ 0 = omega (arith, c .before .before .before .before .before .before .before .before .before .before .before .before .if1 .left) in
-    (takes (a .sheet .now) (a .work .now) (a .out .now) (r .result) (r .ensures) (λ i. omega (arith, c .before .before .before .before .before .before .before .before .before .before .before .before .before .before .before .before .shared-slice-known .given i)) z (omega (arith, c .before .before .before .before .before .before .before .before .before .before .if2 .left)) (omega (arith, c .before .before .before .before .before .before .before .before .if3 .left)),
-    (one-sided (a .sheet .now) _ _ (c .before .before .before .before .get .ensures) (c .before .before .before .side-bit .ensures) (λ (y : c .before .before .before .side-bit .result ≡ 1). omega (arith, y, c .before .before .if4 .left)),
-    sizes (a .sheet .now) (a .work .now) (a .out .now) (r .result) (r .ensures) z))
+    let z : r .result .refusal ≡ 0 = omega (arith, c .before .before .before .before .before .before .before .before .before .before .before .before .if1 .left) in (
+      takes (a .sheet .now) (a .work .now) (a .out .now) (r .result) (r .ensures) (λ i. omega (arith, c .before .before .before .before .before .before .before .before .before .before .before .before .before .before .before .before .shared-slice-known .given i)) z (omega (arith, c .before .before .before .before .before .before .before .before .before .before .if2 .left)) (omega (arith, c .before .before .before .before .before .before .before .before .if3 .left)),
+      (
+        one-sided (a .sheet .now) _ _ (c .before .before .before .before .get .ensures) (c .before .before .before .side-bit .ensures) (λ (y : c .before .before .before .side-bit .result ≡ 1). omega (arith, y, c .before .before .if4 .left)),
+        sizes (a .sheet .now) (a .work .now) (a .out .now) (r .result) (r .ensures) z,
+      ),
+    )
 
--- src/lib.rt:6:1
 same-length-3 : tie.Need-same-length-3
 same-length-3 c = search needs
 
--- src/lib.rt:6:1
 same-length-4 : tie.Need-same-length-4
 same-length-4 c = search needs
 
--- src/lib.rt:6:1
 returns-5 : tie.Need-returns-5
 returns-5 c =
     let f = c .before .before .before .before .lay-one-sided .ensures in (f .0, (f .1 .0, f .1 .1))

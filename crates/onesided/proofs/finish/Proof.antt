@@ -1,100 +1,74 @@
 use Rattle.optimum.specs.OneSided.{topWord}
 use Rattle.onesided.proofs.Finished.{need-low, first-level, least-is, none-laid, one-laid, wiped-is}
-use mathlib.Core.Path.{_≡_, refl, ap, sym, _∙_}
-use mathlib.Core.List.{List, [], _∷_, _++_}
-use mathlib.Core.Logic.{⊎-elim}
-use Prim.Native.Nat.{ℕ, zero, suc, _+_, _-_, _*_, _<_, _≤_}
+use mathlib.Core.Path.{_∙_}
+use Prim.Native.Nat.{_-_, _<_}
 use native.Mathlib.Omega.{arith}
-use native.Mathlib.Numerals.{add-one}
-use lib.ListN.{length, getD, take, drop, set, length-set}
-use borrow.Author.Tests.{eq-eqb, ne-eqb, lt-ltb, le-ltb, le-leb, lt-leb}
 use borrow.Author.Needs.{needs}
 use Rattle.onesided.proofs.finish.Statement.{statement}
 use Rattle.onesided.proofs.finish.Tie as tie
-use Rattle.onesided.proofs.finish.Reads as reads
-use Rattle.onesided.proofs.finish.Lts as lts
-use Rattle.onesided.proofs.clear.Reads as clear-reads
-use Rattle.onesided.proofs.write_layout.Reads as write-layout-reads
-use Rattle.rest.proofs.level_size.Reads as level-size-reads
-use Rattle.rest.proofs.rest_of.Reads as rest-of-reads
 
--- src/lib.rt:54:13
 sub-v : tie.Need-sub-v
 sub-v c =
     omega (arith, c .before .before .before .before .before .before .before .before .before .before .before .before .before .before .pre .someBudget)
 
--- src/lib.rt:55:9
 rest-of-requires : tie.Need-rest-of-requires
 rest-of-requires c κs =
     let a = c .before .before .before .before .before .before .before .before .before .before .before .before .before .before .before .before .args in let p = c .before .before .before .before .before .before .before .before .before .before .before .before .before .before .before .before .pre in
     (first-level (a .q) (a .heights .now) (a .bounds .now) (a .radices .now) (a .draws .now) (a .parts .now) (a .counts .now) (a .work .now) (a .xs .now) (a .ys .now) (a .colours .now) (a .order .now) (a .labels .now) (a .out .now) p, omega (arith, p .someBudget))
 
--- src/lib.rt:56:9
 level-size-requires : tie.Need-level-size-requires
 level-size-requires c κs =
     let p = c .before .before .before .before .before .before .before .before .before .before .before .before .before .before .before .before .before .pre .arrays in
     (p .sheet .fewSlots, p .sheet .fewColours, p .splits .within .few)
 
--- src/lib.rt:57:17
 add-need : tie.Need-add-need
 add-need c =
     omega (arith, c .before .before .before .before .before .before .before .before .before .before .before .before .before .before .before .before .before .before .pre .arrays .fewSites)
 
--- src/lib.rt:57:16
 mul-need : tie.Need-mul-need
 mul-need c =
     let a = c .before .before .before .before .before .before .before .before .before .before .before .before .before .before .before .before .before .before .args in
     rw (c .level-size .ensures) (omega (arith, need-low (a .q) (a .heights .now) (a .bounds .now) (a .radices .now) (a .draws .now) (a .parts .now) (a .counts .now) (a .work .now) (a .xs .now) (a .ys .now) (a .colours .now) (a .order .now) (a .labels .now) (a .out .now) (c .before .before .before .before .before .before .before .before .before .before .before .before .before .before .before .before .before .before .pre)))
 
--- src/lib.rt:59:9
 clear-requires : tie.Need-clear-requires
 clear-requires c κs =
     rw (c .before .before .level-size .ensures) (c .before .before .before .before .before .before .before .before .before .before .before .before .before .before .before .before .before .before .before .before .pre .arrays .whole)
 
--- src/lib.rt:60:9
 same-length : tie.Need-same-length
 same-length c =
     search needs
 
--- src/lib.rt:60:9
 same-length-2 : tie.Need-same-length-2
 same-length-2 c =
     search needs
 
--- src/lib.rt:60:9
 returns : tie.Need-returns
 returns c =
     let a = c .before .before .before .before .before .before .before .before .before .before .before .before .before .before .before .before .before .before .before .before .before .before .before .args in let f = c .before .before .before .before .before .before .before .before .before .before .before .before .before .before .before .before .before .before .before .before .before .before .before .pre in
     let n = none-laid (a .q) (a .heights .now) (a .bounds .now) (a .radices .now) (a .draws .now) (a .parts .now) (a .counts .now) (a .work .now) (a .xs .now) (a .ys .now) (a .colours .now) (a .order .now) (a .labels .now) (a .out .now) f _ (c .before .before .before .before .before .before .rest-of .ensures ∙ least-is (a .q) (a .heights .now) (a .bounds .now) (a .radices .now) (a .draws .now) (a .parts .now) (a .counts .now) (a .work .now) (a .xs .now) (a .ys .now) (a .colours .now) (a .order .now) (a .labels .now) (a .out .now) f) (c .before .before .before .before .if1 .taken) in
     (n .0, (c .before .before .clear .ensures ∙ wiped-is (a .q) (a .heights .now) (a .bounds .now) (a .radices .now) (a .draws .now) (a .parts .now) (a .counts .now) (a .work .now) (a .xs .now) (a .ys .now) (a .colours .now) (a .order .now) (a .labels .now) (a .out .now) f _ _ (c .before .before .before .before .before .level-size .ensures), n .1))
 
--- src/lib.rt:62:5
 write-layout-requires : tie.Need-write-layout-requires
 write-layout-requires c κs =
     let a = c .before .before .before .before .before .before .before .before .before .before .before .before .before .before .before .before .before .before .before .before .before .before .args in let f = c .before .before .before .before .before .before .before .before .before .before .before .before .before .before .before .before .before .before .before .before .before .before .pre in
     (f, (c .before .before .before .before .before .rest-of .ensures ∙ least-is (a .q) (a .heights .now) (a .bounds .now) (a .radices .now) (a .draws .now) (a .parts .now) (a .counts .now) (a .work .now) (a .xs .now) (a .ys .now) (a .colours .now) (a .order .now) (a .labels .now) (a .out .now) f, omega (arith, c .before .before .before .if1 .left, c .before .before .before .before .before .rest-of .ok)))
 
--- src/lib.rt:63:5
 clear-requires-2 : tie.Need-clear-requires-2
 clear-requires-2 c κs =
     rw (c .before .before .before .before .before .before .before .before .before .before .level-size .ensures) (c .before .before .before .before .before .before .before .before .before .before .before .before .before .before .before .before .before .before .before .before .before .before .before .before .before .before .before .before .pre .arrays .whole)
 
--- src/lib.rt:48:1
 same-length-3 : tie.Need-same-length-3
 same-length-3 c =
     c .before .before .before .before .before .before .before .before .write-layout .kept .1 .1 .1 .1 .1 .1 .1 .1 .1 .1 .1 .0
 
--- src/lib.rt:48:1
 same-length-4 : tie.Need-same-length-4
 same-length-4 c =
     c .before .before .clear2 .kept .0
 
--- src/lib.rt:48:1
 same-length-5 : tie.Need-same-length-5
 same-length-5 c =
     c .before .before .before .before .before .before .before .before .write-layout .kept .1 .1 .1 .1 .1 .1 .1 .1 .1 .1 .1 .1 .1 .0
 
--- src/lib.rt:48:1
 returns-2 : tie.Need-returns-2
 returns-2 c =
     let a = c .before .before .before .before .before .before .before .before .before .before .before .before .before .before .before .before .before .before .before .before .before .before .before .before .before .before .before .before .before .before .before .args in let f = c .before .before .before .before .before .before .before .before .before .before .before .before .before .before .before .before .before .before .before .before .before .before .before .before .before .before .before .before .before .before .before .pre in

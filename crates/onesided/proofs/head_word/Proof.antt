@@ -1,47 +1,31 @@
-use mathlib.Core.Path.{_≡_, refl, ap, sym, _∙_}
-use mathlib.Core.List.{List, [], _∷_, _++_}
-use mathlib.Core.Logic.{⊎-elim}
-use Prim.Native.Nat.{ℕ, zero, suc, _+_, _-_, _*_, _<_, _≤_}
-use native.Mathlib.Omega.{arith}
-use native.Mathlib.Numerals.{add-one}
-use lib.ListN.{length, getD, take, drop, set, length-set}
-use borrow.Author.Tests.{eq-eqb, ne-eqb, lt-ltb, le-ltb, le-leb, lt-leb}
+use mathlib.Core.Path.{refl}
+use Prim.Native.Nat.{_-_}
 use borrow.Author.Needs.{needs}
 use Rattle.onesided.proofs.head_word.Statement.{statement}
 use Rattle.onesided.proofs.head_word.Tie as tie
-use Rattle.onesided.proofs.head_word.Reads as reads
-use Rattle.onesided.proofs.head_word.Lts as lts
 
--- src/lib.rt:31:29
 mul-result : tie.Need-mul-result
 mul-result c = search needs
 
--- src/lib.rt:31:16
 add-result : tie.Need-add-result
 add-result c = search needs
 
--- src/lib.rt:31:16
 add-result-2 : tie.Need-add-result-2
 add-result-2 c = search needs
 
--- src/lib.rt:31:9
 returns : tie.Need-returns
 returns c =
     rw (c .if1 .taken) refl
 
--- src/lib.rt:33:18
 mul-result-2 : tie.Need-mul-result-2
 mul-result-2 c = search needs
 
--- src/lib.rt:33:5
 add-result-3 : tie.Need-add-result-3
 add-result-3 c = search needs
 
--- src/lib.rt:33:5
 add-result-4 : tie.Need-add-result-4
 add-result-4 c = search needs
 
--- src/lib.rt:27:1
 returns-2 : tie.Need-returns-2
 returns-2 c =
     rw (c .if1 .left) refl

@@ -2,8 +2,8 @@ use mathlib.Core.Path.{_≡_}
 use Prim.Native.Nat.{_-_, _≤_}
 use lib.ListN.{length}
 use borrow.Author.Needs.{needs}
-use Rattle.try_judge.proofs.take_words.Statement.{statement}
-use Rattle.try_judge.proofs.take_words.Tie as tie
+use Rattle.cases.proofs.take_words.Statement.{statement}
+use Rattle.cases.proofs.take_words.Tie as tie
 
 abbrev Inv-loop : tie.InvT-loop
 Inv-loop text words₀ begun₀ i₀ words begun i = (length words ≡ length words₀) × (begun ≤ length words₀)

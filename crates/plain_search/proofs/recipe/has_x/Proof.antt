@@ -1,20 +1,19 @@
 use Prim.Native.Nat.{_-_, _≤_}
-use lib.ListN.{length}
 use borrow.Author.Needs.{needs}
-use Rattle.try_judge.proofs.place_of.Statement.{statement}
-use Rattle.try_judge.proofs.place_of.Tie as tie
+use Rattle.plain_search.proofs.recipe.has_x.Statement.{statement}
+use Rattle.plain_search.proofs.recipe.has_x.Tie as tie
 
 abbrev Inv-loop : tie.InvT-loop
-Inv-loop text from b i₀ i = (from ≤ i) × (i ≤ length text)
+Inv-loop sheet n place i₀ i = i ≤ n
 
 abbrev μ-loop : tie.MeasureT-loop
-μ-loop text from b i₀ i = length text - i
+μ-loop sheet n place i₀ i = n - i
 
 loop-holds : tie.Need-loop-holds Inv-loop μ-loop
 loop-holds c = search needs
 
-shared-slice-read-if1 : tie.Need-shared-slice-read-if1 Inv-loop μ-loop
-shared-slice-read-if1 c = search needs
+x-requires : tie.Need-x-requires Inv-loop μ-loop
+x-requires c κs = search needs
 
 returns : tie.Need-returns Inv-loop μ-loop
 returns c = search needs
@@ -31,16 +30,7 @@ loop-again c = search needs
 returns-2 : tie.Need-returns-2 Inv-loop μ-loop
 returns-2 c = search needs
 
-pub place-of-spec : {M : Type 1} → statement M
-place-of-spec =
+pub has-x-spec : {M : Type 1} → statement M
+has-x-spec =
     tie.close
-    (tie.spec
-    Inv-loop
-    μ-loop
-    loop-holds
-    shared-slice-read-if1
-    returns
-    add-i
-    loop-less
-    loop-again
-    returns-2)
+    (tie.spec Inv-loop μ-loop loop-holds x-requires returns add-i loop-less loop-again returns-2)
