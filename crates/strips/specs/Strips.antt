@@ -2,7 +2,7 @@
 use mathlib.Core.Path.{_≡_}
 use mathlib.Core.Bool.{Bool, true, false, cond, not, _&&_, _||_}
 use mathlib.Core.List.{List, [], _∷_}
-use Prim.Native.Nat.{ℕ, zero, suc, _+_, _*_, _-_, _<_}
+use Prim.Native.Nat.{ℕ, zero, suc, _+_, _*_, _-_, _<_, _≤_}
 use lib.Dec.{eqb, leb, ltb}
 use lib.ListN.{length, getD}
 use Rattle.labelling.specs.Layout.{apart}
@@ -11,6 +11,7 @@ use Rattle.arrays.specs.declared.Measures.{Measures}
 use Rattle.arrays.specs.Arrays.{instanceBy}
 use Rattle.strips.specs.declared.Strip as held
 use Rattle.strips.specs.declared.Site as tied
+use Rattle.strips.specs.declared.Window.{Window}
 
 -- the strip and the site of the model; a strip carries no mark yet
 abbrev pub stripOf : held.Strip → Strip
@@ -41,6 +42,27 @@ gapLeft P p s k = farFrom P (p .a) (p .ca) k (suc (s .c)) && farFrom P (p .b) (p
 
 unfoldable pub siteOpens : Instance → Strip → Point → Bool
 siteOpens P p s = clearFrom P (p .a) (s .y) && clearFrom P (p .b) (s .y) && P .may s 0
+
+-- of the slots between the strip's ends, from its upper end on: the first that this end lets open a label
+pub record FirstFar (P : Instance) (p : Strip) (s : Point) (first : ℕ) : Type 0 where
+  pub low : p .a ≤ first
+  pub high : p .a < first → first < p .b
+  pub near : (k : ℕ) → p .a ≤ k → k < first → farFrom P (p .a) (p .ca) k (s .c + 1) ≡ false
+  pub far : first + 1 < p .b → farFrom P (p .a) (p .ca) first (s .c + 1) ≡ true
+
+-- of those, from `from` on: the end of the ones that the lower end lets open a label
+pub record FarEnd (P : Instance) (p : Strip) (s : Point) (from end : ℕ) : Type 0 where
+  pub low : from ≤ end
+  pub high : from < end → end < p .b
+  pub near : (k : ℕ) → end ≤ k → k + 1 < p .b → farFrom P (p .b) (p .cb) k (s .c + 1) ≡ false
+  pub far : from < end → farFrom P (p .b) (p .cb) (end - 1) (s .c + 1) ≡ true
+
+-- the slots between the strip's ends that leave the gap to both are those of the window; where it holds any, it lies between the ends
+pub record WindowOf (P : Instance) (p : Strip) (s : Point) (w : Window) : Type 0 where
+  pub low : p .a ≤ w .from
+  pub ordered : w .from ≤ w .to
+  pub high : w .from < w .to → w .to < p .b
+  pub leaves : (k : ℕ) → p .a ≤ k → k + 1 < p .b → gapLeft P p s k ≡ leb (w .from) k && ltb k (w .to)
 
 -- count and length in one word, by the aim; what a step costs that opens a label, and one that joins it
 abbrev pub wordBy : Measures → (count size : ℕ) → ℕ

@@ -7,7 +7,7 @@ ghost use lib.Dec.{ltb};
 ghost use lib.ListN.{length, getD};
 ghost use Rattle.labelling.specs.Layout.{apart};
 ghost use Rattle.optimum.specs.Strips as model;
-ghost use Rattle.strips.specs.Strips.{instanceOn, stripOf, pointOf, Measured, Small, gapLeft, siteOpens, wordBy, openCost, joinCost};
+ghost use Rattle.strips.specs.Strips.{instanceOn, stripOf, pointOf, Measured, Small, gapLeft, FirstFar, FarEnd, WindowOf, siteOpens, wordBy, openCost, joinCost};
 use arrays::Measures;
 use words::NONE;
 use words::at_most;
@@ -31,6 +31,12 @@ pub struct Site {
     pub x: u32,
     pub y: u32,
     pub c: u32,
+}
+
+// The slots from `from` up to, not with, `to`.
+pub struct Window {
+    pub from: u32,
+    pub to: u32,
 }
 
 // A site's share of the length, by the height of its slot and its own.
@@ -114,6 +120,50 @@ pub fn leaves_gap(q: Measures, heights: &[u32], bounds: &[u32], p: Strip, s: Sit
         is_far(q, heights, bounds, p.a, p.ca, k, c),
         is_far(q, heights, bounds, p.b, p.cb, k, c),
     )
+}
+
+// The first slot between the strip's ends that the upper end lets open a label.
+fn first_far(q: Measures, heights: &[u32], bounds: &[u32], p: Strip, s: Site) -> u32
+    requires { ⌜ s .c < 8 ⌝ }
+    ensures { λ r. ⌜ FirstFar (instanceOn q (now (heights .entry)) (now (bounds .entry))) (stripOf p) (pointOf s) r ⌝ }
+{
+    let c = s.c + 1;
+    let end = monus(p.b, 1);
+    let mut k = p.a;
+    while k < end {
+        if is_far(q, heights, bounds, p.a, p.ca, k, c) {
+            return k;
+        }
+        k += 1;
+    }
+    k
+}
+
+// The end of the slots from `from` on that the lower end lets open a label.
+fn far_end(q: Measures, heights: &[u32], bounds: &[u32], p: Strip, s: Site, from: u32) -> u32
+    requires { ⌜ s .c < 8 ⌝ }
+    ensures { λ r. ⌜ FarEnd (instanceOn q (now (heights .entry)) (now (bounds .entry))) (stripOf p) (pointOf s) from r ⌝ }
+{
+    let c = s.c + 1;
+    let mut k = monus(p.b, 1);
+    while from < k {
+        if is_far(q, heights, bounds, p.b, p.cb, k - 1, c) {
+            return k;
+        }
+        k -= 1;
+    }
+    from
+}
+
+// The slots between the strip's ends that both ends let open a label: few steps where the gap spans few slots.
+pub fn open_window(q: Measures, heights: &[u32], bounds: &[u32], p: Strip, s: Site) -> Window
+    requires { ⌜ ((j k : ℕ) → j < k → k < length (now heights) → getD (now heights) j 0 < getD (now heights) k 0) ⌝ }
+    requires { ⌜ (p .b < length (now heights) + 2) × (s .c < 8) ⌝ }
+    ensures { λ r. ⌜ WindowOf (instanceOn q (now (heights .entry)) (now (bounds .entry))) (stripOf p) (pointOf s) r ⌝ }
+{
+    let from = first_far(q, heights, bounds, p, s);
+    let to = far_end(q, heights, bounds, p, s, from);
+    Window { from, to }
 }
 
 // Of what opening a label asks, that which does not turn on the slot.

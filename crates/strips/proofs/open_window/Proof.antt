@@ -1,0 +1,22 @@
+use Rattle.strips.specs.Strips.{stripOf, pointOf}
+use Rattle.strips.proofs.Windows.{window-of}
+use borrow.Author.Needs.{needs}
+use Rattle.strips.proofs.open_window.Statement.{statement}
+use Rattle.strips.proofs.open_window.Tie as tie
+
+-- src/lib.rt:164:9
+first-far-requires : tie.Need-first-far-requires
+first-far-requires c κs = search needs
+
+-- src/lib.rt:165:9
+far-end-requires : tie.Need-far-end-requires
+far-end-requires c κs = search needs
+
+-- src/lib.rt:159:1
+returns : tie.Need-returns
+returns c =
+    let a = c .before .before .before .before .args in
+    window-of (a .q) (a .heights .now) (a .bounds .now) (c .before .before .before .before .pre .0) (stripOf (a .p)) (pointOf (a .s)) _ (c .before .before .before .before .pre .1 .0) (c .before .first-far .ensures) (c .far-end .ensures)
+
+pub open-window-spec : {M : Type 1} → statement M
+open-window-spec = tie.close (tie.spec first-far-requires far-end-requires returns)
