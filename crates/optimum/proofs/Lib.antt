@@ -5,6 +5,7 @@ pub mod Pairs
 pub mod Steps
 pub mod Opened
 pub mod Budgets
+pub mod Full
 pub mod CostWord
 pub mod Pays
 pub mod Order
