@@ -24,28 +24,8 @@ use Rattle.strips.specs.Strips.{instanceOn, gapLeft, siteOpens, openCost, joinC
 use Rattle.strips.proofs.Decisions.{inside-on, opens-on, joins-up-on, joins-down-on, opens-split}
 use Rattle.budgets.specs.Budgets.{Within, Splits, shareBy, leftBy}
 use Rattle.budgets.proofs.Sharing.{share-by}
+use Rattle.entries.proofs.Joins.{opening, opens-of, shut, up-at, down-at, up-least, down-least}
 use Rattle.entries.specs.Rows.{rowOf, rowsOf, rowIn, Lies, openBy, upperPart, lowerPart, joinLeast, slotTerm, slotsLeast, insideEntry, entryBy, entryIn}
-
--- what opening asks, taken apart
-pub record Opening (q : Measures) (hs bs : List ℕ) (p : Strip) (s : Point) (k : ℕ) : Type 0 where
-  pub above : p .a < k + 1
-  pub under : k + 1 < p .b
-  pub slot : k < length hs
-  pub gap : gapLeft (instanceOn q hs bs) p s k ≡ true
-  pub site : siteOpens (instanceOn q hs bs) p s ≡ true
-
-pub opening : (q : Measures) (hs bs : List ℕ) (p : Strip) (s : Point) (k : ℕ) → opens (instanceOn q hs bs) p s k ≡ true → Opening q hs bs p s k
-opening q hs bs p s k e =
-    let w = and-both _ _ (sym (opens-split q hs bs p s k) ∙ e) in
-    let b = and-both _ _ (w .0) in
-    let c = and-both _ _ (b .0) in
-    let g = and-both _ _ (w .1) in
-    record { above = ltb-true _ _ (c .0); under = ltb-true _ _ (c .1); slot = ltb-true _ _ (b .1); gap = g .0; site = g .1 }
-
-pub opens-of : (q : Measures) (hs bs : List ℕ) (p : Strip) (s : Point) (k : ℕ) → Opening q hs bs p s k → opens (instanceOn q hs bs) p s k ≡ true
-opens-of q hs bs p s k o =
-    opens-split q hs bs p s k
-    ∙ and-of _ _ (and-of _ _ (and-of _ _ (lt-ltb _ _ (o .above)) (lt-ltb _ _ (o .under))) (lt-ltb _ _ (o .slot))) (and-of _ _ (o .gap) (o .site))
 
 -- the place of a cell, by its row
 pub cell-row : (P : Instance) (C R : ℕ) (p : Strip) (v : ℕ) → P .kinds ≡ 1 → p .d ≡ 0 → cellOf P C R p v ≡ rowOf (P .m) C p * R + v
@@ -114,33 +94,7 @@ module _ (q : Measures) (hs bs rs ds work parts counts left : List ℕ) (low : �
   unfolding stepCell
   step-none k o j = rw (opens-on q hs bs rs ds p s k, joins-up-on q hs bs rs ds p s k, joins-down-on q hs bs rs ds p s k, o, j)
 
-  -- a label cannot be opened where one is joined
-  shut : (k : ℕ) → (p .a ≡ suc k) ⊎ (p .b ≡ suc k) → opens (instanceOn q hs bs) p s k ≡ false
-  shut k e = by-test (opens (instanceOn q hs bs) p s k) (λ o. let g = opening q hs bs p s k o in by-either e (λ x. absurd (omega (arith, g .above))) (λ x. absurd (omega (arith, g .under)))) (λ o. o)
-
-  up-at : (k : ℕ) → joinsUp (instanceOn q hs bs) p s k ≡ true → p .a ≡ suc k
-  unfolding joinsUp
-  up-at k j = eqb-true _ _ (and-both _ _ (and-both _ _ (and-both _ _ j .0) .0) .0)
-
-  down-at : (k : ℕ) → joinsDown (instanceOn q hs bs) p s k ≡ true → (p .b ≡ suc k) × (k < length hs)
-  unfolding joinsDown
-  down-at k j = let w = and-both _ _ (and-both _ _ (and-both _ _ j .0) .0) in (eqb-true _ _ (w .0), ltb-true _ _ (w .1))
-
   -- ---- no step costs less than what is worked out
-
-  up-least : (k : ℕ) → k < length hs → joinsUp (instanceOn q hs bs) p s k ≡ true → joinLeast q hs bs p s ≤ joinCost q hs s k
-  unfolding joinLeast
-  up-least k h j =
-      let a = up-at k j in
-      let e : p .a - 1 ≡ k = omega arith in
-      rw (e, lt-ltb k (length hs) h, j) (omega arith)
-
-  down-least : (k : ℕ) → joinsDown (instanceOn q hs bs) p s k ≡ true → joinLeast q hs bs p s ≤ joinCost q hs s k
-  unfolding joinLeast
-  down-least k j =
-      let a = down-at k j .0 in
-      let e : p .b - 1 ≡ k = omega arith in
-      rw (e, j) (omega arith)
 
   abbrev worked : ℕ
   worked = insideEntry q hs bs parts counts left row p s v
@@ -166,7 +120,7 @@ module _ (q : Measures) (hs bs rs ds work parts counts left : List ℕ) (low : �
       let l : slotsLeast q hs bs parts counts left row p s (p .b - 1 - p .a) v ≤ term (p .a + (k - p .a)) = least-le topWord (p .b - 1 - p .a) (λ i. term (p .a + i)) (k - p .a) (omega (arith, g .above, g .under)) in
       rw (step-open k o) (le-trans (worked-opens (g .site)) (rw e at l)))
       (λ o. by-test (joinsUp (instanceOn q hs bs) p s k || joinsDown (instanceOn q hs bs) p s k)
-      (λ j. rw (step-join k o j) (le-trans worked-joins (raised _ _ (row p v) (by-either (or-e _ _ j) (up-least k h) (down-least k)))))
+      (λ j. rw (step-join k o j) (le-trans worked-joins (raised _ _ (row p v) (by-either (or-e _ _ j) (up-least q hs bs p s k h) (down-least q hs bs p s k)))))
       (λ j. rw (step-none k o j) (le-trans worked-joins (plus-le topWord _ _))))
 
   -- ---- nor less than the least step
@@ -176,7 +130,7 @@ module _ (q : Measures) (hs bs rs ds work parts counts left : List ℕ) (low : �
 
   total-join : (k : ℕ) → k < length hs → (p .a ≡ suc k) ⊎ (p .b ≡ suc k) → joinsUp (instanceOn q hs bs) p s k || joinsDown (instanceOn q hs bs) p s k ≡ true
       → total ≤ plus topWord (joinCost q hs s k) (row p v)
-  total-join k h e j = rw (step-join k (shut k e) j) at (least-le topWord (length hs) step k h)
+  total-join k h e j = rw (step-join k (shut q hs bs p s k e) j) at (least-le topWord (length hs) step k h)
 
   -- the lesser of two sums
   two-sums : (t a b r : ℕ) → t ≤ plus topWord a r → t ≤ plus topWord b r → t ≤ plus topWord (min a b) r
@@ -197,13 +151,13 @@ module _ (q : Measures) (hs bs rs ds work parts counts left : List ℕ) (low : �
   total-up : total ≤ plus topWord (cond (ltb (p .a - 1) (length hs) && joinsUp (instanceOn q hs bs) p s (p .a - 1)) (joinCost q hs s (p .a - 1)) topWord) (row p v)
   total-up =
       by-test (ltb (p .a - 1) (length hs) && joinsUp (instanceOn q hs bs) p s (p .a - 1))
-      (λ e. let w = and-both _ _ e in rw e (total-join (p .a - 1) (ltb-true _ _ (w .0)) (inl (up-at (p .a - 1) (w .1))) (or-left _ _ (w .1))))
+      (λ e. let w = and-both _ _ e in rw e (total-join (p .a - 1) (ltb-true _ _ (w .0)) (inl (up-at q hs bs p s (p .a - 1) (w .1))) (or-left _ _ (w .1))))
       (λ e. rw e total-none)
 
   total-down : total ≤ plus topWord (cond (joinsDown (instanceOn q hs bs) p s (p .b - 1)) (joinCost q hs s (p .b - 1)) topWord) (row p v)
   total-down =
       by-test (joinsDown (instanceOn q hs bs) p s (p .b - 1))
-      (λ e. let w = down-at (p .b - 1) e in rw e (total-join (p .b - 1) (w .1) (inr (w .0)) (or-right (joinsUp (instanceOn q hs bs) p s (p .b - 1)) _ e)))
+      (λ e. let w = down-at q hs bs p s (p .b - 1) e in rw e (total-join (p .b - 1) (w .1) (inr (w .0)) (or-right (joinsUp (instanceOn q hs bs) p s (p .b - 1)) _ e)))
       (λ e. rw e total-none)
 
   total-joins : total ≤ plus topWord (joinLeast q hs bs p s) (row p v)

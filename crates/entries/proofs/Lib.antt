@@ -2,4 +2,5 @@ pub mod Places
 mod Written
 mod Lesser
 mod Terms
+pub mod Joins
 pub mod Entries

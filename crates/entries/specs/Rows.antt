@@ -23,6 +23,10 @@ rowOf m C p = ((p .a * (C + 1) + p .ca) * (m + 2) + p .b) * (C + 1) + p .cb
 abbrev pub rowsOf : (m C : ℕ) → ℕ
 rowsOf m C = (m + 2) * (C + 1) * (m + 2) * (C + 1)
 
+-- the words of a level
+abbrev pub levelSize : Measures → (heights : List ℕ) → ℕ
+levelSize q hs = rowsOf (length hs) (q .colours) * q .budgets
+
 unfoldable pub stripOfRow : (m C : ℕ) → ℕ → Strip
 stripOfRow m C r =
     record { a = r / (C + 1) / (m + 2) / (C + 1); ca = r / (C + 1) / (m + 2) % (C + 1); b = r / (C + 1) % (m + 2); cb = r % (C + 1); d = 0 }
@@ -38,6 +42,7 @@ pub record Framed (q : Measures) (heights bounds : List ℕ) : Type 0 where
   pub budgetsSome : 0 < q .budgets
   pub narrow : q .width < 16384
   pub heightLow : (k : ℕ) → getD heights k 0 < 16384
+  pub rising : (j k : ℕ) → j < k → k < length heights → getD heights j 0 < getD heights k 0
 
 -- a strip between edges or labels of the sheet
 pub record Lies (m C : ℕ) (p : Strip) : Type 0 where

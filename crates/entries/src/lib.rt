@@ -240,7 +240,7 @@ fn open_slots(
 }
 
 // The least that joining a label costs.
-fn join_least(q: Measures, heights: &[u32], bounds: &[u32], p: Strip, s: Site) -> u32
+pub fn join_least(q: Measures, heights: &[u32], bounds: &[u32], p: Strip, s: Site) -> u32
     requires { ⌜ Framed q (now heights) (now bounds) ⌝ }
     requires { ⌜ Lies (length (now heights)) (q .colours) (stripOf p) × Stands (q .colours) (pointOf s) ⌝ }
     ensures { λ r. ⌜ r ≡ joinLeast q (now (heights .entry)) (now (bounds .entry)) (stripOf p) (pointOf s) ⌝ }

@@ -15,6 +15,7 @@ use Rattle.labelling.proofs.Members.{all-at, used-at, rise-at}
 use Rattle.labelling.proofs.Words.{height-low}
 use Rattle.optimum.specs.OneSided.{order}
 use Rattle.optimum.specs.Budgets.{radicesOf}
+use Rattle.optimum.proofs.Full.{full-holds}
 use Rattle.optimum.proofs.Order.{Ordered, ordered}
 use Rattle.optimum.proofs.OneSidedAnswer.{work-cells}
 use Rattle.arrays.specs.declared.Measures.{Measures}
@@ -22,7 +23,8 @@ use Rattle.arrays.specs.Arrays.{measuresOf, boundsOf, tabulate, drawsList, xsOf
 use Rattle.arrays.proofs.Instances.{ys-at, colours-at}
 use Rattle.arrays.proofs.Fields.{bounds-long}
 use Rattle.arrays.proofs.Ordered.{gathered-long, radix-pos}
-use Rattle.table.specs.Rows.{Given, levelSize}
+use Rattle.entries.specs.Rows.{levelSize}
+use Rattle.table.specs.Rows.{Given}
 use Rattle.budgets.specs.Budgets.{Splits}
 use Rattle.optimum.specs.Reached.{TableOf}
 use Rattle.walk.specs.Walk.{WalkArrays}
@@ -95,15 +97,18 @@ module _ (ws : List ℕ) (f : sheetFault ws ≡ 0) where
           budgetsSome = product-some (s .colours);
           narrow = o .narrow;
           heightLow = λ k. height-low (s .slots) k (o .heights);
+          rising = λ j k p q. rise-at (s .slots) (o .rise) j k p q;
         };
-        rising = λ j k p q. rise-at (s .slots) (o .rise) j k p q;
         divides = radices-positive (s .colours);
+        full = full-holds (s .colours);
         drawn = tabulate-long _ 0 (length (s .colours));
-        sitesFew = omega (arith, gx, n-is, o .few-sites);
-        ysLong = gy ∙ sym gx;
-        csLong = gc ∙ sym gx;
-        ysLow = λ i l. ys-low i (omega (arith, gx));
-        csLow = λ i l. colours-low i (omega (arith, gx));
+        sites = record {
+          sitesFew = omega (arith, gx, n-is, o .few-sites);
+          ysLong = gy ∙ sym gx;
+          csLong = gc ∙ sym gx;
+          ysLow = λ i l. ys-low i (omega (arith, gx));
+          csLow = λ i l. colours-low i (omega (arith, gx));
+        };
         within = fits (length (s .slots) + 2) (length (s .colours) + 1) (productOf (s .colours)) (omega (arith, gx, n-is)) (work-cells s one);
       }
     where
@@ -148,15 +153,15 @@ filled-is q hs bs rs ds parts counts work xs ys cs os labels out area e g r spli
           heightLow = g .framed .heightLow;
         };
         splits = splits;
-        fewSites = omega (arith, r .long, g .sitesFew);
+        fewSites = omega (arith, r .long, g .sites .sitesFew);
         xsLong = sym (r .long);
-        ysLong = g .ysLong ∙ sym (r .long);
-        coloursLong = g .csLong ∙ sym (r .long);
-        siteIn = λ i l. record { yLow = g .ysLow i (omega (arith, r .long)); colourLow = g .csLow i (omega (arith, r .long)) };
+        ysLong = g .sites .ysLong ∙ sym (r .long);
+        coloursLong = g .sites .csLong ∙ sym (r .long);
+        siteIn = λ i l. record { yLow = g .sites .ysLow i (omega (arith, r .long)); colourLow = g .sites .csLow i (omega (arith, r .long)) };
         orderLow = r .low;
         whole = omega (arith, g .within, ap (λ (n : ℕ). (n + 1) * levelSize q hs) (r .long));
       };
-      rising = g .rising;
+      rising = g .framed .rising;
       table = table;
       someBudget = r .someBudget;
       noLabel = none;
@@ -173,5 +178,5 @@ pub wiped-same : (q : Measures) (hs bs rs ds xs ys cs old new : List ℕ) (area 
     → drop ((length xs + 1) * levelSize q hs) new ≡ drop ((length xs + 1) * levelSize q hs) old
     → wiped (instanceBy q hs bs rs ds) q (pointsBy xs ys cs) new ≡ wiped (instanceBy q hs bs rs ds) q (pointsBy xs ys cs) old
 wiped-same q hs bs rs ds xs ys cs old new area g e =
-    let n : length (pointsBy xs ys cs) ≡ length xs = points-long xs ys cs (length xs) refl (g .ysLong) (g .csLong) in
+    let n : length (pointsBy xs ys cs) ≡ length xs = points-long xs ys cs (length xs) refl (g .sites .ysLong) (g .sites .csLong) in
     rw n (ap (λ (l : List ℕ). replicate ((length xs + 1) * levelSize q hs) 0 ++ l) e)

@@ -1,70 +1,169 @@
--- Rows of a level, and what is known when the first so many are filled. Assumes nothing.
-use mathlib.Core.Path.{_≡_, refl, sym, ap, ap₂, _∙_, fun-ext}
-use mathlib.Core.List.{List, [], _∷_}
-use Prim.Native.Nat.{ℕ, zero, suc, _+_, _*_, _-_, _/_, _%_, _<_, _≤_}
-use native.Mathlib.Nat.{mod-lt, div-lt-iff-lt-mul, mul-comm, mul-assoc}
+-- Rows of a level filled one by one, by their ends. Assumes nothing.
+use mathlib.Core.Path.{_≡_, refl, sym, ap, ap₂, _∙_, fun-ext, subst}
+use mathlib.Core.Bool.{true, false}
+use mathlib.Core.List.{List}
+use Prim.Native.Nat.{ℕ, zero, suc, _+_, _*_, _-_, _<_, _≤_}
+use native.Mathlib.Nat.{mul-le-mul, le-refl}
 use native.Mathlib.Omega.{arith}
-use lib.Arith.{digits-div, digits-mod}
 use lib.ListN.{length, getD, set}
 use lib.Seq.{getD-set-same, getD-set-other}
-use Rattle.lists.proofs.Tests.{by-order}
+use Rattle.lists.proofs.Tests.{by-order, clash}
 use Rattle.optimum.specs.Strips.{Point, Strip}
 use Rattle.arrays.specs.declared.Measures.{Measures}
 use Rattle.budgets.specs.Budgets.{Others}
-use Rattle.entries.specs.Rows.{rowOf, rowsOf, stripOfRow, rowIn, Lies, entryBy}
-use Rattle.table.specs.Rows.{levelSize, Ready, Filled}
-
--- ---- a row's strip
-
-pub strip-lies : (m C r : ℕ) → r < rowsOf m C → Lies m C (stripOfRow m C r)
-unfolding stripOfRow
-strip-lies m C r h =
-    let c : 0 < C + 1 = omega arith in
-    let e : 0 < m + 2 = omega arith in
-    record {
-      aLow = div-lt-iff-lt-mul c .1 (div-lt-iff-lt-mul e .1 (div-lt-iff-lt-mul c .1 h));
-      caLow = mod-lt _ c;
-      bLow = mod-lt _ e;
-      cbLow = mod-lt _ c;
-      dLow = refl;
-    }
-
-pub row-strip : (m C : ℕ) (p : Strip) → Lies m C p → stripOfRow m C (rowOf m C p) ≡ p
-unfolding stripOfRow
-row-strip m C p l =
-    let d₂ = digits-div ((p .a * (C + 1) + p .ca) * (m + 2) + p .b) (l .cbLow) in
-    let d₃ = digits-div (p .a * (C + 1) + p .ca) (l .bLow) in
-    rw (d₂, d₃, digits-div (p .a) (l .caLow), digits-mod (p .a) (l .caLow), digits-mod (p .a * (C + 1) + p .ca) (l .bLow), digits-mod ((p .a * (C + 1) + p .ca) * (m + 2) + p .b) (l .cbLow))
-    (ap (λ (d : ℕ). record { a = p .a; ca = p .ca; b = p .b; cb = p .cb; d = d }) (sym (l .dLow)))
-
-pub row-room : (r rows n : ℕ) → r < rows → r * n + n ≤ rows * n
-row-room r rows n h =
-    let e : rows ≡ suc r + (rows - suc r) = omega arith in
-    omega (arith, ap (λ (z : ℕ). z * n) e)
-
--- ---- rows filled one by one
+use Rattle.entries.specs.Rows.{rowOf, rowIn, levelSize, Lies, entryBy}
+use Rattle.entries.proofs.Places.{row-fits}
+use Rattle.marks.specs.Marks.{Marked, endPlace, endWords, upperEnd, Shaped}
+use Rattle.marks.proofs.Followed.{same-end, later-end, slot-high, slot-low, row-ends, same-strip}
+use Rattle.marks.proofs.Levels.{row-room}
+use Rattle.table.specs.Rows.{RowFilled}
 
 same-rows : (old new : List ℕ) (base count low m C n : ℕ) → base + count ≤ low → Others old new base count → rowIn new low m C n ≡ rowIn old low m C n
 same-rows old new base count low m C n h o = fun-ext (λ p. fun-ext (λ v. o .after _ (omega arith)))
 
 module _ (q : Measures) (hs bs parts counts left : List ℕ) (base low : ℕ) (s : Point) where
-  pub filled-none : (old : List ℕ) → Filled q hs bs parts counts left old old base low s 0
-  filled-none old = record { others = record { before = λ i h. refl; after = λ i h. refl }; rows = λ r v h l. absurd (omega arith) }
+  abbrev C : ℕ
+  C = q .colours
 
-  pub filled-more : (old new last : List ℕ) (r : ℕ) → base + (r * q .budgets + q .budgets) ≤ low → Filled q hs bs parts counts left old new base low s r
-      → Others new last (base + r * q .budgets) (q .budgets)
-      → ((v : ℕ) → v < q .budgets → getD last (base + r * q .budgets + v) 0 ≡ entryBy q hs bs parts counts left (rowIn new low (length hs) (q .colours) (q .budgets)) (stripOfRow (length hs) (q .colours) r) s v)
-      → Filled q hs bs parts counts left old last base low s (r + 1)
-  filled-more old new last r h f o e = record {
-    others = record {
-      before = λ i l. o .before i (omega arith) ∙ f .others .before i l;
-      after = λ i l. let g : (r + 1) * q .budgets ≡ r * q .budgets + q .budgets = omega arith in o .after i (omega arith) ∙ f .others .after i (omega arith);
-    };
-    rows = λ t v l u. by-order r t
-        (λ z. let x : t ≡ r = omega arith in
-        rw x (e v u ∙ ap (λ (row : Strip → ℕ → ℕ). entryBy q hs bs parts counts left row (stripOfRow (length hs) (q .colours) r) s v) (same-rows old new base (r * q .budgets) low _ _ _ (omega arith) (f .others))))
-        (λ z. let w = row-room t r (q .budgets) z in o .before _ (omega arith) ∙ f .rows t v z u);
+  abbrev row : Strip → ℕ
+  row p = rowOf (length hs) (q .colours) p * q .budgets
+
+  -- a row, by its ends
+  row-at : (p : Strip) → row p ≡ endPlace C (p .a) (p .ca) * endWords q hs + endPlace C (p .b) (p .cb) * q .budgets
+  row-at p = ap (λ (z : ℕ). z * q .budgets) (row-ends (length hs) C p) ∙ split (endPlace C (p .a) (p .ca)) (length hs + 2) (C + 1) (endPlace C (p .b) (p .cb)) (q .budgets)
+    where
+      split : (u l c e n : ℕ) → (u * (l * c) + e) * n ≡ u * ((l * c + 0) * n) + e * n
+      split u l c e n = omega arith
+
+  -- a level, by its upper ends
+  size-is : levelSize q hs ≡ endPlace C (length hs + 2) 0 * endWords q hs
+  size-is = split (length hs + 2) (C + 1) (q .budgets)
+    where
+      split : (l c n : ℕ) → l * c * l * c * n ≡ (l * c + 0) * ((l * c + 0) * n)
+      split l c n = omega arith
+
+  -- the rows below one upper end, up to a lower end
+  pub record Filled (old new : List ℕ) (above place : ℕ) : Type 0 where
+    pub others : Others old new (base + above * endWords q hs) (place * q .budgets)
+    pub rows : (p : Strip) → Shaped (length hs) C p → endPlace C (p .a) (p .ca) ≡ above → endPlace C (p .b) (p .cb) < place → RowFilled q hs bs parts counts left old new base low s p
+
+  pub filled-none : (old : List ℕ) (a ca place : ℕ) → ca ≤ C → place ≡ endPlace C (a + 1) 0 → Filled old old (endPlace C a ca) place
+  filled-none old a ca place c e = record {
+    others = record { before = λ i h. refl; after = λ i h. refl };
+    rows = λ p h f l.
+        let x = same-end C (p .a) (p .ca) a ca (omega (arith, h .lies .caLow)) c f in
+        let z = slot-high C (p .b) a C (omega arith) (omega (arith, e, l)) in
+        absurd (omega (arith, h .falls, x .0, z));
   }
+
+  pub filled-more : (old new last : List ℕ) (r : Strip) (place at : ℕ) → base + levelSize q hs ≤ low → Lies (length hs) C r → place ≡ endPlace C (r .b) (r .cb)
+      → at ≡ base + row r → Filled old new (endPlace C (r .a) (r .ca)) place → Others new last at (q .budgets)
+      → (getD new at 0 ≡ 1 → (v : ℕ) → v < q .budgets → getD last (at + v) 0 ≡ entryBy q hs bs parts counts left (rowIn new low (length hs) C (q .budgets)) r s v)
+      → Filled old last (endPlace C (r .a) (r .ca)) (place + 1)
+  filled-more old new last r place at h l e f d o k = record {
+    others = record {
+      before = λ i u. o .before i (omega (arith, at-is)) ∙ d .others .before i u;
+      after = λ i u. let g : (place + 1) * q .budgets ≡ place * q .budgets + q .budgets = omega arith in o .after i (omega (arith, at-is)) ∙ d .others .after i (omega arith);
+    };
+    rows = λ p t a b. by-order place (endPlace C (p .b) (p .cb))
+        (λ u. own p (same-strip (length hs) C p r (t .lies) l a (omega (arith, e, b, u))))
+        (λ u m v w. o .before _ (lower p v a u w) ∙ d .rows p t a u m v w);
+  }
+    where
+      at-is : at ≡ base + endPlace C (r .a) (r .ca) * endWords q hs + place * q .budgets
+      at-is = f ∙ ap (λ (z : ℕ). base + z) (row-at r ∙ ap (λ (z : ℕ). endPlace C (r .a) (r .ca) * endWords q hs + z * q .budgets) (sym e)) ∙ omega arith
+
+      inside : base + endPlace C (r .a) (r .ca) * endWords q hs + place * q .budgets ≤ low
+      inside = omega (arith, at-is, f, row-fits (length hs) C (q .budgets) r l)
+
+      own : (p : Strip) → p ≡ r → RowFilled q hs bs parts counts left old last base low s p
+      own p z = subst (RowFilled q hs bs parts counts left old last base low s) (sym z)
+          (λ m v w.
+          let mark : getD new at 0 ≡ 1 = d .others .after at (omega (arith, at-is)) ∙ ap (λ (i : ℕ). getD old i 0) f ∙ m in
+          ap (λ (i : ℕ). getD last (i + v) 0) (sym f) ∙ k mark v w
+          ∙ ap (λ (rows : Strip → ℕ → ℕ). entryBy q hs bs parts counts left rows r s v) (same-rows old new _ _ low (length hs) C (q .budgets) inside (d .others)))
+
+      lower : (p : Strip) (v : ℕ) → endPlace C (p .a) (p .ca) ≡ endPlace C (r .a) (r .ca) → endPlace C (p .b) (p .cb) < place → v < q .budgets → base + row p + v < at
+      lower p v a u w =
+          let x = row-room (endPlace C (p .b) (p .cb)) place (q .budgets) u in
+          omega (arith, at-is, row-at p, ap (λ (z : ℕ). z * endWords q hs) a)
+
+  -- up to the end of the lower ends
+  pub filled-all : (old new : List ℕ) (above c d : ℕ) → length hs + 2 ≤ c → endPlace C c d ≤ endPlace C (length hs + 2) 0 → Filled old new above (endPlace C c d)
+      → Others old new (base + above * endWords q hs) (endWords q hs)
+      × ((p : Strip) → Shaped (length hs) C p → endPlace C (p .a) (p .ca) ≡ above → RowFilled q hs bs parts counts left old new base low s p)
+  filled-all old new above c d h k f =
+      let e : endPlace C c d ≡ endPlace C (length hs + 2) 0 = omega (arith, k, slot-low C (length hs + 2) c d h) in
+      (subst (λ (n : ℕ). Others old new (base + above * endWords q hs) (n * q .budgets)) e (f .others),
+        λ p t a. f .rows p t a (later-end C (p .b) (p .cb) c d (omega (arith, t .lies .cbLow)) (omega (arith, t .lies .bLow))))
+
+  -- no strip has an upper end that is none
+  pub ended : (old new : List ℕ) (slot colour : ℕ) → colour ≤ C → upperEnd slot colour ≡ false
+      → (p : Strip) → Shaped (length hs) C p → endPlace C (p .a) (p .ca) ≡ endPlace C slot colour → RowFilled q hs bs parts counts left old new base low s p
+  ended old new slot colour c u p t e =
+      let x = same-end C (p .a) (p .ca) slot colour (omega (arith, t .lies .caLow)) c e in
+      clash (ap₂ upperEnd (sym (x .0)) (sym (x .1)) ∙ t .ends) u
+
+  -- the rows below all upper ends, up to one
+  pub record Passed (old new : List ℕ) (place : ℕ) : Type 0 where
+    pub others : Others old new base (place * endWords q hs)
+    pub rows : (p : Strip) → Shaped (length hs) C p → endPlace C (p .a) (p .ca) < place → RowFilled q hs bs parts counts left old new base low s p
+
+  pub passed-none : (old : List ℕ) (place : ℕ) → place ≡ 0 → Passed old old place
+  passed-none old place e = record { others = record { before = λ i h. refl; after = λ i h. refl }; rows = λ p t l. absurd (omega (arith, e, l)) }
+
+  pub passed-more : (old new last : List ℕ) (slot colour : ℕ) → base + levelSize q hs ≤ low → slot ≤ length hs → colour ≤ C → Passed old new (endPlace C slot colour)
+      → Others new last (base + endPlace C slot colour * endWords q hs) (endWords q hs)
+      → ((p : Strip) → Shaped (length hs) C p → endPlace C (p .a) (p .ca) ≡ endPlace C slot colour → RowFilled q hs bs parts counts left new last base low s p)
+      → Passed old last (endPlace C slot colour + 1)
+  passed-more old new last slot colour h sl cl d o k = record {
+    others = record {
+      before = λ i u. o .before i (omega arith) ∙ d .others .before i u;
+      after = λ i u. let g : (endPlace C slot colour + 1) * endWords q hs ≡ endPlace C slot colour * endWords q hs + endWords q hs = omega arith in o .after i (omega arith) ∙ d .others .after i (omega arith);
+    };
+    rows = λ p t l. by-order (endPlace C slot colour) (endPlace C (p .a) (p .ca))
+        (λ u m v w. k p t (omega (arith, l, u)) (d .others .after _ (high p (omega (arith, l, u))) ∙ m) v w
+        ∙ ap (λ (rows : Strip → ℕ → ℕ). entryBy q hs bs parts counts left rows p s v) (same-rows old new base (endPlace C slot colour * endWords q hs) low (length hs) C (q .budgets) inside (d .others)))
+        (λ u m v w. o .before _ (lower p (t .lies) v u w) ∙ d .rows p t u m v w);
+  }
+    where
+      inside : base + endPlace C slot colour * endWords q hs ≤ low
+      inside = omega (arith, h, size-is, row-room (endPlace C slot colour) (endPlace C (length hs + 2) 0) (endWords q hs) (later-end C slot colour (length hs + 2) 0 cl (omega arith)))
+
+      high : (p : Strip) → endPlace C (p .a) (p .ca) ≡ endPlace C slot colour → base + endPlace C slot colour * endWords q hs ≤ base + row p
+      high p e = omega (arith, row-at p, ap (λ (z : ℕ). z * endWords q hs) e)
+
+      lower : (p : Strip) → Lies (length hs) C p → (v : ℕ) → endPlace C (p .a) (p .ca) < endPlace C slot colour → v < q .budgets → base + row p + v < base + endPlace C slot colour * endWords q hs
+      lower p l v u w =
+          let x = row-room (endPlace C (p .a) (p .ca)) (endPlace C slot colour) (endWords q hs) u in
+          let y = row-room (endPlace C (p .b) (p .cb)) (endPlace C (length hs + 2) 0) (q .budgets) (later-end C (p .b) (p .cb) (length hs + 2) 0 (omega (arith, l .cbLow)) (l .bLow)) in
+          omega (arith, row-at p, x, y)
+
+  pub passed-all : (old new : List ℕ) (c d : ℕ) → length hs + 1 ≤ c → endPlace C c d ≤ endPlace C (length hs + 1) 0 → Passed old new (endPlace C c d)
+      → Others old new base (levelSize q hs) × ((p : Strip) → Shaped (length hs) C p → RowFilled q hs bs parts counts left old new base low s p)
+  passed-all old new c d h k f =
+      (record { before = f .others .before; after = λ i u. f .others .after i (omega (arith, u, within)) },
+        λ p t. f .rows p t (later-end C (p .a) (p .ca) c d (omega (arith, t .lies .caLow)) (omega (arith, t .lies .bLow, t .falls))))
+    where
+      few : endPlace C c d ≤ endPlace C (length hs + 2) 0
+      few = omega (arith, k)
+
+      within : endPlace C c d * endWords q hs ≤ levelSize q hs
+      within = omega (arith, mul-le-mul {n₂ = endPlace C (length hs + 2) 0} {m₂ = endWords q hs} few (le-refl (endWords q hs)), size-is)
+
+  -- a row of the level
+  pub row-low : (p : Strip) (at : ℕ) → base + levelSize q hs ≤ low → Lies (length hs) C p → at ≡ base + row p → at + q .budgets ≤ low
+  row-low p at h l e = omega (arith, e, h, row-fits (length hs) C (q .budgets) p l)
+
+  -- the same upper end, by an equation
+  pub to-end : (old new : List ℕ) (x y : ℕ) → x ≡ y
+      → Others old new (base + x * endWords q hs) (endWords q hs) × ((p : Strip) → Shaped (length hs) C p → endPlace C (p .a) (p .ca) ≡ x → RowFilled q hs bs parts counts left old new base low s p)
+      → Others old new (base + y * endWords q hs) (endWords q hs) × ((p : Strip) → Shaped (length hs) C p → endPlace C (p .a) (p .ca) ≡ y → RowFilled q hs bs parts counts left old new base low s p)
+  to-end old new x y e h = rw (← e) h
+
+-- the first lower end is not past the last
+pub start-end : (C a m : ℕ) → a ≤ m → endPlace C (a + 1) 0 ≤ endPlace C (m + 2) 0
+start-end C a m h = slot-low C (a + 1) (m + 2) 0 (omega arith)
 
 -- ---- zeros
 

@@ -1,3 +1,2 @@
 mod Filling
-mod Places
 mod Right

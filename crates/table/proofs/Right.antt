@@ -1,4 +1,4 @@
--- A level filled from one that is right is right, and a table of right levels is right where it is asked. Assumes nothing but the
+-- A level filled from one that is right is right where it is asked for, and so is a table of such levels. Assumes nothing but the
 -- arrays of a sheet.
 use mathlib.Core.Path.{_≡_, refl, sym, ap, ap₂, _∙_, subst, subst⁻¹}
 use mathlib.Core.List.{List, [], _∷_}
@@ -13,164 +13,133 @@ use Rattle.optimum.specs.Strips.{Point, Strip, Instance, rulesOf}
 use Rattle.optimum.specs.Cells.{cells, cellOf}
 use Rattle.optimum.specs.Reached.{noPoint, Asks, Reached, TableOf}
 use Rattle.optimum.proofs.StripsHeld.{Rising, laws}
-use Rattle.optimum.proofs.Levels.{Coloured, InRange, Row, entry-asked, asked-range}
+use Rattle.optimum.proofs.Levels.{Row, entry-asked}
 use Rattle.optimum.proofs.Loops.{at-drop}
-use Rattle.optimum.proofs.Reached.{reached-range}
 use Rattle.arrays.specs.declared.Measures.{Measures}
 use Rattle.arrays.specs.Arrays.{instanceBy, pointsBy}
+use Rattle.strips.specs.Strips.{instanceOn}
 use Rattle.budgets.specs.Budgets.{Others, Splits, leftBy}
-use Rattle.entries.specs.Rows.{rowOf, rowsOf, stripOfRow, rowIn, Lies, entryBy}
-use Rattle.entries.proofs.Places.{row-low}
+use Rattle.entries.specs.Rows.{rowOf, rowsOf, rowIn, levelSize, Lies, entryBy}
+use Rattle.entries.proofs.Places.{row-low, row-fits}
 use Rattle.entries.proofs.Entries.{cell-row, entry-by}
-use Rattle.table.specs.Rows.{levelSize, Filled, Given, LevelRight}
-use Rattle.table.proofs.Filling.{row-strip}
-use Rattle.table.proofs.Places.{next-level, level-room}
+use Rattle.marks.specs.Marks.{Marked, Shaped, ReachMarked}
+use Rattle.marks.proofs.Levels.{next-level, level-room, row-room}
+use Rattle.marks.proofs.Points.{points-long, point-at, drop-point}
+use Rattle.marks.proofs.Reach.{reached-on, reached-shape}
+use Rattle.table.specs.Rows.{RowFilled, Given, LevelRight, LevelMarked}
 
--- ---- the sites' points
-
-pub points-long : (xs ys cs : List ℕ) → length ys ≡ length xs → length cs ≡ length xs → length (pointsBy xs ys cs) ≡ length xs
-unfolding pointsBy
-points-long [] ys cs p q = refl
-points-long (x ∷ xs) [] cs p q = absurd (omega arith)
-points-long (x ∷ xs) (y ∷ ys) [] p q = absurd (omega arith)
-points-long (x ∷ xs) (y ∷ ys) (c ∷ cs) p q = ap suc (points-long xs ys cs (omega arith) (omega arith))
-
-pub point-at : (xs ys cs : List ℕ) (j : ℕ) → length ys ≡ length xs → length cs ≡ length xs → j < length xs
-    → getD (pointsBy xs ys cs) j noPoint ≡ record { x = getD xs j 0; y = getD ys j 0; c = getD cs j 0 }
-unfolding pointsBy
-point-at [] ys cs j p q h = absurd (omega arith)
-point-at (x ∷ xs) [] cs j p q h = absurd (omega arith)
-point-at (x ∷ xs) (y ∷ ys) [] j p q h = absurd (omega arith)
-point-at (x ∷ xs) (y ∷ ys) (c ∷ cs) zero p q h = refl
-point-at (x ∷ xs) (y ∷ ys) (c ∷ cs) (suc j) p q h = point-at xs ys cs j (omega arith) (omega arith) (omega arith)
-
-pub drop-point : (ss : List Point) (j : ℕ) → j < length ss → drop j ss ≡ getD ss j noPoint ∷ drop (j + 1) ss
-drop-point [] j h = absurd (omega arith)
-drop-point (s ∷ ss) zero h = refl
-drop-point (s ∷ ss) (suc j) h = let e : suc (j + 1) ≡ suc j + 1 = omega arith in drop-point ss j (omega arith) ∙ ap (λ (n : ℕ). getD ss j noPoint ∷ drop n (s ∷ ss)) e
-
-pub points-coloured : (C : ℕ) (xs ys cs : List ℕ) → length ys ≡ length xs → length cs ≡ length xs → ((i : ℕ) → i < length xs → getD cs i 0 < C) → Coloured C (pointsBy xs ys cs)
-unfolding pointsBy Coloured
-points-coloured C [] ys cs p q h = tt
-points-coloured C (x ∷ xs) [] cs p q h = absurd (omega arith)
-points-coloured C (x ∷ xs) (y ∷ ys) [] p q h = absurd (omega arith)
-points-coloured C (x ∷ xs) (y ∷ ys) (c ∷ cs) p q h = (h 0 (omega arith), points-coloured C xs ys cs (omega arith) (omega arith) (λ i l. h (suc i) (omega arith)))
-
--- ---- levels
-
-module _ (q : Measures) (hs bs rs ds : List ℕ) (rising : (j k : ℕ) → j < k → k < length hs → getD hs j 0 < getD hs k 0) where
+module _ (q : Measures) (hs bs rs ds xs ys cs : List ℕ) (area : ℕ) (g : Given q hs bs rs ds xs ys cs area) where
   abbrev P : Instance
   P = instanceBy q hs bs rs ds
 
-  lies-range : (p : Strip) → Lies (length hs) (q .colours) p → InRange P (q .colours) (q .budgets) p
-  lies-range p l = record { ra = l .aLow; rca = l .caLow; rb = l .bLow; rcb = l .cbLow; rd = omega (arith, l .dLow) }
+  abbrev ss : List Point
+  ss = pointsBy xs ys cs
 
-  pub range-lies : (p : Strip) → InRange P (q .colours) (q .budgets) p → Lies (length hs) (q .colours) p
-  range-lies p r = record { aLow = r .ra; caLow = r .rca; bLow = r .rb; cbLow = r .rcb; dLow = omega (arith, r .rd) }
+  rising : Rising P
+  rising = g .framed .rising
 
-  -- no sites: the level of zeros
-  pub zeros-right : (work : List ℕ) (base : ℕ) → ((i : ℕ) → i < levelSize q hs → getD work (base + i) 0 ≡ 0) → LevelRight P q hs [] work base
-  zeros-right work base z p v l u =
-      let f = row-low (length hs) (q .colours) p l in
-      z _ (room (rowOf (length hs) (q .colours) p) (rowsOf (length hs) (q .colours)) (q .budgets) v f u) ∙ sym (T-nil (rulesOf P) (laws P rising) p v)
+  sites-many : length ss ≡ length xs
+  sites-many = points-long xs ys cs (g .sites .ysLong) (g .sites .csLong)
+
+  -- what is reached has a row
+  shape : (j : ℕ) → j ≤ length xs → (p : Strip) → Reached P ss j p → Shaped (length hs) (q .colours) p
+  shape j h p r = reached-shape q hs bs (g .framed) xs ys cs (g .sites) j h p (reached-on q hs bs rs ds ss j p r)
+
+  -- past the last site nothing is left: the level of zeros
+  pub last-right : (work : List ℕ) (base : ℕ) → ((i : ℕ) → i < levelSize q hs → getD work (base + i) 0 ≡ 0) → LevelRight P q ss (length xs) work base
+  last-right work base z p v r u =
+      let l = shape (length xs) (omega arith) p r .lies in
+      z _ (room (rowOf (length hs) (q .colours) p) (rowsOf (length hs) (q .colours)) (q .budgets) v (row-low (length hs) (q .colours) p l) u)
+      ∙ sym (T-nil (rulesOf P) (laws P rising) p v)
+      ∙ ap (λ (l : List Point). T (rulesOf P) l p v) (sym (drop-of-length-le ss {i = length xs} (omega (arith, sites-many))))
     where
       room : (r rows n v : ℕ) → r < rows → v < n → r * n + v < rows * n
-      room r rows n v h k = let e : rows ≡ suc r + (rows - suc r) = omega arith in omega (arith, ap (λ (z : ℕ). z * n) e)
+      room r rows n v h k = omega (arith, row-room r rows n h)
 
   -- a level from the one below it
-  pub level-right : (old new parts counts left : List ℕ) (base low : ℕ) (s : Point) (ss : List Point) → Splits rs (q .budgets) parts counts
-      → ((v : ℕ) → v < q .budgets → getD left v 0 ≡ leftBy rs (getD ds (s .c) 0) v) → s .c < q .colours
-      → Filled q hs bs parts counts left old new base low s (rowsOf (length hs) (q .colours)) → LevelRight P q hs ss old low → LevelRight P q hs (s ∷ ss) new base
-  level-right old new parts counts left base low s ss splits drawn c f h p v l u =
+  pub level-right : (old new parts counts left : List ℕ) (j base low : ℕ) → Splits rs (q .budgets) parts counts → j < length xs
+      → ((v : ℕ) → v < q .budgets → getD left v 0 ≡ leftBy rs (getD ds (getD cs j 0) 0) v)
+      → ((p : Strip) → Shaped (length hs) (q .colours) p → RowFilled q hs bs parts counts left old new base low (record { x = getD xs j 0; y = getD ys j 0; c = getD cs j 0 }) p)
+      → LevelMarked P q ss j old base → LevelRight P q ss (j + 1) old low → LevelRight P q ss j new base
+  unfolding Reached
+  level-right old new parts counts left j base low splits h drawn f m r p v a u =
+      let t = shape j (omega arith) p a in
       ap (λ (z : ℕ). getD new z 0) (omega arith)
-      ∙ f .rows (rowOf (length hs) (q .colours) p) v (row-low (length hs) (q .colours) p l) u
-      ∙ ap (λ (x : Strip). entryBy q hs bs parts counts left (rowIn old low (length hs) (q .colours) (q .budgets)) x s v) (row-strip (length hs) (q .colours) p l)
-      ∙ entry-by q hs bs rs ds old parts counts left low p s v splits (drawn v u) l u
-      ∙ entry-asked P (q .colours) (q .budgets) rising (drop low old) s ss p v rows u
+      ∙ f p t (m p a) v u
+      ∙ entry-by q hs bs rs ds old parts counts left low p s v splits (drawn v u) (t .lies) u
+      ∙ entry-asked P (q .colours) (q .budgets) rising (drop low old) s (drop (j + 1) ss) p v rows u
+      ∙ ap (λ (l : List Point). T (rulesOf P) l p v) (sym (drop-point ss j (omega (arith, sites-many)) ∙ ap (λ (x : Point). x ∷ drop (j + 1) ss) here))
     where
-      rows : (x : Strip) → Asks P p s x → Row P (q .colours) (q .budgets) (drop low old) ss x
-      rows x a w lw =
-          let r = asked-range P (q .colours) (q .budgets) rising (λ t k. omega arith) p s x c (lies-range p l) a in
-          let d : x .d ≡ 0 = omega (arith, r .rd) in
-          at-drop old low _ ∙ ap (λ (z : ℕ). getD old (low + z) 0) (cell-row P (q .colours) (q .budgets) x w refl d) ∙ h x w (range-lies x r) lw
+      s : Point
+      s = record { x = getD xs j 0; y = getD ys j 0; c = getD cs j 0 }
+
+      here : getD ss j noPoint ≡ s
+      here = point-at xs ys cs j (g .sites .ysLong) (g .sites .csLong) h
+
+      next : (x : Strip) → Asks P p s x → Reached P ss (j + 1) x
+      next x w = subst (λ (n : ℕ). Reached P ss n x) (sym (add-one j)) (p, a, subst (λ (y : Point). Asks P p y x) (sym here) w)
+
+      rows : (x : Strip) → Asks P p s x → Row P (q .colours) (q .budgets) (drop low old) (drop (j + 1) ss) x
+      rows x w k lk =
+          let l = shape (j + 1) (omega arith) x (next x w) .lies in
+          at-drop old low _ ∙ ap (λ (z : ℕ). getD old (low + z) 0) (cell-row P (q .colours) (q .budgets) x k refl (l .dLow)) ∙ r x k (next x w) lk
 
   -- THE TABLE, from its levels
-  pub table-right : (ss : List Point) (work : List ℕ) → Coloured (q .colours) ss
-      → ((j : ℕ) → j ≤ length ss → LevelRight P q hs (drop j ss) work (j * levelSize q hs)) → TableOf P (q .colours) (q .budgets) ss work
+  pub table-right : (work : List ℕ) → ((j : ℕ) → j ≤ length xs → LevelRight P q ss j work (j * levelSize q hs)) → TableOf P (q .colours) (q .budgets) ss work
   unfolding TableOf
-  table-right ss work c levels j p v l r u =
-      let g = reached-range P (q .colours) (q .budgets) rising (λ t k. omega arith) ss c (omega arith) j l p r in
-      let e = cell-row P (q .colours) (q .budgets) p v refl (range-lies p g .dLow) in
+  table-right work levels j p v l r u =
+      let h : j ≤ length xs = omega (arith, sites-many) in
+      let e = cell-row P (q .colours) (q .budgets) p v refl (shape j h p r .lies .dLow) in
       let z : cells P (q .colours) (q .budgets) ≡ levelSize q hs = size (length hs + 2) (q .colours + 1) (q .budgets) in
-      ap₂ (λ (a b : ℕ). getD work (j * a + b) 0) z e ∙ levels j l p v (range-lies p g) u
+      ap₂ (λ (a b : ℕ). getD work (j * a + b) 0) z e ∙ levels j h p v r u
     where
       size : (a b n : ℕ) → a * b * a * b * 1 * n ≡ a * b * a * b * n
       size a b n = ap (λ (z : ℕ). z * n) (omega arith)
 
--- ---- the same for the arrays of a sheet
-
-module _ (q : Measures) (hs bs rs ds xs ys cs : List ℕ) (area : ℕ) (g : Given q hs bs rs ds xs ys cs area) where
-  pub site-right : (old new parts counts left : List ℕ) (j base low : ℕ) → Splits rs (q .budgets) parts counts → j < length xs
-      → ((v : ℕ) → v < q .budgets → getD left v 0 ≡ leftBy rs (getD ds (getD cs j 0) 0) v)
-      → Filled q hs bs parts counts left old new base low (record { x = getD xs j 0; y = getD ys j 0; c = getD cs j 0 }) (rowsOf (length hs) (q .colours))
-      → LevelRight (instanceBy q hs bs rs ds) q hs (drop (j + 1) (pointsBy xs ys cs)) old low → LevelRight (instanceBy q hs bs rs ds) q hs (drop j (pointsBy xs ys cs)) new base
-  site-right old new parts counts left j base low splits h drawn f r =
-      subst⁻¹ (λ (ss : List Point). LevelRight (instanceBy q hs bs rs ds) q hs ss new base)
-      (drop-point (pointsBy xs ys cs) j (omega (arith, points-long xs ys cs (g .ysLong) (g .csLong)))
-      ∙ ap (λ (s : Point). s ∷ drop (j + 1) (pointsBy xs ys cs)) (point-at xs ys cs j (g .ysLong) (g .csLong) h))
-      (level-right q hs bs rs ds (g .rising) old new parts counts left base low _ _ splits drawn (g .csLow j h) f r)
-
-  pub whole-right : (work : List ℕ)
-      → ((j : ℕ) → j ≤ length xs → LevelRight (instanceBy q hs bs rs ds) q hs (drop j (pointsBy xs ys cs)) work (j * levelSize q hs))
-      → TableOf (instanceBy q hs bs rs ds) (q .colours) (q .budgets) (pointsBy xs ys cs) work
-  whole-right work h =
-      table-right q hs bs rs ds (g .rising) (pointsBy xs ys cs) work (points-coloured (q .colours) xs ys cs (g .ysLong) (g .csLong) (g .csLow))
-      (λ j l. h j (omega (arith, points-long xs ys cs (g .ysLong) (g .csLong))))
-
-  -- past the last site nothing is left
-  pub last-right : (work : List ℕ) (base : ℕ) → ((i : ℕ) → i < levelSize q hs → getD work (base + i) 0 ≡ 0)
-      → LevelRight (instanceBy q hs bs rs ds) q hs (drop (length xs) (pointsBy xs ys cs)) work base
-  last-right work base z =
-      subst⁻¹ (λ (ss : List Point). LevelRight (instanceBy q hs bs rs ds) q hs ss work base)
-      (drop-of-length-le (pointsBy xs ys cs) {i = length xs} (omega (arith, points-long xs ys cs (g .ysLong) (g .csLong))))
-      (zeros-right q hs bs rs ds (g .rising) work base z)
-
-  -- a level that was right stays so where others are written
-  pub kept-right : (old new : List ℕ) (ss : List Point) (i from size : ℕ) → size ≡ levelSize q hs → from < i → Others old new (from * size) size
-      → LevelRight (instanceBy q hs bs rs ds) q hs ss old (i * size) → LevelRight (instanceBy q hs bs rs ds) q hs ss new (i * size)
-  kept-right old new ss i from size e l o r p v li u =
-      o .after _ (let n : i ≡ suc from + (i - suc from) = omega arith in omega (arith, ap (λ (z : ℕ). z * size) n)) ∙ r p v li u
-
-  -- what is known when the levels from j on are filled
+  -- what is known when the levels from j on are filled: those before are marked
   pub record Done (old new : List ℕ) (size j : ℕ) : Type 0 where
     pub long : length new ≡ length old
-    pub levels : (i : ℕ) → j ≤ i → i ≤ length xs → LevelRight (instanceBy q hs bs rs ds) q hs (drop i (pointsBy xs ys cs)) new (i * size)
+    pub levels : (i : ℕ) → j ≤ i → i ≤ length xs → LevelRight P q ss i new (i * size)
+    pub marked : (i : ℕ) → i < j → LevelMarked P q ss i new (i * size)
     pub past : (i : ℕ) → (length xs + 1) * size ≤ i → getD new i 0 ≡ getD old i 0
 
-  pub done-last : (new : List ℕ) (size : ℕ) → size ≡ levelSize q hs → ((i : ℕ) → i < size → getD new (length xs * size + i) 0 ≡ 0) → Done new new size (length xs)
-  done-last new size e z = record {
+  -- a row of a level stands before a later level
+  before-level : (p : Strip) (i k size : ℕ) → size ≡ levelSize q hs → i < k → i ≤ length xs → Reached P ss i p → i * size + rowOf (length hs) (q .colours) p * q .budgets < k * size
+  before-level p i k size e h l r =
+      let f = row-fits (length hs) (q .colours) (q .budgets) p (shape i l p r .lies) in
+      let n : k ≡ suc i + (k - suc i) = omega arith in
+      omega (arith, e, f, g .framed .budgetsSome, ap (λ (z : ℕ). z * size) n)
+
+  pub done-last : (old new : List ℕ) (size : ℕ) → size ≡ levelSize q hs → ReachMarked (instanceOn q hs bs) q ss old (levelSize q hs) (length xs + 1)
+      → Others old new (length xs * size) size → ((i : ℕ) → i < size → getD new (length xs * size + i) 0 ≡ 0) → Done new new size (length xs)
+  done-last old new size e m o z = record {
     long = refl;
     levels = λ i a b. let n : i ≡ length xs = omega arith in rw n (last-right new (length xs * size) (λ k h. z k (omega (arith, e))));
+    marked = λ i h p r. o .before _ (before-level p i (length xs) size e h (omega arith) r) ∙ subst (λ (n : ℕ). Marked old (i * n) (length hs) (q .colours) (q .budgets) p) (sym e) (m i (omega arith) p (reached-on q hs bs rs ds ss i p r));
     past = λ i h. refl;
   }
 
   pub done-more : (old new last : List ℕ) (size j k : ℕ) → size ≡ levelSize q hs → j ≡ k + 1 → j ≤ length xs → length last ≡ length new → Others new last (k * size) size
-      → (LevelRight (instanceBy q hs bs rs ds) q hs (drop (k + 1) (pointsBy xs ys cs)) new ((k + 1) * size) → LevelRight (instanceBy q hs bs rs ds) q hs (drop k (pointsBy xs ys cs)) last (k * size))
+      → (LevelMarked P q ss k new (k * size) → LevelRight P q ss (k + 1) new ((k + 1) * size) → LevelRight P q ss k last (k * size))
       → Done old new size j → Done old last size k
   done-more old new last size j k e n lj l o f d = record {
     long = l ∙ d .long;
     levels = λ i a b. by-order (k + 1) i
-        (λ u. kept-right new last _ i k size e (omega arith) o (d .levels i (omega arith) b))
-        (λ u. let z : i ≡ k = omega arith in rw z (f (d .levels (k + 1) (omega arith) (omega arith))));
+        (λ u p v r w. o .after _ (later i _ (omega arith)) ∙ d .levels i (omega arith) b p v r w)
+        (λ u. let z : i ≡ k = omega arith in rw z (f (d .marked k (omega arith)) (d .levels (k + 1) (omega arith) (omega arith))));
+    marked = λ i h p r. o .before _ (before-level p i k size e h (omega arith) r) ∙ d .marked i (omega arith) p r;
     past = λ i h. o .after i (omega (arith, level-room k (length xs) size size _ refl (omega arith) h)) ∙ d .past i h;
   }
+    where
+      later : (i x : ℕ) → k < i → k * size + size ≤ i * size + x
+      later i x h = let n : i ≡ suc k + (i - suc k) = omega arith in omega (arith, ap (λ (z : ℕ). z * size) n)
 
-  -- all levels: the table is right, and what lies past it is as it was before the last level was zeroed
-  pub done-all : (first old new : List ℕ) (size : ℕ) → size ≡ levelSize q hs → length old ≡ length first → Others first old (length xs * size) size → Done old new size 0
-      → TableOf (instanceBy q hs bs rs ds) (q .colours) (q .budgets) (pointsBy xs ys cs) new
-      × (drop ((length xs + 1) * levelSize q hs) new ≡ drop ((length xs + 1) * levelSize q hs) first)
-  done-all first old new size e l o d = (
-    whole-right new (λ j l. rw e at (d .levels j (omega arith) l)),
+  -- all levels: the table is right, and what lies past it is as it was
+  pub done-all : (first mid old new : List ℕ) (size : ℕ) → size ≡ levelSize q hs → length old ≡ length first
+      → ((i : ℕ) → (length xs + 1) * levelSize q hs ≤ i → getD mid i 0 ≡ getD first i 0) → Others mid old (length xs * size) size → Done old new size 0
+      → TableOf P (q .colours) (q .budgets) ss new × (drop ((length xs + 1) * levelSize q hs) new ≡ drop ((length xs + 1) * levelSize q hs) first)
+  done-all first mid old new size e l m o d = (
+    table-right new (λ j l. rw e at (d .levels j (omega arith) l)),
     ext-getD 0 _ _ (length-drop _ new ∙ ap (λ (n : ℕ). n - (length xs + 1) * levelSize q hs) (d .long ∙ l) ∙ sym (length-drop _ first))
         (λ i h. at-drop new _ i ∙ past i ∙ sym (at-drop first _ i)),
   )
@@ -178,4 +147,8 @@ module _ (q : Measures) (hs bs rs ds xs ys cs : List ℕ) (area : ℕ) (g : Give
       past : (i : ℕ) → getD new ((length xs + 1) * levelSize q hs + i) 0 ≡ getD first ((length xs + 1) * levelSize q hs + i) 0
       past i =
           let s = ap (λ (z : ℕ). (length xs + 1) * z) e in
-          d .past _ (omega arith) ∙ o .after _ (omega (arith, next-level (length xs) size))
+          d .past _ (omega arith) ∙ o .after _ (omega (arith, next-level (length xs) size)) ∙ m _ (omega arith)
+
+-- the same in an area of the same length
+pub given-area : (q : Measures) (hs bs rs ds xs ys cs : List ℕ) (area now : ℕ) → Given q hs bs rs ds xs ys cs area → now ≡ area → Given q hs bs rs ds xs ys cs now
+given-area q hs bs rs ds xs ys cs area now g e = rw e g

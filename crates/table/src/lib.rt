@@ -1,15 +1,20 @@
-// The one-sided table in the lent work words, level by level from the last up.
+// The one-sided table in the lent work words: what the whole sheet leads to is marked, then filled level by level from the last up.
 ghost use mathlib.Core.Path.{_≡_};
 ghost use Prim.Native.Nat.{ℕ, _+_, _-_, _*_, _<_, _≤_};
 ghost use lib.ListN.{length, getD, drop};
-ghost use Rattle.strips.specs.Strips.{pointOf};
-ghost use Rattle.entries.specs.Rows.{rowsOf};
+ghost use Rattle.strips.specs.Strips.{stripOf, pointOf};
+ghost use Rattle.optimum.specs.Strips as model;
+ghost use Rattle.entries.specs.Rows as entries;
+ghost use Rattle.entries.specs.Rows.{rowsOf, levelSize, rowIn, Lies, entryBy};
+ghost use Rattle.marks.specs.Marks.{endPlace, endWords, Shaped};
 ghost use Rattle.budgets.specs.Budgets.{Others, Splits};
 ghost use Rattle.arrays.specs.Arrays.{instanceBy, pointsBy};
 ghost use Rattle.optimum.specs.Reached.{TableOf};
-ghost use Rattle.table.specs.Rows.{levelSize, Ready, Filled, Given, LevelRight};
+ghost use Rattle.table.specs.Rows.{Ready, RowFilled, Given, LevelRight, LevelMarked};
 use arrays::Measures;
+use marks::End;
 use strips::Site;
+use strips::Strip;
 
 // How many rows a level has.
 fn rows_of(q: Measures, m: usize) -> usize
@@ -21,7 +26,91 @@ fn rows_of(q: Measures, m: usize) -> usize
     ends * colours * ends * colours
 }
 
-// Fills a level, where the site s comes next, from the level below it.
+// Fills the row of a strip, which begins at the word `at`, if it is marked.
+fn fill_marked(
+    work: &mut [u32],
+    q: Measures,
+    heights: &[u32],
+    bounds: &[u32],
+    parts: &[u8],
+    counts: &[u8],
+    left: &[u8],
+    p: Strip,
+    s: Site,
+    at: usize,
+    low: usize,
+)
+    requires { ⌜ entries.Ready q (now heights) (now bounds) (now parts) (now counts) (now left) (length (now work)) at low (pointOf s) ⌝ }
+    requires { ⌜ Lies (length (now heights)) (q .colours) (stripOf p) ⌝ }
+    ensures { λ _. ⌜ Others (now (work .entry)) (now (work .exit)) at (q .budgets) ⌝ }
+    ensures { λ _. ⌜ (getD (now (work .entry)) at 0 ≡ 1 → (v : ℕ) → v < q .budgets → getD (now (work .exit)) (at + v) 0 ≡ entryBy q (now (heights .entry)) (now (bounds .entry)) (now (parts .entry)) (now (counts .entry)) (now (left .entry)) (rowIn (now (work .entry)) low (length (now (heights .entry))) (q .colours) (q .budgets)) (stripOf p) (pointOf s) v) ⌝ }
+{
+    if work[at] != 1 {
+        return;
+    }
+    entries::fill_row(work, q, heights, bounds, parts, counts, left, p, s, at, low);
+}
+
+// Fills the marked rows below one upper end.
+fn fill_below(
+    work: &mut [u32],
+    q: Measures,
+    heights: &[u32],
+    bounds: &[u32],
+    parts: &[u8],
+    counts: &[u8],
+    left: &[u8],
+    above: End,
+    s: Site,
+    base: usize,
+    low: usize,
+)
+    requires { ⌜ Ready q (now heights) (now bounds) (now parts) (now counts) (now left) (length (now work)) base low (pointOf s) ⌝ }
+    requires { ⌜ (above .slot ≤ length (now heights)) × (above .colour ≤ q .colours) ⌝ }
+    ensures { λ _. ⌜ Others (now (work .entry)) (now (work .exit)) (base + endPlace (q .colours) (above .slot) (above .colour) * endWords q (now (heights .entry))) (endWords q (now (heights .entry))) ⌝ }
+    ensures { λ _. ⌜ ((p : model.Strip) → Shaped (length (now (heights .entry))) (q .colours) p → endPlace (q .colours) (p .a) (p .ca) ≡ endPlace (q .colours) (above .slot) (above .colour) → RowFilled q (now (heights .entry)) (now (bounds .entry)) (now (parts .entry)) (now (counts .entry)) (now (left .entry)) (now (work .entry)) (now (work .exit)) base low (pointOf s) p) ⌝ }
+{
+    let n = q.budgets as usize;
+    let ends = (heights.len() as u32) + 2;
+    let mut p = Strip {
+        a: above.slot,
+        ca: above.colour,
+        b: above.slot + 1,
+        cb: 0,
+    };
+    let mut at = base + entries::row_place(q, heights.len(), p);
+    while p.b < ends {
+        fill_marked(work, q, heights, bounds, parts, counts, left, p, s, at, low);
+        at += n;
+        p = marks::next_below(q.colours, p);
+    }
+}
+
+// The same, if the end is one that a strip may have.
+fn fill_end(
+    work: &mut [u32],
+    q: Measures,
+    heights: &[u32],
+    bounds: &[u32],
+    parts: &[u8],
+    counts: &[u8],
+    left: &[u8],
+    above: End,
+    s: Site,
+    base: usize,
+    low: usize,
+)
+    requires { ⌜ Ready q (now heights) (now bounds) (now parts) (now counts) (now left) (length (now work)) base low (pointOf s) ⌝ }
+    requires { ⌜ (above .slot ≤ length (now heights)) × (above .colour ≤ q .colours) ⌝ }
+    ensures { λ _. ⌜ Others (now (work .entry)) (now (work .exit)) (base + endPlace (q .colours) (above .slot) (above .colour) * endWords q (now (heights .entry))) (endWords q (now (heights .entry))) ⌝ }
+    ensures { λ _. ⌜ ((p : model.Strip) → Shaped (length (now (heights .entry))) (q .colours) p → endPlace (q .colours) (p .a) (p .ca) ≡ endPlace (q .colours) (above .slot) (above .colour) → RowFilled q (now (heights .entry)) (now (bounds .entry)) (now (parts .entry)) (now (counts .entry)) (now (left .entry)) (now (work .entry)) (now (work .exit)) base low (pointOf s) p) ⌝ }
+{
+    if marks::is_upper_end(above) {
+        fill_below(work, q, heights, bounds, parts, counts, left, above, s, base, low);
+    }
+}
+
+// Fills the marked rows of a level, where the site s comes next, from the level below it.
 fn fill_level(
     work: &mut [u32],
     q: Measures,
@@ -35,16 +124,14 @@ fn fill_level(
     low: usize,
 )
     requires { ⌜ Ready q (now heights) (now bounds) (now parts) (now counts) (now left) (length (now work)) base low (pointOf s) ⌝ }
-    ensures { λ _. ⌜ Filled q (now (heights .entry)) (now (bounds .entry)) (now (parts .entry)) (now (counts .entry)) (now (left .entry)) (now (work .entry)) (now (work .exit)) base low (pointOf s) (rowsOf (length (now (heights .entry))) (q .colours)) ⌝ }
+    ensures { λ _. ⌜ Others (now (work .entry)) (now (work .exit)) base (levelSize q (now (heights .entry))) ⌝ }
+    ensures { λ _. ⌜ ((p : model.Strip) → Shaped (length (now (heights .entry))) (q .colours) p → RowFilled q (now (heights .entry)) (now (bounds .entry)) (now (parts .entry)) (now (counts .entry)) (now (left .entry)) (now (work .entry)) (now (work .exit)) base low (pointOf s) p) ⌝ }
 {
-    let n = q.budgets as usize;
-    let rows = rows_of(q, heights.len());
-    let mut r: usize = 0;
-    while r < rows {
-        let at = base + r * n;
-        let p = entries::strip_at(q, heights.len(), r);
-        entries::fill_row(work, q, heights, bounds, parts, counts, left, p, s, at, low);
-        r += 1;
+    let ends = (heights.len() as u32) + 1;
+    let mut above = End { slot: 0, colour: 0 };
+    while above.slot < ends {
+        fill_end(work, q, heights, bounds, parts, counts, left, above, s, base, low);
+        above = marks::next_end(q.colours, above);
     }
 }
 
@@ -81,7 +168,7 @@ fn fill_site(
     requires { ⌜ Splits (now radices) (q .budgets) (now parts) (now counts) ⌝ }
     requires { ⌜ (j < length (now xs)) × (size ≡ levelSize q (now heights)) ⌝ }
     ensures { λ _. ⌜ Others (now (work .entry)) (now (work .exit)) (j * size) size ⌝ }
-    ensures { λ _. ⌜ (LevelRight (instanceBy q (now (heights .entry)) (now (bounds .entry)) (now (radices .entry)) (now (draws .entry))) q (now (heights .entry)) (drop (j + 1) (pointsBy (now (xs .entry)) (now (ys .entry)) (now (cs .entry)))) (now (work .entry)) ((j + 1) * size) → LevelRight (instanceBy q (now (heights .entry)) (now (bounds .entry)) (now (radices .entry)) (now (draws .entry))) q (now (heights .entry)) (drop j (pointsBy (now (xs .entry)) (now (ys .entry)) (now (cs .entry)))) (now (work .exit)) (j * size)) ⌝ }
+    ensures { λ _. ⌜ (LevelMarked (instanceBy q (now (heights .entry)) (now (bounds .entry)) (now (radices .entry)) (now (draws .entry))) q (pointsBy (now (xs .entry)) (now (ys .entry)) (now (cs .entry))) j (now (work .entry)) (j * size) → LevelRight (instanceBy q (now (heights .entry)) (now (bounds .entry)) (now (radices .entry)) (now (draws .entry))) q (pointsBy (now (xs .entry)) (now (ys .entry)) (now (cs .entry))) (j + 1) (now (work .entry)) ((j + 1) * size) → LevelRight (instanceBy q (now (heights .entry)) (now (bounds .entry)) (now (radices .entry)) (now (draws .entry))) q (pointsBy (now (xs .entry)) (now (ys .entry)) (now (cs .entry))) j (now (work .exit)) (j * size)) ⌝ }
 {
     let c = cs[j];
     let s = Site {
@@ -125,7 +212,9 @@ pub fn fill_table(
     let mut parts = [0u8; 4096];
     let mut counts = [0u8; 64];
     budgets::list_splits(radices, q.budgets as usize, &mut parts, &mut counts);
-    let size = rows_of(q, heights.len()) * (q.budgets as usize);
+    let rows = rows_of(q, heights.len());
+    let size = rows * (q.budgets as usize);
+    marks::mark_table(work, q, heights, bounds, xs, ys, cs, rows);
     let mut j = xs.len();
     zero_level(work, j * size, size);
     while 0 < j {

@@ -1,10 +1,7 @@
-use native.Mathlib.Nat.{mul-le-mul}
 use Rattle.strips.specs.Strips.{pointOf}
-use Rattle.entries.specs.Rows.{rowsOf, stripOfRow, Lies}
-use Rattle.entries.proofs.Places.{rows-few}
-use Rattle.table.specs.Rows.{Ready, Filled}
-use Rattle.table.proofs.Filling.{strip-lies, row-room, filled-none, filled-more}
-use mathlib.Core.Path.{subst⁻¹}
+use Rattle.marks.specs.Marks.{endPlace}
+use Rattle.marks.proofs.Followed.{later-end, slot-low}
+use Rattle.table.proofs.Filling.{Passed, passed-none, passed-more, passed-all}
 use mathlib.Core.Path.{_≡_, refl, ap, sym, _∙_}
 use mathlib.Core.List.{List, [], _∷_, _++_}
 use mathlib.Core.Logic.{⊎-elim}
@@ -18,100 +15,72 @@ use Rattle.table.proofs.fill_level.Statement.{statement}
 use Rattle.table.proofs.fill_level.Tie as tie
 use Rattle.table.proofs.fill_level.Reads as reads
 use Rattle.table.proofs.fill_level.Lts as lts
-use Rattle.entries.proofs.fill_row.Reads as fill-row-reads
-use Rattle.entries.proofs.strip_at.Reads as strip-at-reads
-use Rattle.table.proofs.rows_of.Reads as rows-of-reads
+use Rattle.marks.proofs.next_end.Reads as next-end-reads
+use Rattle.table.proofs.fill_end.Reads as fill-end-reads
 
 abbrev Inv-loop : tie.InvT-loop
-Inv-loop work₀ q heights bounds parts counts left s base low n rows r₀ work r = (r ≤ rows) × (length work ≡ length work₀) × Filled q heights bounds parts counts left work₀ work base low (pointOf s) r
+Inv-loop work₀ q heights bounds parts counts left s base low ends above₀ work above = (above .colour ≤ q .colours) × (endPlace (q .colours) (above .slot) (above .colour) ≤ endPlace (q .colours) (length heights + 1) 0) × (length work ≡ length work₀) × Passed q heights bounds parts counts left base low (pointOf s) work₀ work (endPlace (q .colours) (above .slot) (above .colour))
 
 abbrev μ-loop : tie.MeasureT-loop
-μ-loop work₀ q heights bounds parts counts left s base low n rows r₀ work r = rows - r
+μ-loop work₀ q heights bounds parts counts left s base low ends above₀ work above = endPlace (q .colours) (length heights + 1) 0 - endPlace (q .colours) (above .slot) (above .colour)
 
--- src/lib.rt:26:13
-cast-n : tie.Need-cast-n Inv-loop μ-loop
-cast-n c = search needs
+-- src/lib.rt:130:17
+cast-ends : tie.Need-cast-ends Inv-loop μ-loop
+cast-ends c = search needs
 
--- src/lib.rt:27:9
-rows-of-requires : tie.Need-rows-of-requires Inv-loop μ-loop
-rows-of-requires c κs =
-    (c .before .before .before .before .before .before .before .pre .framed .slotsFew, c .before .before .before .before .before .before .before .pre .framed .coloursFew)
+-- src/lib.rt:130:16
+add-ends : tie.Need-add-ends Inv-loop μ-loop
+add-ends c = search needs
 
--- src/lib.rt:29:5
+-- src/lib.rt:132:5
 loop-holds : tie.Need-loop-holds Inv-loop μ-loop
 loop-holds c =
-    (omega arith, refl, filled-none _ _ _ _ _ _ _ _ _ _)
+    let a = c .before .before .before .before .before .before .args in
+    (omega arith, slot-low (a .q .colours) 0 (length (a .heights .now) + 1) 0 (omega arith), refl, passed-none (a .q) (a .heights .now) (a .bounds .now) (a .parts .now) (a .counts .now) (a .left .now) (a .base) (a .low) (pointOf (a .s)) (a .work .now) _ (omega arith))
 
--- src/lib.rt:30:25
-mul-at : tie.Need-mul-at Inv-loop μ-loop
-mul-at c =
-    let a = c .before .before .before .before .before .before .before .before .before .before .args in
-    let g = c .before .before .before .before .before .before .before .before .before .before .pre in
-    let l : c .before .loop .r < rowsOf (length (a .heights .now)) (a .q .colours) = omega (arith, c .loop-test .taken, c .before .before .rows-of .ensures) in
-    omega (arith, row-room _ _ (a .q .budgets) l, g .apart, c .before .before .before .before .before .before .before .before .before .before .fits)
+-- src/lib.rt:133:9
+fill-end-requires : tie.Need-fill-end-requires Inv-loop μ-loop
+fill-end-requires c κs =
+    let p = c .before .before .before .before .before .before .before .before .before .before .pre in
+    let l = c .before .before .before .loop in
+    (rw (l .inv .2) p, (omega (arith, c .before .if1 .taken), l .inv .0))
 
--- src/lib.rt:30:18
-add-at : tie.Need-add-at Inv-loop μ-loop
-add-at c =
-    let a = c .before .before .before .before .before .before .before .before .before .before .args in
-    let g = c .before .before .before .before .before .before .before .before .before .before .pre in
-    let l : c .before .loop .r < rowsOf (length (a .heights .now)) (a .q .colours) = omega (arith, c .loop-test .taken, c .before .before .rows-of .ensures) in
-    omega (arith, row-room _ _ (a .q .budgets) l, g .apart, c .before .before .before .before .before .before .before .before .before .before .fits)
+-- src/lib.rt:134:9
+next-end-requires : tie.Need-next-end-requires Inv-loop μ-loop
+next-end-requires c κs =
+    let p = c .before .before .before .before .before .before .before .before .before .before .before .before .before .pre in
+    let l = c .before .before .before .before .before .before .loop in
+    (p .framed .coloursFew, omega (arith, c .before .before .before .before .if1 .taken, p .framed .slotsFew), l .inv .0)
 
--- src/lib.rt:31:13
-strip-at-requires : tie.Need-strip-at-requires Inv-loop μ-loop
-strip-at-requires c κs =
-    let g = c .before .before .before .before .before .before .before .before .before .before .pre in
-    (g .framed .slotsFew, g .framed .coloursFew, omega (arith, c .loop-test, c .before .before .rows-of .ensures, rows-few _ _ (g .framed .slotsFew) (g .framed .coloursFew)))
-
--- src/lib.rt:32:9
-fill-row-requires : tie.Need-fill-row-requires Inv-loop μ-loop
-fill-row-requires c κs =
-    let a = c .before .before .before .before .before .before .before .before .before .before .before .before .args in
-    let g = c .before .before .before .before .before .before .before .before .before .before .before .before .pre in
-    let l : c .before .before .before .loop .r < rowsOf (length (a .heights .now)) (a .q .colours) = omega (arith, c .before .before .loop-test .taken, c .before .before .before .before .rows-of .ensures) in (
-      record {
-        framed = g .framed;
-        listed = g .listed;
-        leftLong = g .leftLong;
-        stands = g .stands;
-        apart = omega (arith, row-room _ _ (a .q .budgets) l, g .apart);
-        within = omega (arith, g .within, c .before .before .before .loop .inv .1);
-      },
-      subst⁻¹ (Lies _ _) (c .before .strip-at .ensures) (strip-lies _ _ _ l),
-    )
-
--- src/lib.rt:33:9
-add-r : tie.Need-add-r Inv-loop μ-loop
-add-r c = search needs
-
--- src/lib.rt:29:5
+-- src/lib.rt:132:5
 loop-less : tie.Need-loop-less Inv-loop μ-loop
-loop-less c = search needs
+loop-less c =
+    let l = c .before .before .before .before .before .before .before .loop in
+    omega (arith, c .next-end .ensures .1, later-end (c .before .before .before .before .before .before .before .before .before .before .before .before .before .before .args .q .colours) (l .above .slot) (l .above .colour) (length (c .before .before .before .before .before .before .before .before .before .before .before .before .before .before .args .heights .now) + 1) 0 (l .inv .0) (omega (arith, c .before .before .before .before .before .if1 .taken)))
 
--- src/lib.rt:29:5
+-- src/lib.rt:132:5
 loop-again : tie.Need-loop-again Inv-loop μ-loop
 loop-again c =
-    let a = c .before .before .before .before .before .before .before .before .before .before .before .before .before .before .before .args in
-    let g = c .before .before .before .before .before .before .before .before .before .before .before .before .before .before .before .pre in
-    let l : c .before .before .before .before .before .before .loop .r < rowsOf (length (a .heights .now)) (a .q .colours) = omega (arith, c .before .before .before .before .before .loop-test .taken, c .before .before .before .before .before .before .before .rows-of .ensures) in
-    let f = c .before .before .fill-row .ensures in (
-      omega arith,
-      c .before .before .fill-row .kept .0 ∙ c .before .before .before .before .before .before .loop .inv .1,
-      filled-more _ _ _ _ _ _ _ _ _ _ _ _ _ (omega (arith, row-room _ _ (a .q .budgets) l, g .apart)) (c .before .before .before .before .before .before .loop .inv .2) (f .0) (rw (← (c .before .before .before .before .strip-at .ensures)) (f .1)),
-    )
+    let p = c .before .before .before .before .before .before .before .before .before .before .before .before .before .before .pre in
+    let a = c .before .before .before .before .before .before .before .before .before .before .before .before .before .before .args in
+    let l = c .before .before .before .before .before .before .before .loop in
+    let f = c .before .before .before .fill-end in
+    let e = c .next-end .ensures in
+    let z = later-end (a .q .colours) (l .above .slot) (l .above .colour) (length (a .heights .now) + 1) 0 (l .inv .0) (omega (arith, c .before .before .before .before .before .if1 .taken)) in
+    (e .0, omega (arith, z, e .1), f .kept .0 ∙ l .inv .2,
+      rw (e .1) (passed-more (a .q) (a .heights .now) (a .bounds .now) (a .parts .now) (a .counts .now) (a .left .now) (a .base) (a .low) (pointOf (a .s)) _ (l .work) (f .last .0) (l .above .slot) (l .above .colour) (p .apart) (omega (arith, c .before .before .before .before .before .if1 .taken)) (l .inv .0) (l .inv .3) (f .ensures .0) (f .ensures .1)))
 
--- src/lib.rt:22:1
+-- src/lib.rt:114:1
 same-length : tie.Need-same-length Inv-loop μ-loop
 same-length c =
-    c .before .loop .inv .1
+    c .before .before .loop .inv .2
 
--- src/lib.rt:22:1
+-- src/lib.rt:114:1
 returns : tie.Need-returns Inv-loop μ-loop
 returns c =
-    let l = c .before .loop in
-    let e : l .r ≡ rowsOf (length (c .before .before .before .before .before .before .before .before .before .before .args .heights .now)) (c .before .before .before .before .before .before .before .before .before .before .args .q .colours) = omega (arith, l .inv .0, c .loop-test, c .before .before .rows-of .ensures) in
-    rw e at (l .inv .2)
+    let l = c .before .before .loop in
+    let a = c .before .before .before .before .before .before .before .before .before .args in
+    passed-all (a .q) (a .heights .now) (a .bounds .now) (a .parts .now) (a .counts .now) (a .left .now) (a .base) (a .low) (pointOf (a .s)) (a .work .now) (l .work) _ _ (omega (arith, c .if1 .left)) (l .inv .1) (l .inv .3)
 
 pub fill-level-spec : {M : Type 1} → statement M
 fill-level-spec =
@@ -119,14 +88,11 @@ fill-level-spec =
     (tie.spec
     Inv-loop
     μ-loop
-    cast-n
-    rows-of-requires
+    cast-ends
+    add-ends
     loop-holds
-    mul-at
-    add-at
-    strip-at-requires
-    fill-row-requires
-    add-r
+    fill-end-requires
+    next-end-requires
     loop-less
     loop-again
     same-length

@@ -1,11 +1,8 @@
 use Rattle.table.proofs.Filling.{others-of}
-use mathlib.Core.Path.{subst⁻¹}
 use Rattle.strips.specs.Strips.{pointOf}
-use Rattle.optimum.specs.Strips.{Point}
 use Rattle.arrays.specs.Arrays.{instanceBy, pointsBy}
-use Rattle.table.specs.Rows.{levelSize, Given, Filled, LevelRight}
-use Rattle.table.proofs.Places.{next-level, level-room, place-small}
-use Rattle.table.proofs.Right.{site-right}
+use Rattle.marks.proofs.Levels.{next-level, level-room, place-small}
+use Rattle.table.proofs.Right.{level-right}
 use Rattle.budgets.specs.Budgets.{Others}
 use mathlib.Core.Path.{_≡_, refl, ap, sym, _∙_}
 use mathlib.Core.List.{List, [], _∷_, _++_}
@@ -73,7 +70,7 @@ slice-aggregate-fill-level c = search needs
 mul-fill-level : tie.Need-mul-fill-level
 mul-fill-level c =
     let p = c .before .before .before .before .before .before .before .before .before .before .before .before .before .before .before .before .before .before .before .before .pre in
-    omega (arith, place-small _ _ _ (p .0 .framed) (c .before .before .before .before .before .before .before .before .before .before .before .before .before .before .before .before .before .before .before .before .args .j) _ (omega (arith, p .1 .1 .0, p .0 .sitesFew)) (p .1 .1 .1))
+    omega (arith, place-small _ _ _ (p .0 .framed) (c .before .before .before .before .before .before .before .before .before .before .before .before .before .before .before .before .before .before .before .before .args .j) _ (omega (arith, p .1 .1 .0, p .0 .sites .sitesFew)) (p .1 .1 .1))
 
 -- src/lib.rt:66:78
 add-fill-level : tie.Need-add-fill-level
@@ -83,7 +80,7 @@ add-fill-level c = search needs
 mul-fill-level-2 : tie.Need-mul-fill-level-2
 mul-fill-level-2 c =
     let p = c .before .before .before .before .before .before .before .before .before .before .before .before .before .before .before .before .before .before .before .before .pre in
-    omega (arith, place-small _ _ _ (p .0 .framed) (c .before .before .before .before .before .before .before .before .before .before .before .before .before .before .before .before .before .before .before .before .args .j + 1) _ (omega (arith, p .1 .1 .0, p .0 .sitesFew)) (p .1 .1 .1))
+    omega (arith, place-small _ _ _ (p .0 .framed) (c .before .before .before .before .before .before .before .before .before .before .before .before .before .before .before .before .before .before .before .before .args .j + 1) _ (omega (arith, p .1 .1 .0, p .0 .sites .sitesFew)) (p .1 .1 .1))
 
 -- src/lib.rt:66:5
 fill-level-requires : tie.Need-fill-level-requires
@@ -95,7 +92,7 @@ fill-level-requires c κs =
       framed = p .0 .framed;
       listed = p .1 .0 .within;
       leftLong = omega (arith, p .0 .framed .budgetsFew, c .before .before .before .list-left .kept);
-      stands = record { colourLow = p .0 .csLow (a .j) (p .1 .1 .0); yLow = p .0 .ysLow (a .j) (p .1 .1 .0) };
+      stands = record { colourLow = p .0 .sites .csLow (a .j) (p .1 .1 .0); yLow = p .0 .sites .ysLow (a .j) (p .1 .1 .0) };
       apart = omega (arith, next-level (a .j) (a .size), p .1 .1 .1);
       within = omega (arith, r .1, p .1 .1 .1);
     }
@@ -110,8 +107,8 @@ returns c =
     let a = c .before .before .before .before .before .before .before .before .before .before .before .before .before .before .before .before .before .before .before .before .before .before .before .args in
     let p = c .before .before .before .before .before .before .before .before .before .before .before .before .before .before .before .before .before .before .before .before .before .before .before .pre in
     let f = c .before .before .fill-level .ensures in (
-      others-of _ _ _ _ _ (p .1 .1 .1) (f .others),
-      λ h. site-right _ _ _ _ _ _ _ _ _ (p .0) _ _ _ _ _ (a .j) _ _ (p .1 .0) (p .1 .1 .0) (rw (← (c .before .before .before .before .before .before .before .before .before .get .ensures)) (c .before .before .before .before .before .before .list-left .ensures)) f h,
+      others-of _ _ _ _ _ (p .1 .1 .1) (f .0),
+      λ m h. level-right (a .q) (a .heights .now) (a .bounds .now) (a .radices .now) (a .draws .now) (a .xs .now) (a .ys .now) (a .cs .now) _ (p .0) (a .work .now) (c .before .before .fill-level .last .0) _ _ _ (a .j) _ _ (p .1 .0) (p .1 .1 .0) (rw (← (c .before .before .before .before .before .before .before .before .before .get .ensures)) (c .before .before .before .before .before .before .list-left .ensures)) (f .1) m h,
     )
 
 pub fill-site-spec : {M : Type 1} → statement M

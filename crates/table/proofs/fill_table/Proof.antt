@@ -1,6 +1,7 @@
-use Rattle.table.specs.Rows.{levelSize, Given}
-use Rattle.table.proofs.Places.{next-level, level-room, level-small, place-small}
-use Rattle.table.proofs.Right.{Done, done-last, done-more, done-all}
+use Rattle.entries.specs.Rows.{levelSize}
+use Rattle.marks.proofs.Levels.{level-small, place-small, last-room}
+use Rattle.table.specs.Rows.{Given}
+use Rattle.table.proofs.Right.{Done, done-last, done-more, done-all, given-area}
 use mathlib.Core.Path.{_≡_, refl, ap, sym, _∙_}
 use mathlib.Core.List.{List, [], _∷_, _++_}
 use mathlib.Core.Logic.{⊎-elim}
@@ -15,129 +16,127 @@ use Rattle.table.proofs.fill_table.Tie as tie
 use Rattle.table.proofs.fill_table.Reads as reads
 use Rattle.table.proofs.fill_table.Lts as lts
 use Rattle.budgets.proofs.list_splits.Reads as list-splits-reads
+use Rattle.marks.proofs.mark_table.Reads as mark-table-reads
 use Rattle.table.proofs.fill_site.Reads as fill-site-reads
 use Rattle.table.proofs.rows_of.Reads as rows-of-reads
 use Rattle.table.proofs.zero_level.Reads as zero-level-reads
 
 abbrev Inv-loop : tie.InvT-loop
-Inv-loop work₀ q heights bounds radices draws xs ys cs parts counts size j₀ work j = (size ≡ levelSize q heights) × (j ≤ length xs) × (length work ≡ length work₀) × ((area : ℕ) (g : Given q heights bounds radices draws xs ys cs area) → Done q heights bounds radices draws xs ys cs area g work₀ work size j)
+Inv-loop work₀ q heights bounds radices draws xs ys cs parts counts rows size j₀ work j = (size ≡ levelSize q heights) × (j ≤ length xs) × (length work ≡ length work₀) × ((area : ℕ) (g : Given q heights bounds radices draws xs ys cs area) → Done q heights bounds radices draws xs ys cs area g work₀ work size j)
 
 abbrev μ-loop : tie.MeasureT-loop
-μ-loop work₀ q heights bounds radices draws xs ys cs parts counts size j₀ work j = j
+μ-loop work₀ q heights bounds radices draws xs ys cs parts counts rows size j₀ work j = j
 
--- src/lib.rt:77:35
+-- src/lib.rt:214:35
 cast-list-splits : tie.Need-cast-list-splits Inv-loop μ-loop
 cast-list-splits c = search needs
 
--- src/lib.rt:77:55
+-- src/lib.rt:214:55
 slice-aggregate-list-splits : tie.Need-slice-aggregate-list-splits Inv-loop μ-loop
 slice-aggregate-list-splits c = search needs
 
--- src/lib.rt:77:67
+-- src/lib.rt:214:67
 slice-aggregate-list-splits-2 : tie.Need-slice-aggregate-list-splits-2 Inv-loop μ-loop
 slice-aggregate-list-splits-2 c = search needs
 
--- src/lib.rt:77:5
+-- src/lib.rt:214:5
 list-splits-requires : tie.Need-list-splits-requires Inv-loop μ-loop
 list-splits-requires c κs =
     let g = c .before .before .before .before .before .before .before .before .before .before .before .pre in (g .divides, (g .framed .budgetsFew, refl, refl))
 
--- src/lib.rt:78:16
+-- src/lib.rt:215:9
 rows-of-requires : tie.Need-rows-of-requires Inv-loop μ-loop
 rows-of-requires c κs =
     let g = c .before .before .before .before .before .before .before .before .before .before .before .before .before .before .pre in (g .framed .slotsFew, g .framed .coloursFew)
 
--- src/lib.rt:78:45
+-- src/lib.rt:216:24
 cast-size : tie.Need-cast-size Inv-loop μ-loop
 cast-size c = search needs
 
--- src/lib.rt:78:16
+-- src/lib.rt:216:16
 mul-size : tie.Need-mul-size Inv-loop μ-loop
 mul-size c =
     let g = c .before .before .before .before .before .before .before .before .before .before .before .before .before .before .before .before .pre in
-    omega (arith, level-small _ _ _ (g .framed), c .before .rows-of .ensures, ap (λ (z : ℕ). z * c .before .before .before .before .before .before .before .before .before .before .before .before .before .before .before .before .args .q .budgets) (c .before .rows-of .ensures))
+    omega (arith, level-small _ _ _ (g .framed), ap (λ (z : ℕ). z * c .before .before .before .before .before .before .before .before .before .before .before .before .before .before .before .before .args .q .budgets) (c .before .rows-of .ensures))
 
--- src/lib.rt:80:22
+-- src/lib.rt:217:5
+mark-table-requires : tie.Need-mark-table-requires Inv-loop μ-loop
+mark-table-requires c κs =
+    let g = c .before .before .before .before .before .before .before .before .before .before .before .before .before .before .before .before .before .pre in ((g .framed, g .sites), (c .before .before .rows-of .ensures, g .within))
+
+-- src/lib.rt:219:22
 mul-zero-level : tie.Need-mul-zero-level Inv-loop μ-loop
 mul-zero-level c =
-    let g = c .before .before .before .before .before .before .before .before .before .before .before .before .before .before .before .before .before .pre in
-    omega (arith, place-small _ _ _ (g .framed) (length (c .before .before .before .before .before .before .before .before .before .before .before .before .before .before .before .before .before .args .xs .now)) _ (omega (arith, g .sitesFew)) (ap (λ (z : ℕ). z * c .before .before .before .before .before .before .before .before .before .before .before .before .before .before .before .before .before .args .q .budgets) (c .before .before .rows-of .ensures)))
+    let g = c .before .before .before .before .before .before .before .before .before .before .before .before .before .before .before .before .before .before .before .before .before .pre in
+    omega (arith, place-small _ _ _ (g .framed) (length (c .before .before .before .before .before .before .before .before .before .before .before .before .before .before .before .before .before .before .before .before .before .args .xs .now)) _ (omega (arith, g .sites .sitesFew)) (ap (λ (z : ℕ). z * c .before .before .before .before .before .before .before .before .before .before .before .before .before .before .before .before .before .before .before .before .before .args .q .budgets) (c .before .before .before .before .before .before .rows-of .ensures)))
 
--- src/lib.rt:80:5
+-- src/lib.rt:219:5
 zero-level-requires : tie.Need-zero-level-requires Inv-loop μ-loop
 zero-level-requires c κs =
-    let g = c .before .before .before .before .before .before .before .before .before .before .before .before .before .before .before .before .before .pre in
-    let e = ap (λ (z : ℕ). z * c .before .before .before .before .before .before .before .before .before .before .before .before .before .before .before .before .before .args .q .budgets) (c .before .before .rows-of .ensures) in
-    let n = length (c .before .before .before .before .before .before .before .before .before .before .before .before .before .before .before .before .before .args .xs .now) in
-    omega (arith, g .within, next-level n (levelSize (c .before .before .before .before .before .before .before .before .before .before .before .before .before .before .before .before .before .args .q) (c .before .before .before .before .before .before .before .before .before .before .before .before .before .before .before .before .before .args .heights .now)), e, ap (λ (z : ℕ). n * z) e)
+    let g = c .before .before .before .before .before .before .before .before .before .before .before .before .before .before .before .before .before .before .before .before .before .pre in
+    let a = c .before .before .before .before .before .before .before .before .before .before .before .before .before .before .before .before .before .before .before .before .before .args in
+    last-room (length (a .xs .now)) _ _ _ _ (ap (λ (z : ℕ). z * a .q .budgets) (c .before .before .before .before .before .before .rows-of .ensures)) (g .within) (c .before .before .before .mark-table .kept .0)
 
--- src/lib.rt:81:5
+-- src/lib.rt:220:5
 loop-holds : tie.Need-loop-holds Inv-loop μ-loop
 loop-holds c =
-    let e = ap (λ (z : ℕ). z * c .before .before .before .before .before .before .before .before .before .before .before .before .before .before .before .before .before .before .before .before .args .q .budgets) (c .before .before .before .before .before .rows-of .ensures) in
-    (e, omega arith, refl, λ area g. done-last _ _ _ _ _ _ _ _ area g _ _ e (c .before .before .zero-level .ensures .1))
+    let a = c .before .before .before .before .before .before .before .before .before .before .before .before .before .before .before .before .before .before .before .before .before .before .before .before .args in
+    let e = ap (λ (z : ℕ). z * a .q .budgets) (c .before .before .before .before .before .before .before .before .before .rows-of .ensures) in
+    let z = c .before .before .zero-level .ensures in
+    (e, omega arith, refl, λ area g. done-last (a .q) (a .heights .now) (a .bounds .now) (a .radices .now) (a .draws .now) (a .xs .now) (a .ys .now) (a .cs .now) area g (c .before .before .before .before .before .before .mark-table .last .0) (c .before .before .zero-level .last .0) _ e (c .before .before .before .before .before .before .mark-table .ensures .0) (z .0) (z .1))
 
--- src/lib.rt:82:9
+-- src/lib.rt:221:9
 sub-j : tie.Need-sub-j Inv-loop μ-loop
 sub-j c = search needs
 
--- src/lib.rt:83:61
+-- src/lib.rt:229:13
 slice-aggregate-fill-site : tie.Need-slice-aggregate-fill-site Inv-loop μ-loop
 slice-aggregate-fill-site c = search needs
 
--- src/lib.rt:83:69
+-- src/lib.rt:230:13
 slice-aggregate-fill-site-2 : tie.Need-slice-aggregate-fill-site-2 Inv-loop μ-loop
 slice-aggregate-fill-site-2 c = search needs
 
--- src/lib.rt:83:9
+-- src/lib.rt:222:9
 fill-site-requires : tie.Need-fill-site-requires Inv-loop μ-loop
 fill-site-requires c κs =
-    let a = c .before .before .before .before .before .before .before .before .before .before .before .before .before .before .before .before .before .before .before .before .before .before .before .before .before .args in
-    let p = c .before .before .before .before .before .before .before .before .before .before .before .before .before .before .before .before .before .before .before .before .before .before .before .before .before .pre in
+    let p = c .before .before .before .before .before .before .before .before .before .before .before .before .before .before .before .before .before .before .before .before .before .before .before .before .before .before .before .before .before .pre in
     let l = c .before .before .before .before .loop in (
-      record {
-        framed = p .framed;
-        rising = p .rising;
-        divides = p .divides;
-        drawn = p .drawn;
-        sitesFew = p .sitesFew;
-        ysLong = p .ysLong;
-        csLong = p .csLong;
-        ysLow = p .ysLow;
-        csLow = p .csLow;
-        within = omega (arith, p .within, l .inv .2, c .before .before .before .before .before .before .before .zero-level .kept);
-      },
-      (c .before .before .before .before .before .before .before .before .before .before .before .before .before .list-splits .ensures, (omega (arith, c .before .before .before .loop-test, l .inv .1), l .inv .0)),
+      given-area _ _ _ _ _ _ _ _ _ _ p (l .inv .2 ∙ c .before .before .before .before .before .before .before .zero-level .kept .0 ∙ c .before .before .before .before .before .before .before .before .before .before .before .mark-table .kept .0),
+      (c .before .before .before .before .before .before .before .before .before .before .before .before .before .before .before .before .before .list-splits .ensures, (omega (arith, c .before .before .before .loop-test .taken, l .inv .1), l .inv .0)),
     )
 
--- src/lib.rt:81:5
+-- src/lib.rt:220:5
 loop-less : tie.Need-loop-less Inv-loop μ-loop
 loop-less c = search needs
 
--- src/lib.rt:81:5
+-- src/lib.rt:220:5
 loop-again : tie.Need-loop-again Inv-loop μ-loop
 loop-again c =
-    let p = c .before .before .before .before .before .before .before .before .before .before .before .before .before .before .before .before .before .before .before .before .before .before .before .before .before .before .before .before .pre in
     let l = c .before .before .before .before .before .before .before .loop in
-    let f = c .before .before .fill-site .ensures in (
+    let a = c .before .before .before .before .before .before .before .before .before .before .before .before .before .before .before .before .before .before .before .before .before .before .before .before .before .before .before .before .before .before .before .before .args in
+    let f = c .before .before .fill-site in (
       l .inv .0,
       omega (arith, l .inv .1),
-      c .before .before .fill-site .kept .0 ∙ l .inv .2,
-      λ area g. done-more _ _ _ _ _ _ _ _ area g _ _ _ _ (l .j) _ (l .inv .0) (omega (arith, c .before .before .before .before .before .before .loop-test)) (l .inv .1) (c .before .before .fill-site .kept .0) (f .0) (f .1) (l .inv .3 area g),
+      f .kept .0 ∙ l .inv .2,
+      λ area g. done-more (a .q) (a .heights .now) (a .bounds .now) (a .radices .now) (a .draws .now) (a .xs .now) (a .ys .now) (a .cs .now) area g _ (l .work) (f .last .0) _ (l .j) _ (l .inv .0) (omega (arith, c .before .before .before .before .before .before .loop-test .taken)) (l .inv .1) (f .kept .0) (f .ensures .0) (f .ensures .1) (l .inv .3 area g),
     )
 
--- src/lib.rt:70:1
+-- src/lib.rt:197:1
 same-length : tie.Need-same-length Inv-loop μ-loop
 same-length c =
-    c .before .loop .inv .2 ∙ c .before .before .before .before .zero-level .kept .0
+    c .before .loop .inv .2 ∙ c .before .before .before .before .zero-level .kept .0 ∙ c .before .before .before .before .before .before .before .before .mark-table .kept .0
 
--- src/lib.rt:70:1
+-- src/lib.rt:197:1
 returns : tie.Need-returns Inv-loop μ-loop
 returns c =
-    let p = c .before .before .before .before .before .before .before .before .before .before .before .before .before .before .before .before .before .before .before .before .before .before .pre in
+    let p = c .before .before .before .before .before .before .before .before .before .before .before .before .before .before .before .before .before .before .before .before .before .before .before .before .before .before .pre in
+    let a = c .before .before .before .before .before .before .before .before .before .before .before .before .before .before .before .before .before .before .before .before .before .before .before .before .before .before .args in
     let l = c .before .loop in
-    let z : l .j ≡ 0 = omega (arith, c .loop-test) in
-    done-all _ _ _ _ _ _ _ _ _ p _ _ _ _ (l .inv .0) (c .before .before .before .before .zero-level .kept .0) (c .before .before .before .before .zero-level .ensures .0) (rw z at (l .inv .3 _ p))
+    let z : l .j ≡ 0 = omega (arith, c .loop-test .left) in
+    let m = c .before .before .before .before .before .before .before .before .mark-table in
+    let o = c .before .before .before .before .zero-level in
+    done-all (a .q) (a .heights .now) (a .bounds .now) (a .radices .now) (a .draws .now) (a .xs .now) (a .ys .now) (a .cs .now) _ p (a .work .now) (m .last .0) (o .last .0) (l .work) _ (l .inv .0) (o .kept .0 ∙ m .kept .0) (m .ensures .1) (o .ensures .0) (rw z at (l .inv .3 _ p))
 
 pub fill-table-spec : {M : Type 1} → statement M
 fill-table-spec =
@@ -152,6 +151,7 @@ fill-table-spec =
     rows-of-requires
     cast-size
     mul-size
+    mark-table-requires
     mul-zero-level
     zero-level-requires
     loop-holds

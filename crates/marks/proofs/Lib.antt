@@ -1,0 +1,6 @@
+mod Marking
+pub mod Asked
+pub mod Followed
+pub mod Levels
+pub mod Points
+pub mod Reach

@@ -1,0 +1,90 @@
+use lib.Seq.{getD-set-other}
+use Rattle.marks.proofs.Levels.{row-room}
+use mathlib.Core.Path.{_≡_, refl, ap, sym, _∙_}
+use mathlib.Core.List.{List, [], _∷_, _++_}
+use mathlib.Core.Logic.{⊎-elim}
+use Prim.Native.Nat.{ℕ, zero, suc, _+_, _-_, _*_, _<_, _≤_}
+use native.Mathlib.Omega.{arith}
+use native.Mathlib.Numerals.{add-one}
+use lib.ListN.{length, getD, take, drop, set, length-set}
+use borrow.Author.Tests.{eq-eqb, ne-eqb, lt-ltb, le-ltb, le-leb, lt-leb}
+use borrow.Author.Needs.{needs}
+use Rattle.marks.proofs.clear_marks.Statement.{statement}
+use Rattle.marks.proofs.clear_marks.Tie as tie
+use Rattle.marks.proofs.clear_marks.Reads as reads
+use Rattle.marks.proofs.clear_marks.Lts as lts
+
+abbrev Inv-loop : tie.InvT-loop
+Inv-loop work₀ rows n at₀ r₀ work at r = (r ≤ rows) × (at ≡ r * n) × (length work ≡ length work₀) × ((i : ℕ) → rows * n ≤ i → getD work i 0 ≡ getD work₀ i 0)
+
+abbrev μ-loop : tie.MeasureT-loop
+μ-loop work₀ rows n at₀ r₀ work at r = rows - r
+
+-- src/lib.rt:261:5
+loop-holds : tie.Need-loop-holds Inv-loop μ-loop
+loop-holds c =
+    (omega arith, omega arith, refl, λ i h. refl)
+
+-- src/lib.rt:262:9
+mul-work : tie.Need-mul-work Inv-loop μ-loop
+mul-work c =
+    let l = c .before .loop in
+    let p = c .before .before .pre in
+    omega (arith, l .inv .1, l .inv .2, p .0, p .1, row-room (l .r) (c .before .before .args .rows) (c .before .before .args .n) (c .loop-test .taken))
+
+-- src/lib.rt:262:9
+slice-write-work : tie.Need-slice-write-work Inv-loop μ-loop
+slice-write-work c =
+    let l = c .before .loop in
+    let p = c .before .before .pre in
+    omega (arith, l .inv .1, l .inv .2, p .0, p .1, row-room (l .r) (c .before .before .args .rows) (c .before .before .args .n) (c .loop-test .taken))
+
+-- src/lib.rt:263:9
+add-at : tie.Need-add-at Inv-loop μ-loop
+add-at c =
+    let l = c .before .loop in
+    let p = c .before .before .pre in
+    omega (arith, l .inv .1, p .0, row-room (l .r) (c .before .before .args .rows) (c .before .before .args .n) (c .loop-test .taken))
+
+-- src/lib.rt:264:9
+add-r : tie.Need-add-r Inv-loop μ-loop
+add-r c = search needs
+
+-- src/lib.rt:261:5
+loop-less : tie.Need-loop-less Inv-loop μ-loop
+loop-less c = search needs
+
+-- src/lib.rt:261:5
+loop-again : tie.Need-loop-again Inv-loop μ-loop
+loop-again c =
+    let l = c .before .loop in
+    let a = c .before .before .args in
+    let k = row-room (l .r) (a .rows) (a .n) (c .loop-test .taken) in
+    (omega (arith, c .loop-test .taken), ap (λ (z : ℕ). z + a .n) (l .inv .1) ∙ omega arith, simp length-set (l .inv .2),
+      λ i h. getD-set-other (l .work) (l .at) i 0 0 (λ (e : i ≡ l .at). omega (arith, l .inv .1, k, c .before .before .pre .1)) ∙ l .inv .3 i h)
+
+-- src/lib.rt:255:1
+same-length : tie.Need-same-length Inv-loop μ-loop
+same-length c =
+    c .before .loop .inv .2
+
+-- src/lib.rt:255:1
+returns : tie.Need-returns Inv-loop μ-loop
+returns c =
+    c .before .loop .inv .3
+
+pub clear-marks-spec : {M : Type 1} → statement M
+clear-marks-spec =
+    tie.close
+    (tie.spec
+    Inv-loop
+    μ-loop
+    loop-holds
+    mul-work
+    slice-write-work
+    add-at
+    add-r
+    loop-less
+    loop-again
+    same-length
+    returns)

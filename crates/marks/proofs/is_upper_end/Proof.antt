@@ -1,0 +1,29 @@
+use Rattle.marks.specs.Marks.{upperEnd}
+use mathlib.Core.Path.{_≡_, refl, ap, sym, _∙_}
+use mathlib.Core.List.{List, [], _∷_, _++_}
+use mathlib.Core.Logic.{⊎-elim}
+use Prim.Native.Nat.{ℕ, zero, suc, _+_, _-_, _*_, _<_, _≤_}
+use native.Mathlib.Omega.{arith}
+use native.Mathlib.Numerals.{add-one}
+use lib.ListN.{length, getD, take, drop, set, length-set}
+use borrow.Author.Tests.{eq-eqb, ne-eqb, lt-ltb, le-ltb, le-leb, lt-leb}
+use borrow.Author.Needs.{needs}
+use Rattle.marks.proofs.is_upper_end.Statement.{statement}
+use Rattle.marks.proofs.is_upper_end.Tie as tie
+use Rattle.marks.proofs.is_upper_end.Reads as reads
+use Rattle.marks.proofs.is_upper_end.Lts as lts
+
+-- src/lib.rt:45:9
+returns : tie.Need-returns
+unfolding upperEnd
+returns c =
+    rw (eq-eqb _ _ (c .before .if1 .taken)) refl
+
+-- src/lib.rt:41:1
+returns-2 : tie.Need-returns-2
+unfolding upperEnd
+returns-2 c =
+    rw (ne-eqb _ _ (c .before .if1 .left)) refl
+
+pub is-upper-end-spec : {M : Type 1} → statement M
+is-upper-end-spec = tie.close (tie.spec returns returns-2)

@@ -1,0 +1,130 @@
+use lib.Dec.{ltb}
+use Rattle.lists.proofs.Tests.{not-e, not-f, clash}
+use Rattle.optimum.specs.OneSided.{topWord}
+use Rattle.strips.specs.Strips.{stripOf, pointOf}
+use Rattle.marks.proofs.Marking.{marking-join}
+use Rattle.marks.proofs.Asked.{marked-out, marked-in}
+use mathlib.Core.Path.{_≡_, refl, ap, sym, _∙_}
+use mathlib.Core.List.{List, [], _∷_, _++_}
+use mathlib.Core.Logic.{⊎-elim}
+use Prim.Native.Nat.{ℕ, zero, suc, _+_, _-_, _*_, _<_, _≤_}
+use native.Mathlib.Omega.{arith}
+use native.Mathlib.Numerals.{add-one}
+use lib.ListN.{length, getD, take, drop, set, length-set}
+use borrow.Author.Tests.{eq-eqb, ne-eqb, lt-ltb, le-ltb, le-leb, lt-leb}
+use borrow.Author.Needs.{needs}
+use Rattle.marks.proofs.mark_row.Statement.{statement}
+use Rattle.marks.proofs.mark_row.Tie as tie
+use Rattle.marks.proofs.mark_row.Reads as reads
+use Rattle.marks.proofs.mark_row.Lts as lts
+use Rattle.entries.proofs.join_least.Reads as join-least-reads
+use Rattle.marks.proofs.mark_own.Reads as mark-own-reads
+use Rattle.marks.proofs.mark_window.Reads as mark-window-reads
+use Rattle.strips.proofs.is_inside.Reads as is-inside-reads
+use Rattle.strips.proofs.open_window.Reads as open-window-reads
+use Rattle.strips.proofs.site_opens.Reads as site-opens-reads
+use Rattle.words.proofs.less.Reads as less-reads
+
+-- src/lib.rt:124:9
+is-inside-requires : tie.Need-is-inside-requires
+is-inside-requires c κs = search needs
+
+-- src/lib.rt:125:9
+mark-own-requires : tie.Need-mark-own-requires
+mark-own-requires c κs =
+    c .before .before .before .before .before .before .pre .1
+
+-- src/lib.rt:126:9
+same-length : tie.Need-same-length
+same-length c = search needs
+
+-- src/lib.rt:126:9
+returns : tie.Need-returns
+returns c =
+    let a = c .before .before .before .before .before .before .before .before .before .args in
+    let o = c .before .before .mark-own .ensures in
+    (o .0, marked-out (a .q) (a .heights .now) (a .bounds .now) (stripOf (a .p)) (pointOf (a .s)) (c .before .before .mark-own .last .0) (a .low) (sym (c .before .before .before .before .before .is-inside .ensures) ∙ not-f _ (c .before .before .before .before .if1 .taken)) (o .1 refl))
+
+-- src/lib.rt:128:22
+join-least-requires : tie.Need-join-least-requires
+join-least-requires c κs =
+    let p = c .before .before .before .before .before .pre in (p .0 .0, (p .1 .1, p .0 .1))
+
+-- src/lib.rt:128:9
+less-requires : tie.Need-less-requires
+less-requires c κs = search needs
+
+-- src/lib.rt:129:5
+mark-own-requires-2 : tie.Need-mark-own-requires-2
+mark-own-requires-2 c κs =
+    c .before .before .before .before .before .before .before .before .pre .1
+
+-- src/lib.rt:130:8
+site-opens-requires : tie.Need-site-opens-requires
+site-opens-requires c κs =
+    let p = c .before .before .before .before .before .before .before .before .before .before .before .pre in omega (arith, p .0 .1 .colourLow, p .0 .0 .bounded)
+
+-- src/lib.rt:131:44
+open-window-requires : tie.Need-open-window-requires
+open-window-requires c κs =
+    let p = c .before .before .before .before .before .before .before .before .before .before .before .before .before .before .pre in (p .0 .0 .rising, (p .1 .1 .bLow, omega (arith, p .0 .1 .colourLow, p .0 .0 .coloursFew)))
+
+-- src/lib.rt:131:9
+mark-window-requires : tie.Need-mark-window-requires
+mark-window-requires c κs =
+    let p = c .before .before .before .before .before .before .before .before .before .before .before .before .before .before .before .pre in
+    ((rw (c .before .before .before .before .before .before .mark-own2 .kept .0) (p .1 .0), p .1 .1), (p .0 .1 .colourLow, c .open-window .ensures .high))
+
+-- src/lib.rt:109:1
+same-length-2 : tie.Need-same-length-2
+same-length-2 c = search needs
+
+-- src/lib.rt:109:1
+returns-2 : tie.Need-returns-2
+returns-2 c =
+    let a = c .before .before .before .before .before .before .before .before .before .before .before .before .before .before .before .before .before .before .args in
+    let p = c .before .before .before .before .before .before .before .before .before .before .before .before .before .before .before .before .before .before .pre in
+    let o = c .before .before .before .before .before .before .before .before .before .mark-own2 .ensures in
+    let w = c .before .before .mark-window .ensures in
+    let i = sym (c .before .before .before .before .before .before .before .before .before .before .before .before .before .before .is-inside .ensures) ∙ not-e _ (c .before .before .before .before .before .before .before .before .before .before .before .before .before .if1 .left) in (
+      marking-join _ _ _ _ _ (o .0) (w .0),
+      marked-in (a .q) (a .heights .now) (a .bounds .now) (stripOf (a .p)) (pointOf (a .s)) _ (a .low) (c .before .before .before .open-window .result) (p .1 .1) (p .0 .0) (p .0 .1) i
+          (λ h. w .0 .kept _ (o .1 (c .before .before .before .before .before .before .before .before .before .before .before .less .ensures ∙ ap (λ (z : ℕ). ltb z topWord) (c .before .before .before .before .before .before .before .before .before .before .before .before .join-least .ensures) ∙ lt-ltb _ _ h)))
+          (λ s. (c .before .before .before .open-window .ensures, w .1)),
+    )
+
+-- src/lib.rt:109:1
+same-length-3 : tie.Need-same-length-3
+same-length-3 c = search needs
+
+-- src/lib.rt:109:1
+returns-3 : tie.Need-returns-3
+returns-3 c =
+    let a = c .before .before .before .before .before .before .before .before .before .before .before .before .before .args in
+    let p = c .before .before .before .before .before .before .before .before .before .before .before .before .before .pre in
+    let o = c .before .before .before .before .mark-own2 .ensures in
+    let i = sym (c .before .before .before .before .before .before .before .before .before .is-inside .ensures) ∙ not-e _ (c .before .before .before .before .before .before .before .before .if1 .left) in (
+      o .0,
+      marked-in (a .q) (a .heights .now) (a .bounds .now) (stripOf (a .p)) (pointOf (a .s)) (c .before .before .before .before .mark-own2 .last .0) (a .low) (record { from = 0; to = 0 }) (p .1 .1) (p .0 .0) (p .0 .1) i
+          (λ h. o .1 (c .before .before .before .before .before .before .less .ensures ∙ ap (λ (z : ℕ). ltb z topWord) (c .before .before .before .before .before .before .before .join-least .ensures) ∙ lt-ltb _ _ h))
+          (λ s. clash s (sym (c .before .site-opens .ensures) ∙ c .if2 .left)),
+    )
+
+pub mark-row-spec : {M : Type 1} → statement M
+mark-row-spec =
+    tie.close
+    (tie.spec
+    is-inside-requires
+    mark-own-requires
+    same-length
+    returns
+    join-least-requires
+    less-requires
+    mark-own-requires-2
+    site-opens-requires
+    open-window-requires
+    mark-window-requires
+    same-length-2
+    returns-2
+    same-length-3
+    returns-3)

@@ -1,0 +1,98 @@
+use Rattle.marks.proofs.Reach.{at-site}
+use Rattle.marks.proofs.Levels.{next-level, level-room}
+use Rattle.marks.proofs.Points.{point-at}
+use mathlib.Core.Path.{_≡_, refl, ap, sym, _∙_}
+use mathlib.Core.List.{List, [], _∷_, _++_}
+use mathlib.Core.Logic.{⊎-elim}
+use Prim.Native.Nat.{ℕ, zero, suc, _+_, _-_, _*_, _<_, _≤_}
+use native.Mathlib.Omega.{arith}
+use native.Mathlib.Numerals.{add-one}
+use lib.ListN.{length, getD, take, drop, set, length-set}
+use borrow.Author.Tests.{eq-eqb, ne-eqb, lt-ltb, le-ltb, le-leb, lt-leb}
+use borrow.Author.Needs.{needs}
+use Rattle.marks.proofs.mark_site.Statement.{statement}
+use Rattle.marks.proofs.mark_site.Tie as tie
+use Rattle.marks.proofs.mark_site.Reads as reads
+use Rattle.marks.proofs.mark_site.Lts as lts
+use Rattle.marks.proofs.follow_level.Reads as follow-level-reads
+
+-- src/lib.rt:286:12
+mul-t11 : tie.Need-mul-t11
+mul-t11 c = search needs
+
+-- src/lib.rt:286:12
+shared-slice-read-t13 : tie.Need-shared-slice-read-t13
+shared-slice-read-t13 c = search needs
+
+-- src/lib.rt:287:12
+mul-t14 : tie.Need-mul-t14
+mul-t14 c = search needs
+
+-- src/lib.rt:287:12
+shared-slice-read-t16 : tie.Need-shared-slice-read-t16
+shared-slice-read-t16 c = search needs
+
+-- src/lib.rt:288:12
+mul-t17 : tie.Need-mul-t17
+mul-t17 c = search needs
+
+-- src/lib.rt:288:12
+shared-slice-read-t19 : tie.Need-shared-slice-read-t19
+shared-slice-read-t19 c = search needs
+
+-- src/lib.rt:290:47
+mul-follow-level : tie.Need-mul-follow-level
+mul-follow-level c =
+    let p = c .before .before .before .before .before .before .before .before .before .before .pre in
+    omega (arith, level-room (c .before .before .before .before .before .before .before .before .before .before .args .j) (length (c .before .before .before .before .before .before .before .before .before .before .args .xs .now)) (c .before .before .before .before .before .before .before .before .before .before .args .size) _ _ refl (p .1 .2) (p .1 .1))
+
+-- src/lib.rt:290:58
+add-follow-level : tie.Need-add-follow-level
+add-follow-level c = search needs
+
+-- src/lib.rt:290:57
+mul-follow-level-2 : tie.Need-mul-follow-level-2
+mul-follow-level-2 c =
+    let p = c .before .before .before .before .before .before .before .before .before .before .pre in
+    omega (arith, level-room (c .before .before .before .before .before .before .before .before .before .before .args .j) (length (c .before .before .before .before .before .before .before .before .before .before .args .xs .now)) (c .before .before .before .before .before .before .before .before .before .before .args .size) _ _ refl (p .1 .2) (p .1 .1))
+
+-- src/lib.rt:290:5
+follow-level-requires : tie.Need-follow-level-requires
+follow-level-requires c κs =
+    let p = c .before .before .before .before .before .before .before .before .before .before .pre in
+    let a = c .before .before .before .before .before .before .before .before .before .before .args in
+    let r = level-room (a .j) (length (a .xs .now)) (a .size) _ _ refl (p .1 .2) (p .1 .1) in
+    record {
+      framed = p .0 .0;
+      stands = record { colourLow = p .0 .1 .csLow (a .j) (p .1 .2); yLow = p .0 .1 .ysLow (a .j) (p .1 .2) };
+      apart = omega (arith, p .1 .0, next-level (a .j) (a .size));
+      within = omega (arith, p .1 .0, r .1);
+    }
+
+-- src/lib.rt:269:1
+same-length : tie.Need-same-length
+same-length c = search needs
+
+-- src/lib.rt:269:1
+returns : tie.Need-returns
+returns c =
+    let p = c .before .before .before .before .before .before .before .before .before .before .before .before .before .pre in
+    let a = c .before .before .before .before .before .before .before .before .before .before .before .before .before .args in
+    at-site (a .q) (a .heights .now) (a .bounds .now) (a .work .now) (c .before .before .follow-level .last .0) (a .size) _ _ _ _ (p .1 .0) (point-at (a .xs .now) (a .ys .now) (a .cs .now) (a .j) (p .0 .1 .ysLong) (p .0 .1 .csLong) (p .1 .2)) (c .before .before .follow-level .ensures)
+
+pub mark-site-spec : {M : Type 1} → statement M
+mark-site-spec =
+    tie.close
+    (tie.spec
+    mul-t11
+    shared-slice-read-t13
+    mul-t14
+    shared-slice-read-t16
+    mul-t17
+    shared-slice-read-t19
+    mul-follow-level
+    add-follow-level
+    mul-follow-level-2
+    follow-level-requires
+    same-length
+    returns)
