@@ -10,8 +10,8 @@ use native.Mathlib.Numerals.{add-one}
 use lib.Dec.{eqb, leb, ltb}
 use lib.ListN.{length, getD, drop}
 use borrow.Author.Tests.{lt-ltb, le-ltb, ltb-true, eqb-true, eq-eqb}
-use Rattle.lists.proofs.Tests.{by-test, by-either, and-both, and-of, or-e, clash}
-use Rattle.search.specs.Cost.{plus, least, plus-le, least-le, least-le-top, least-most}
+use Rattle.lists.proofs.Tests.{by-test, by-order, by-either, and-both, and-of, or-e, clash}
+use Rattle.search.specs.Cost.{plus, least, plus-top, top-plus, plus-le, least-le, least-le-top, least-most}
 use Rattle.search.specs.Share.{conv}
 use Rattle.search.specs.Radix.{below}
 use Rattle.optimum.specs.Strips.{Point, Strip, Instance, inside, opens, joinsUp, joinsDown, clearFrom}
@@ -22,18 +22,42 @@ use Rattle.arrays.specs.declared.Measures.{Measures}
 use Rattle.arrays.specs.Arrays.{instanceBy}
 use Rattle.strips.specs.Strips.{instanceOn, gapLeft, siteOpens, openCost, joinCost}
 use Rattle.strips.proofs.Decisions.{inside-on, opens-on, joins-up-on, joins-down-on, opens-split}
-use Rattle.budgets.specs.Budgets.{Within, Splits, shareBy, leftBy}
+use Rattle.budgets.specs.Budgets.{Within, Splits, partAt, shareBy, leftBy}
 use Rattle.budgets.proofs.Sharing.{share-by}
 use Rattle.entries.proofs.Joins.{opening, opens-of, shut, up-at, down-at, up-least, down-least}
-use Rattle.entries.specs.Rows.{rowOf, rowsOf, rowIn, Lies, openBy, upperPart, lowerPart, joinLeast, slotTerm, slotsLeast, insideEntry, entryBy, entryIn}
+use Rattle.entries.specs.Rows.{rowOf, rowsOf, rowIn, Lies, openBy, upperPart, lowerPart, joinLeast, noPart, slotTerm, slotsLeast, insideEntry, entryBy, entryIn}
 
 -- the place of a cell, by its row
 pub cell-row : (P : Instance) (C R : ℕ) (p : Strip) (v : ℕ) → P .kinds ≡ 1 → p .d ≡ 0 → cellOf P C R p v ≡ rowOf (P .m) C p * R + v
 unfolding cellOf
 cell-row P C R p v k d = rw (k, d) (ap (λ (z : ℕ). z * R + v) (omega arith))
 
+-- none at the full budget, so none at every budget
+abbrev pub Falls : (n : ℕ) → (f : ℕ → ℕ) → Type 0
+Falls n f = f (n - 1) ≡ topWord → (w : ℕ) → w < n → f w ≡ topWord
+
+-- a label of which a part is none
+open-none : (parts counts : List ℕ) (n c u : ℕ) (f g : ℕ → ℕ) → Within n parts counts → ((w : ℕ) → w < n → f w ≡ topWord) ⊎ ((w : ℕ) → w < n → g w ≡ topWord)
+    → openBy parts counts n c u f g ≡ topWord
+open-none parts counts n c u f g l h =
+    by-order n u
+    (λ k. rw (le-ltb u n k))
+    (λ k. rw (lt-ltb u n k) (ap (plus topWord c) (shared k) ∙ plus-top topWord c))
+  where
+    each : u < n → (i : ℕ) → i < getD counts u 0 → plus topWord (f (partAt parts u i)) (g (u - partAt parts u i)) ≡ topWord
+    each k i j =
+        let w = l .small u i k j in
+        by-either h
+        (λ e. rw (e (partAt parts u i) (omega (arith, w))) (top-plus topWord _))
+        (λ e. rw (e (u - partAt parts u i) (omega arith)) (plus-top topWord _))
+
+    shared : u < n → shareBy parts counts f g u ≡ topWord
+    shared k = le-antisymm (least-le-top topWord (getD counts u 0) _) (least-most topWord (getD counts u 0) _ topWord (omega arith) (λ i j. let e = each k i j in omega arith))
+
 module _ (q : Measures) (hs bs rs ds work parts counts left : List ℕ) (low : ℕ) (p : Strip) (s : Point) (v : ℕ)
-    (splits : Splits rs (q .budgets) parts counts) (drawn : getD left v 0 ≡ leftBy rs (getD ds (s .c) 0) v) (lies : Lies (length hs) (q .colours) p) (low-v : v < q .budgets) where
+    (splits : Splits rs (q .budgets) parts counts) (drawn : getD left v 0 ≡ leftBy rs (getD ds (s .c) 0) v) (lies : Lies (length hs) (q .colours) p) (low-v : v < q .budgets)
+    (falls : inside (instanceOn q hs bs) p s ≡ true → (k : ℕ) → opens (instanceOn q hs bs) p s k ≡ true
+    → Falls (q .budgets) (rowIn work low (length hs) (q .colours) (q .budgets) (upperPart p s k)) × Falls (q .budgets) (rowIn work low (length hs) (q .colours) (q .budgets) (lowerPart p s k))) where
   abbrev P : Instance
   P = instanceBy q hs bs rs ds
 
@@ -79,10 +103,19 @@ module _ (q : Measures) (hs bs rs ds work parts counts left : List ℕ) (low : �
       let u : getD left v 0 ≡ 255 = drawn ∙ rw e in
       rw (u, le-ltb 255 (q .budgets) (omega (arith, splits .within .few)))
 
-  step-open : (k : ℕ) → opens (instanceOn q hs bs) p s k ≡ true → step k ≡ term k
+  -- if a part is none at the full budget, so is the label
+  by-part : inside (instanceOn q hs bs) p s ≡ true → (k : ℕ) → opens (instanceOn q hs bs) p s k ≡ true → (t : Bool) → noPart q hs bs parts counts left row p s k ≡ t
+      → openBy parts counts (q .budgets) (openCost q hs s k) (getD left v 0) (row (upperPart p s k)) (row (lowerPart p s k))
+      ≡ cond t topWord (openBy parts counts (q .budgets) (openCost q hs s k) (getD left v 0) (row (upperPart p s k)) (row (lowerPart p s k)))
+  by-part i k o false e = refl
+  by-part i k o true e =
+      open-none parts counts (q .budgets) (openCost q hs s k) (getD left v 0) (row (upperPart p s k)) (row (lowerPart p s k)) (splits .within)
+      (by-either (or-e _ _ e) (λ x. inl (falls i k o .0 (eqb-true _ _ x))) (λ x. inr (falls i k o .1 (eqb-true _ _ x))))
+
+  step-open : inside (instanceOn q hs bs) p s ≡ true → (k : ℕ) → opens (instanceOn q hs bs) p s k ≡ true → step k ≡ term k
   unfolding stepCell slotTerm
-  step-open k o =
-      rw (opens-on q hs bs rs ds p s k, o, opening q hs bs p s k o .gap, ← (upper-is k), ← (lower-is k)) (by-draw k (below rs (getD ds (s .c) 0) v) refl)
+  step-open i k o =
+      rw (opens-on q hs bs rs ds p s k, o, opening q hs bs p s k o .gap, ← (upper-is k), ← (lower-is k)) (by-draw k (below rs (getD ds (s .c) 0) v) refl ∙ by-part i k o (noPart q hs bs parts counts left row p s k) refl)
 
   step-join : (k : ℕ) → opens (instanceOn q hs bs) p s k ≡ false → joinsUp (instanceOn q hs bs) p s k || joinsDown (instanceOn q hs bs) p s k ≡ true
       → step k ≡ plus topWord (joinCost q hs s k) (row p v)
@@ -111,14 +144,14 @@ module _ (q : Measures) (hs bs rs ds work parts counts left : List ℕ) (low : �
   unfolding plus
   raised a b r h = omega arith
 
-  worked-low : (k : ℕ) → k < length hs → worked ≤ step k
-  worked-low k h =
+  worked-low : inside (instanceOn q hs bs) p s ≡ true → (k : ℕ) → k < length hs → worked ≤ step k
+  worked-low i k h =
       by-test (opens (instanceOn q hs bs) p s k)
       (λ o.
       let g = opening q hs bs p s k o in
       let e : p .a + (k - p .a) ≡ k = omega (arith, g .above) in
-      let l : slotsLeast q hs bs parts counts left row p s (p .b - 1 - p .a) v ≤ term (p .a + (k - p .a)) = least-le topWord (p .b - 1 - p .a) (λ i. term (p .a + i)) (k - p .a) (omega (arith, g .above, g .under)) in
-      rw (step-open k o) (le-trans (worked-opens (g .site)) (rw e at l)))
+      let l : slotsLeast q hs bs parts counts left row p s (p .b - 1 - p .a) v ≤ term (p .a + (k - p .a)) = least-le topWord (p .b - 1 - p .a) (λ j. term (p .a + j)) (k - p .a) (omega (arith, g .above, g .under)) in
+      rw (step-open i k o) (le-trans (worked-opens (g .site)) (rw e at l)))
       (λ o. by-test (joinsUp (instanceOn q hs bs) p s k || joinsDown (instanceOn q hs bs) p s k)
       (λ j. rw (step-join k o j) (le-trans worked-joins (raised _ _ (row p v) (by-either (or-e _ _ j) (up-least q hs bs p s k h) (down-least q hs bs p s k)))))
       (λ j. rw (step-none k o j) (le-trans worked-joins (plus-le topWord _ _))))
@@ -168,27 +201,27 @@ module _ (q : Measures) (hs bs rs ds work parts counts left : List ℕ) (low : �
   unfolding slotTerm
   term-shut k e = rw e
 
-  total-slot : siteOpens (instanceOn q hs bs) p s ≡ true → (i : ℕ) → i < p .b - 1 - p .a → total ≤ term (p .a + i)
-  total-slot o i h =
+  total-slot : inside (instanceOn q hs bs) p s ≡ true → siteOpens (instanceOn q hs bs) p s ≡ true → (i : ℕ) → i < p .b - 1 - p .a → total ≤ term (p .a + i)
+  total-slot e o i h =
       by-test (gapLeft (instanceOn q hs bs) p s (p .a + i))
       (λ g.
       let k : p .a + i < length hs = omega (arith, lies .bLow) in
       let t = opens-of q hs bs p s (p .a + i) (record { above = omega arith; under = omega arith; slot = k; gap = g; site = o }) in
-      rw (step-open (p .a + i) t) at (least-le topWord (length hs) step (p .a + i) k))
+      rw (step-open e (p .a + i) t) at (least-le topWord (length hs) step (p .a + i) k))
       (λ g. rw (term-shut (p .a + i) g) (least-le-top topWord (length hs) step))
 
-  total-opens : total ≤ cond (siteOpens (instanceOn q hs bs) p s) (slotsLeast q hs bs parts counts left row p s (p .b - 1 - p .a) v) topWord
-  total-opens =
+  total-opens : inside (instanceOn q hs bs) p s ≡ true → total ≤ cond (siteOpens (instanceOn q hs bs) p s) (slotsLeast q hs bs parts counts left row p s (p .b - 1 - p .a) v) topWord
+  total-opens e =
       by-test (siteOpens (instanceOn q hs bs) p s)
-      (λ o. rw o (least-most topWord (p .b - 1 - p .a) (λ i. term (p .a + i)) total (least-le-top topWord (length hs) step) (total-slot o)))
+      (λ o. rw o (least-most topWord (p .b - 1 - p .a) (λ i. term (p .a + i)) total (least-le-top topWord (length hs) step) (total-slot e o)))
       (λ o. rw o (least-le-top topWord (length hs) step))
 
   lesser-of : (t a b : ℕ) → t ≤ a → t ≤ b → t ≤ min a b
   lesser-of t a b h k = omega arith
 
-  total-low : total ≤ worked
+  total-low : inside (instanceOn q hs bs) p s ≡ true → total ≤ worked
   unfolding insideEntry
-  total-low = lesser-of total _ _ total-joins total-opens
+  total-low e = lesser-of total _ _ total-joins (total-opens e)
 
   -- THE ENTRY is the model's
   pub entry-by : entryBy q hs bs parts counts left (rowIn work low (length hs) (q .colours) (q .budgets)) p s v
@@ -196,6 +229,6 @@ module _ (q : Measures) (hs bs rs ds work parts counts left : List ℕ) (low : �
   unfolding entryBy
   entry-by =
       rw (inside-on q hs bs rs ds p s)
-      (ap₂ (λ (x y : ℕ). cond (inside (instanceOn q hs bs) p s) x y)
-      (le-antisymm (least-most topWord (length hs) step worked (le-trans worked-joins (plus-le topWord _ _)) worked-low) total-low)
-      (sym (cell p v (lies .dLow))))
+      (by-test (inside (instanceOn q hs bs) p s)
+      (λ i. rw i (le-antisymm (least-most topWord (length hs) step worked (le-trans worked-joins (plus-le topWord _ _)) (worked-low i)) (total-low i)))
+      (λ i. rw i (sym (cell p v (lies .dLow)))))

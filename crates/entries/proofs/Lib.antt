@@ -2,5 +2,6 @@ pub mod Places
 mod Written
 mod Lesser
 mod Terms
+mod Single
 pub mod Joins
 pub mod Entries

@@ -8,7 +8,7 @@ use lib.Arith.{digits-div, digits-mod}
 use lib.ListN.{length, getD}
 use Rattle.optimum.specs.Strips.{Point, Strip}
 use Rattle.arrays.specs.declared.Measures.{Measures}
-use Rattle.entries.specs.Rows.{rowOf, rowsOf, stripOfRow, Lies, Ready, upperPart, lowerPart}
+use Rattle.entries.specs.Rows.{rowOf, rowsOf, Lies, Ready, upperPart, lowerPart}
 
 pack-lt : (x y X B : ℕ) → x < X → y < B → x * B + y < X * B
 pack-lt x y X B h k =

@@ -1,10 +1,10 @@
 -- The table in the work area, row by row: a row has the entries of one strip, by budget. What is asked of the numbers, and an
 -- entry as code works it out from the rows a level below. Definitions.
 use mathlib.Core.Path.{_≡_}
-use mathlib.Core.Bool.{Bool, true, false, cond, _&&_}
+use mathlib.Core.Bool.{Bool, true, false, cond, _&&_, _||_}
 use mathlib.Core.List.{List, [], _∷_}
 use Prim.Native.Nat.{ℕ, zero, suc, _+_, _*_, _-_, _/_, _%_, _<_, _≤_, min}
-use lib.Dec.{ltb}
+use lib.Dec.{eqb, ltb}
 use lib.ListN.{length, getD, drop}
 use Rattle.search.specs.Cost.{plus, least}
 use Rattle.optimum.specs.Strips.{Point, Strip, Instance, inside, joinsUp, joinsDown}
@@ -16,7 +16,7 @@ use Rattle.budgets.specs.Budgets.{Within, shareBy}
 
 -- ---- where rows stand: m slots, C colours
 
--- the number of a strip's row in its level; how many rows a level has; the strip of a row
+-- the number of a strip's row in its level; how many rows a level has
 abbrev pub rowOf : (m C : ℕ) → Strip → ℕ
 rowOf m C p = ((p .a * (C + 1) + p .ca) * (m + 2) + p .b) * (C + 1) + p .cb
 
@@ -26,10 +26,6 @@ rowsOf m C = (m + 2) * (C + 1) * (m + 2) * (C + 1)
 -- the words of a level
 abbrev pub levelSize : Measures → (heights : List ℕ) → ℕ
 levelSize q hs = rowsOf (length hs) (q .colours) * q .budgets
-
-unfoldable pub stripOfRow : (m C : ℕ) → ℕ → Strip
-stripOfRow m C r =
-    record { a = r / (C + 1) / (m + 2) / (C + 1); ca = r / (C + 1) / (m + 2) % (C + 1); b = r / (C + 1) % (m + 2); cb = r % (C + 1); d = 0 }
 
 -- ---- what is asked of the numbers
 
@@ -89,12 +85,21 @@ joinLeast q hs bs p s =
     min (cond (ltb (p .a - 1) (length hs) && joinsUp (instanceOn q hs bs) p s (p .a - 1)) (joinCost q hs s (p .a - 1)) topWord)
     (cond (joinsDown (instanceOn q hs bs) p s (p .b - 1)) (joinCost q hs s (p .b - 1)) topWord)
 
+-- the same where there is but one budget: the whole of it goes to both parts
+abbrev pub singleTerm : Measures → (heights : List ℕ) → (row : Strip → ℕ → ℕ) → Strip → Point → (k : ℕ) → ℕ
+singleTerm q hs row p s k = plus topWord (openCost q hs s k) (plus topWord (row (upperPart p s k) 0) (row (lowerPart p s k) 0))
+
 module _ (q : Measures) (heights bounds parts counts left : List ℕ) (row : Strip → ℕ → ℕ) where
+  -- a part of the strip, once a label is open at slot k, is none at the full budget, so at every budget
+  abbrev pub noPart : Strip → Point → (k : ℕ) → Bool
+  noPart p s k = eqb (row (upperPart p s k) (q .budgets - 1)) topWord || eqb (row (lowerPart p s k) (q .budgets - 1)) topWord
+
   -- opening a label at slot k, which stands between the strip's ends
   unfoldable pub slotTerm : Strip → Point → (k v : ℕ) → ℕ
   slotTerm p s k v =
       cond (gapLeft (instanceOn q heights bounds) p s k)
-      (openBy parts counts (q .budgets) (openCost q heights s k) (getD left v 0) (row (upperPart p s k)) (row (lowerPart p s k))) topWord
+      (cond (noPart p s k) topWord
+      (openBy parts counts (q .budgets) (openCost q heights s k) (getD left v 0) (row (upperPart p s k)) (row (lowerPart p s k)))) topWord
 
   -- the first so many slots between the strip's ends
   abbrev pub slotsLeast : Strip → Point → (count v : ℕ) → ℕ
@@ -108,6 +113,13 @@ module _ (q : Measures) (heights bounds parts counts left : List ℕ) (row : Str
   -- the entry of the strip p at the budget v, where the site s comes next
   unfoldable pub entryBy : Strip → Point → (v : ℕ) → ℕ
   entryBy p s v = cond (inside (instanceOn q heights bounds) p s) (insideEntry p s v) (row p v)
+
+-- one budget, from which nothing but itself may be taken, and which a label may be opened with
+pub record Single (n : ℕ) (parts counts left : List ℕ) : Type 0 where
+  pub one : n ≡ 1
+  pub own : getD parts 0 0 ≡ 0
+  pub counted : getD counts 0 0 ≡ 1
+  pub drawn : getD left 0 0 ≡ 0
 
 -- the same by the model, from the level that begins at the word `low`: C colours, budgets below R
 abbrev pub entryIn : (P : Instance) (C R : ℕ) → (work : List ℕ) → (low : ℕ) → Strip → Point → (v : ℕ) → ℕ

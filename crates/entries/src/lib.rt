@@ -1,20 +1,30 @@
 // Fills one row of the one-sided table, a strip's entries by budget, from the rows of the level below.
 ghost use mathlib.Core.Path.{_≡_};
+ghost use mathlib.Core.Bool.{true};
 ghost use Prim.Native.Nat.{ℕ, _+_, _-_, _*_, _<_, _≤_, min};
 ghost use lib.ListN.{length, getD, drop};
-ghost use Rattle.search.specs.Cost.{plus};
+ghost use Rattle.search.specs.Cost.{plus, least};
 ghost use Rattle.optimum.specs.OneSided.{topWord};
-ghost use Rattle.strips.specs.Strips.{stripOf, pointOf};
+ghost use Rattle.strips.specs.Strips.{instanceOn, stripOf, pointOf, gapLeft, Measured, WindowOf};
 ghost use Rattle.budgets.specs.Budgets.{Others, Within};
-ghost use Rattle.entries.specs.Rows.{rowOf, rowsOf, stripOfRow, Framed, Lies, Stands, Ready, rowIn, openBy, joinLeast, slotTerm, slotsLeast, entryBy};
+ghost use Rattle.entries.specs.Rows.{rowOf, rowsOf, Framed, Lies, Stands, Ready, rowIn, upperPart, lowerPart, openBy, joinLeast, slotTerm, singleTerm, slotsLeast, Single, entryBy};
 use arrays::Measures;
 use strips::Site;
 use strips::Strip;
+use strips::Window;
 use words::NONE;
 use words::both;
 use words::choose;
+use words::either;
 use words::lesser;
 use words::monus;
+use words::same;
+
+// Where the rows of a strip's two parts begin.
+pub struct PartRows {
+    pub upper: usize,
+    pub lower: usize,
+}
 
 // The place of a strip's row in its level.
 pub fn row_place(q: Measures, m: usize, p: Strip) -> usize
@@ -27,24 +37,6 @@ pub fn row_place(q: Measures, m: usize, p: Strip) -> usize
     let upper = (p.a as usize) * colours + (p.ca as usize);
     let strip = (upper * ends + (p.b as usize)) * colours + (p.cb as usize);
     strip * (q.budgets as usize)
-}
-
-// The strip of a row.
-pub fn strip_at(q: Measures, m: usize, row: usize) -> Strip
-    requires { ⌜ (m ≤ 48) × (q .colours ≤ 8) × (row < 202500) ⌝ }
-    ensures { λ r. ⌜ stripOf r ≡ stripOfRow m (q .colours) row ⌝ }
-{
-    let colours = q.colours + 1;
-    let ends = (m as u32) + 2;
-    let r = row as u32;
-    let t = r / colours;
-    let u = t / ends;
-    Strip {
-        a: u / colours,
-        ca: u % colours,
-        b: t % ends,
-        cb: r % colours,
-    }
 }
 
 // A row's n words are those of the row at `from`.
@@ -138,7 +130,32 @@ fn open_row(
     }
 }
 
-// Opens a label at slot k, between the strip's ends, if both are far enough.
+// The places of the rows of the two parts that a label at slot k leaves of a strip.
+fn part_places(q: Measures, m: usize, p: Strip, s: Site, low: usize, k: u32) -> PartRows
+    requires { ⌜ (m ≤ 48) × (q .colours ≤ 8) × (q .budgets ≤ 64) × (low + rowsOf m (q .colours) * q .budgets ≤ 18446744073709551615) ⌝ }
+    requires { ⌜ Lies m (q .colours) (stripOf p) × (s .c < q .colours) × (k + 1 < p .b) ⌝ }
+    ensures { λ r. ⌜ (r .upper ≡ low + rowOf m (q .colours) (upperPart (stripOf p) (pointOf s) k) * q .budgets) × (r .lower ≡ low + rowOf m (q .colours) (lowerPart (stripOf p) (pointOf s) k) * q .budgets) ⌝ }
+{
+    let c = s.c + 1;
+    let upper = Strip {
+        a: p.a,
+        ca: p.ca,
+        b: k + 1,
+        cb: c,
+    };
+    let lower = Strip {
+        a: k + 1,
+        ca: c,
+        b: p.b,
+        cb: p.cb,
+    };
+    PartRows {
+        upper: low + row_place(q, m, upper),
+        lower: low + row_place(q, m, lower),
+    }
+}
+
+// Opens a label at slot k, unless one of the parts is none at the full budget.
 fn open_slot(
     work: &mut [u32],
     q: Measures,
@@ -155,37 +172,21 @@ fn open_slot(
 )
     requires { ⌜ Ready q (now heights) (now bounds) (now parts) (now counts) (now left) (length (now work)) base low (pointOf s) ⌝ }
     requires { ⌜ Lies (length (now heights)) (q .colours) (stripOf p) × (k + 1 < p .b) ⌝ }
+    requires { ⌜ gapLeft (instanceOn q (now heights) (now bounds)) (stripOf p) (pointOf s) k ≡ true ⌝ }
     ensures { λ _. ⌜ Others (now (work .entry)) (now (work .exit)) base (q .budgets) ⌝ }
     ensures { λ _. ⌜ ((v : ℕ) → v < q .budgets → getD (now (work .exit)) (base + v) 0 ≡ min (getD (now (work .entry)) (base + v) 0) (slotTerm q (now (heights .entry)) (now (bounds .entry)) (now (parts .entry)) (now (counts .entry)) (now (left .entry)) (rowIn (now (work .entry)) low (length (now (heights .entry))) (q .colours) (q .budgets)) (stripOf p) (pointOf s) k v)) ⌝ }
 {
-    if !strips::leaves_gap(q, heights, bounds, p, s, k) {
+    let at = part_places(q, heights.len(), p, s, low, k);
+    let upper = at.upper;
+    let lower = at.lower;
+    let n = q.budgets as usize;
+    let last = n - 1;
+    if either(
+        same(work[upper + last], NONE),
+        same(work[lower + last], NONE),
+    ) {
         return;
     }
-    let m = heights.len();
-    let c = s.c + 1;
-    let upper = low
-        + row_place(
-            q,
-            m,
-            Strip {
-                a: p.a,
-                ca: p.ca,
-                b: k + 1,
-                cb: c,
-            },
-        );
-    let lower = low
-        + row_place(
-            q,
-            m,
-            Strip {
-                a: k + 1,
-                ca: c,
-                b: p.b,
-                cb: p.cb,
-            },
-        );
-    let n = q.budgets as usize;
     open_row(
         work,
         parts,
@@ -199,7 +200,92 @@ fn open_slot(
     );
 }
 
-// Opens a label at each slot between the strip's ends.
+// Opens a label at each slot of a window.
+fn open_each(
+    work: &mut [u32],
+    q: Measures,
+    heights: &[u32],
+    bounds: &[u32],
+    parts: &[u8],
+    counts: &[u8],
+    left: &[u8],
+    p: Strip,
+    s: Site,
+    base: usize,
+    low: usize,
+    window: Window,
+)
+    requires { ⌜ Ready q (now heights) (now bounds) (now parts) (now counts) (now left) (length (now work)) base low (pointOf s) ⌝ }
+    requires { ⌜ Lies (length (now heights)) (q .colours) (stripOf p) ⌝ }
+    requires { ⌜ WindowOf (instanceOn q (now heights) (now bounds)) (stripOf p) (pointOf s) window × (window .from < window .to) ⌝ }
+    ensures { λ _. ⌜ Others (now (work .entry)) (now (work .exit)) base (q .budgets) ⌝ }
+    ensures { λ _. ⌜ ((v : ℕ) → v < q .budgets → getD (now (work .exit)) (base + v) 0 ≡ min (getD (now (work .entry)) (base + v) 0) (slotsLeast q (now (heights .entry)) (now (bounds .entry)) (now (parts .entry)) (now (counts .entry)) (now (left .entry)) (rowIn (now (work .entry)) low (length (now (heights .entry))) (q .colours) (q .budgets)) (stripOf p) (pointOf s) (p .b - 1 - p .a) v)) ⌝ }
+{
+    let mut k = window.from;
+    while k < window.to {
+        open_slot(
+            work,
+            q,
+            heights,
+            bounds,
+            parts,
+            counts,
+            left,
+            p,
+            s,
+            base,
+            low,
+            k,
+        );
+        k += 1;
+    }
+}
+
+// There is but one budget, and it allows the label.
+fn is_single(n: usize, parts: &[u8], counts: &[u8], left: &[u8]) -> bool
+    requires { ⌜ Within n (now parts) (now counts) × (n ≤ length (now left)) × (0 < n) ⌝ }
+    ensures { λ r. ⌜ (r ≡ true → Single n (now (parts .entry)) (now (counts .entry)) (now (left .entry))) ⌝ }
+{
+    if n != 1 {
+        return false;
+    }
+    both(parts[0] == 0, both(counts[0] == 1, left[0] == 0))
+}
+
+// With one budget: the lesser of an entry and of opening a label at a slot of a window.
+fn least_open(
+    work: &[u32],
+    q: Measures,
+    heights: &[u32],
+    p: Strip,
+    s: Site,
+    low: usize,
+    window: Window,
+    old: u32,
+) -> u32
+    requires { ⌜ Measured q (now heights) (s .y) × (length (now heights) ≤ 48) × (q .colours ≤ 8) × (s .c < q .colours) × (q .budgets ≡ 1) ⌝ }
+    requires { ⌜ Lies (length (now heights)) (q .colours) (stripOf p) × (low + rowsOf (length (now heights)) (q .colours) * q .budgets ≤ length (now work)) ⌝ }
+    requires { ⌜ (window .from < window .to) × (window .to < p .b) ⌝ }
+    ensures { λ r. ⌜ r ≡ min old (least topWord (window .to - window .from) (λ i. singleTerm q (now (heights .entry)) (rowIn (now (work .entry)) low (length (now (heights .entry))) (q .colours) (q .budgets)) (stripOf p) (pointOf s) (window .from + i))) ⌝ }
+{
+    let m = heights.len();
+    let mut best = old;
+    let mut k = window.from;
+    while k < window.to {
+        let at = part_places(q, m, p, s, low, k);
+        let upper = at.upper;
+        let lower = at.lower;
+        let parts = words::plus_of(work[upper], work[lower]);
+        best = lesser(
+            best,
+            words::plus_of(strips::open_cost(q, heights, s, k), parts),
+        );
+        k += 1;
+    }
+    best
+}
+
+// Opens a label at each slot between the strip's ends that is far enough from both.
 fn open_slots(
     work: &mut [u32],
     q: Measures,
@@ -218,25 +304,29 @@ fn open_slots(
     ensures { λ _. ⌜ Others (now (work .entry)) (now (work .exit)) base (q .budgets) ⌝ }
     ensures { λ _. ⌜ ((v : ℕ) → v < q .budgets → getD (now (work .exit)) (base + v) 0 ≡ min (getD (now (work .entry)) (base + v) 0) (slotsLeast q (now (heights .entry)) (now (bounds .entry)) (now (parts .entry)) (now (counts .entry)) (now (left .entry)) (rowIn (now (work .entry)) low (length (now (heights .entry))) (q .colours) (q .budgets)) (stripOf p) (pointOf s) (p .b - 1 - p .a) v)) ⌝ }
 {
-    let end = monus(p.b, 1);
-    let mut k = p.a;
-    while k < end {
-        open_slot(
-            work,
-            q,
-            heights,
-            bounds,
-            parts,
-            counts,
-            left,
-            p,
-            s,
-            base,
-            low,
-            k,
-        );
-        k += 1;
+    let window = strips::open_window(q, heights, bounds, p, s);
+    if window.to <= window.from {
+        return;
     }
+    if is_single(q.budgets as usize, parts, counts, left) {
+        let t = least_open(work, q, heights, p, s, low, window, work[base]);
+        work[base] = t;
+        return;
+    }
+    open_each(
+        work,
+        q,
+        heights,
+        bounds,
+        parts,
+        counts,
+        left,
+        p,
+        s,
+        base,
+        low,
+        window,
+    );
 }
 
 // The least that joining a label costs.

@@ -68,6 +68,13 @@ module _ (q : Measures) (hs bs : List ℕ) (p : Strip) (s : Point) where
           (λ u. under _ _ _ (up-least q hs bs p s k lk u) (join-low q hs bs p s k f g))
           (λ u. under _ _ _ (down-least q hs bs p s k u) (join-low q hs bs p s k f g))
 
+  -- a label that may be opened leaves two parts that are asked for
+  pub asks-parts : (k : ℕ) → inside P p s ≡ true → opens P p s k ≡ true → Asks P p s (upperPart p s k) × Asks P p s (lowerPart p s k)
+  unfolding children In
+  asks-parts k i o =
+      let l = opening q hs bs p s k o .slot in
+      (inr (i, (k, l, rw o, rw o (inl (upper-is k)))), inr (i, (k, l, rw o, rw o (inr (inl (lower-is k))))))
+
   -- where the site lies outside, all that is asked for is marked if the strip is
   pub marked-out : (work : List ℕ) (low : ℕ) → inside P p s ≡ false → Marked work low (length hs) (q .colours) (q .budgets) p
       → (x : Strip) → Asks P p s x → Marked work low (length hs) (q .colours) (q .budgets) x

@@ -35,7 +35,6 @@ row-room r rows n h =
 pub count-words : (k rows n level area : ℕ) → rows * n ≡ level → k * level ≤ area → k * rows * n ≤ area
 count-words k rows n level area e h = omega (arith, h, ap (λ (z : ℕ). k * z) e)
 
-
 -- the first level stands in an area that has some
 pub first-room : (n level area : ℕ) → (n + 1) * level ≤ area → 0 + level ≤ area
 first-room n level area h = omega (arith, h)

@@ -27,6 +27,10 @@ pub asks-on : (q : Measures) (hs bs rs ds : List ℕ) (p : Strip) (s : Point) (x
 unfolding inside over under farFrom clearFrom opens joinsUp joinsDown children
 asks-on q hs bs rs ds p s x a = a
 
+pub asks-by : (q : Measures) (hs bs rs ds : List ℕ) (p : Strip) (s : Point) (x : Strip) → Asks (instanceOn q hs bs) p s x → Asks (instanceBy q hs bs rs ds) p s x
+unfolding inside over under farFrom clearFrom opens joinsUp joinsDown children
+asks-by q hs bs rs ds p s x a = a
+
 pub reached-on : (q : Measures) (hs bs rs ds : List ℕ) (ss : List Point) (j : ℕ) (p : Strip) → Reached (instanceBy q hs bs rs ds) ss j p → Reached (instanceOn q hs bs) ss j p
 unfolding Reached
 reached-on q hs bs rs ds ss zero p r = r

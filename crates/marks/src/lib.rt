@@ -149,7 +149,15 @@ fn mark_row(
     let joins = less(entries::join_least(q, heights, bounds, p, s), NONE);
     mark_own(work, q, m, p, low, joins);
     if strips::site_opens(q, heights, bounds, p, s) {
-        mark_window(work, q, m, p, s, low, strips::open_window(q, heights, bounds, p, s));
+        mark_window(
+            work,
+            q,
+            m,
+            p,
+            s,
+            low,
+            strips::open_window(q, heights, bounds, p, s),
+        );
     }
 }
 

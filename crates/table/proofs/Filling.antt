@@ -93,9 +93,10 @@ module _ (q : Measures) (hs bs parts counts left : List ℕ) (base low : ℕ) (s
       → Others old new (base + above * endWords q hs) (endWords q hs)
       × ((p : Strip) → Shaped (length hs) C p → endPlace C (p .a) (p .ca) ≡ above → RowFilled q hs bs parts counts left old new base low s p)
   filled-all old new above c d h k f =
-      let e : endPlace C c d ≡ endPlace C (length hs + 2) 0 = omega (arith, k, slot-low C (length hs + 2) c d h) in
-      (subst (λ (n : ℕ). Others old new (base + above * endWords q hs) (n * q .budgets)) e (f .others),
-        λ p t a. f .rows p t a (later-end C (p .b) (p .cb) c d (omega (arith, t .lies .cbLow)) (omega (arith, t .lies .bLow))))
+      let e : endPlace C c d ≡ endPlace C (length hs + 2) 0 = omega (arith, k, slot-low C (length hs + 2) c d h) in (
+        subst (λ (n : ℕ). Others old new (base + above * endWords q hs) (n * q .budgets)) e (f .others),
+        λ p t a. f .rows p t a (later-end C (p .b) (p .cb) c d (omega (arith, t .lies .cbLow)) (omega (arith, t .lies .bLow))),
+      )
 
   -- no strip has an upper end that is none
   pub ended : (old new : List ℕ) (slot colour : ℕ) → colour ≤ C → upperEnd slot colour ≡ false
@@ -141,9 +142,10 @@ module _ (q : Measures) (hs bs parts counts left : List ℕ) (base low : ℕ) (s
 
   pub passed-all : (old new : List ℕ) (c d : ℕ) → length hs + 1 ≤ c → endPlace C c d ≤ endPlace C (length hs + 1) 0 → Passed old new (endPlace C c d)
       → Others old new base (levelSize q hs) × ((p : Strip) → Shaped (length hs) C p → RowFilled q hs bs parts counts left old new base low s p)
-  passed-all old new c d h k f =
-      (record { before = f .others .before; after = λ i u. f .others .after i (omega (arith, u, within)) },
-        λ p t. f .rows p t (later-end C (p .a) (p .ca) c d (omega (arith, t .lies .caLow)) (omega (arith, t .lies .bLow, t .falls))))
+  passed-all old new c d h k f = (
+    record { before = f .others .before; after = λ i u. f .others .after i (omega (arith, u, within)) },
+    λ p t. f .rows p t (later-end C (p .a) (p .ca) c d (omega (arith, t .lies .caLow)) (omega (arith, t .lies .bLow, t .falls))),
+  )
     where
       few : endPlace C c d ≤ endPlace C (length hs + 2) 0
       few = omega (arith, k)

@@ -1,6 +1,7 @@
 -- A level filled from one that is right is right where it is asked for, and so is a table of such levels. Assumes nothing but the
 -- arrays of a sheet.
 use mathlib.Core.Path.{_≡_, refl, sym, ap, ap₂, _∙_, subst, subst⁻¹}
+use mathlib.Core.Bool.{true}
 use mathlib.Core.List.{List, [], _∷_}
 use Prim.Native.Nat.{ℕ, zero, suc, _+_, _*_, _-_, _<_, _≤_}
 use native.Mathlib.Omega.{arith}
@@ -9,23 +10,25 @@ use lib.ListN.{length, getD, drop, drop-of-length-le, length-drop}
 use lib.Seq.{ext-getD}
 use Rattle.lists.proofs.Tests.{by-order}
 use Rattle.search.specs.Plan.{T, T-nil}
-use Rattle.optimum.specs.Strips.{Point, Strip, Instance, rulesOf}
+use Rattle.optimum.specs.Strips.{Point, Strip, Instance, inside, opens, rulesOf}
 use Rattle.optimum.specs.Cells.{cells, cellOf}
 use Rattle.optimum.specs.Reached.{noPoint, Asks, Reached, TableOf}
 use Rattle.optimum.proofs.StripsHeld.{Rising, laws}
 use Rattle.optimum.proofs.Levels.{Row, entry-asked}
+use Rattle.optimum.proofs.Full.{none-at-full}
 use Rattle.optimum.proofs.Loops.{at-drop}
 use Rattle.arrays.specs.declared.Measures.{Measures}
 use Rattle.arrays.specs.Arrays.{instanceBy, pointsBy}
 use Rattle.strips.specs.Strips.{instanceOn}
 use Rattle.budgets.specs.Budgets.{Others, Splits, leftBy}
-use Rattle.entries.specs.Rows.{rowOf, rowsOf, rowIn, levelSize, Lies, entryBy}
+use Rattle.entries.specs.Rows.{rowOf, rowsOf, rowIn, levelSize, upperPart, lowerPart}
 use Rattle.entries.proofs.Places.{row-low, row-fits}
-use Rattle.entries.proofs.Entries.{cell-row, entry-by}
+use Rattle.entries.proofs.Entries.{Falls, cell-row, entry-by}
 use Rattle.marks.specs.Marks.{Marked, Shaped, ReachMarked}
 use Rattle.marks.proofs.Levels.{next-level, level-room, row-room}
 use Rattle.marks.proofs.Points.{points-long, point-at, drop-point}
-use Rattle.marks.proofs.Reach.{reached-on, reached-shape}
+use Rattle.marks.proofs.Asked.{asks-parts}
+use Rattle.marks.proofs.Reach.{asks-by, reached-on, reached-shape}
 use Rattle.table.specs.Rows.{RowFilled, Given, LevelRight, LevelMarked}
 
 module _ (q : Measures) (hs bs rs ds xs ys cs : List ℕ) (area : ℕ) (g : Given q hs bs rs ds xs ys cs area) where
@@ -66,7 +69,7 @@ module _ (q : Measures) (hs bs rs ds xs ys cs : List ℕ) (area : ℕ) (g : Give
       let t = shape j (omega arith) p a in
       ap (λ (z : ℕ). getD new z 0) (omega arith)
       ∙ f p t (m p a) v u
-      ∙ entry-by q hs bs rs ds old parts counts left low p s v splits (drawn v u) (t .lies) u
+      ∙ entry-by q hs bs rs ds old parts counts left low p s v splits (drawn v u) (t .lies) u falls
       ∙ entry-asked P (q .colours) (q .budgets) rising (drop low old) s (drop (j + 1) ss) p v rows u
       ∙ ap (λ (l : List Point). T (rulesOf P) l p v) (sym (drop-point ss j (omega (arith, sites-many)) ∙ ap (λ (x : Point). x ∷ drop (j + 1) ss) here))
     where
@@ -83,6 +86,19 @@ module _ (q : Measures) (hs bs rs ds xs ys cs : List ℕ) (area : ℕ) (g : Give
       rows x w k lk =
           let l = shape (j + 1) (omega arith) x (next x w) .lies in
           at-drop old low _ ∙ ap (λ (z : ℕ). getD old (low + z) 0) (cell-row P (q .colours) (q .budgets) x k refl (l .dLow)) ∙ r x k (next x w) lk
+
+      -- a row that is asked for is none where it is none at the full budget
+      none : (x : Strip) → Asks P p s x → Falls (q .budgets) (rowIn old low (length hs) (q .colours) (q .budgets) x)
+      none x w e k lk =
+          let z : (i : ℕ) → low + (rowOf (length hs) (q .colours) x * q .budgets + i) ≡ low + rowOf (length hs) (q .colours) x * q .budgets + i = λ i. omega arith in
+          let here : (i : ℕ) → i < q .budgets → rowIn old low (length hs) (q .colours) (q .budgets) x i ≡ T (rulesOf P) (drop (j + 1) ss) x i = λ i li. ap (λ (n : ℕ). getD old n 0) (sym (z i)) ∙ r x i (next x w) li in
+          here k lk ∙ none-at-full P rising (q .budgets) (q .budgets - 1) (g .full) (drop (j + 1) ss) x (sym (here (q .budgets - 1) (omega (arith, g .framed .budgetsSome))) ∙ e) k lk
+
+      falls : inside (instanceOn q hs bs) p s ≡ true → (k : ℕ) → opens (instanceOn q hs bs) p s k ≡ true
+          → Falls (q .budgets) (rowIn old low (length hs) (q .colours) (q .budgets) (upperPart p s k)) × Falls (q .budgets) (rowIn old low (length hs) (q .colours) (q .budgets) (lowerPart p s k))
+      falls i k o =
+          let a = asks-parts q hs bs p s k i o in
+          (none _ (asks-by q hs bs rs ds p s _ (a .0)), none _ (asks-by q hs bs rs ds p s _ (a .1)))
 
   -- THE TABLE, from its levels
   pub table-right : (work : List ℕ) → ((j : ℕ) → j ≤ length xs → LevelRight P q ss j work (j * levelSize q hs)) → TableOf P (q .colours) (q .budgets) ss work

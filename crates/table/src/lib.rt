@@ -106,7 +106,19 @@ fn fill_end(
     ensures { λ _. ⌜ ((p : model.Strip) → Shaped (length (now (heights .entry))) (q .colours) p → endPlace (q .colours) (p .a) (p .ca) ≡ endPlace (q .colours) (above .slot) (above .colour) → RowFilled q (now (heights .entry)) (now (bounds .entry)) (now (parts .entry)) (now (counts .entry)) (now (left .entry)) (now (work .entry)) (now (work .exit)) base low (pointOf s) p) ⌝ }
 {
     if marks::is_upper_end(above) {
-        fill_below(work, q, heights, bounds, parts, counts, left, above, s, base, low);
+        fill_below(
+            work,
+            q,
+            heights,
+            bounds,
+            parts,
+            counts,
+            left,
+            above,
+            s,
+            base,
+            low,
+        );
     }
 }
 
@@ -130,7 +142,19 @@ fn fill_level(
     let ends = (heights.len() as u32) + 1;
     let mut above = End { slot: 0, colour: 0 };
     while above.slot < ends {
-        fill_end(work, q, heights, bounds, parts, counts, left, above, s, base, low);
+        fill_end(
+            work,
+            q,
+            heights,
+            bounds,
+            parts,
+            counts,
+            left,
+            above,
+            s,
+            base,
+            low,
+        );
         above = marks::next_end(q.colours, above);
     }
 }

@@ -1,12 +1,11 @@
-use Rattle.budgets.specs.Budgets.{Others}
-use Rattle.lists.proofs.Tests.{not-e, not-f}
+use Prim.Native.Nat.{min}
 use Rattle.strips.specs.Strips.{stripOf, pointOf}
-use Rattle.entries.proofs.Places.{upper-lies, lower-lies, upper-fits, lower-fits}
-use Rattle.entries.proofs.Terms.{slot-closed, slot-open}
+use Rattle.entries.proofs.Places.{upper-fits, lower-fits}
+use Rattle.entries.proofs.Terms.{slot-none, slot-open}
 use mathlib.Core.Path.{_≡_, refl, ap, sym, _∙_}
 use mathlib.Core.List.{List, [], _∷_, _++_}
 use mathlib.Core.Logic.{⊎-elim}
-use Prim.Native.Nat.{ℕ, zero, suc, _+_, _-_, _*_, _<_, _≤_, min}
+use Prim.Native.Nat.{ℕ, zero, suc, _+_, _-_, _*_, _<_, _≤_}
 use native.Mathlib.Omega.{arith}
 use native.Mathlib.Numerals.{add-one}
 use lib.ListN.{length, getD, take, drop, set, length-set}
@@ -16,109 +15,138 @@ use Rattle.entries.proofs.open_slot.Statement.{statement}
 use Rattle.entries.proofs.open_slot.Tie as tie
 use Rattle.entries.proofs.open_slot.Reads as reads
 use Rattle.entries.proofs.open_slot.Lts as lts
-use Rattle.strips.proofs.leaves_gap.Reads as leaves-gap-reads
-use Rattle.strips.proofs.open_cost.Reads as open-cost-reads
 use Rattle.entries.proofs.open_row.Reads as open-row-reads
-use Rattle.entries.proofs.row_place.Reads as row-place-reads
+use Rattle.entries.proofs.part_places.Reads as part-places-reads
+use Rattle.strips.proofs.open_cost.Reads as open-cost-reads
+use Rattle.words.proofs.either.Reads as either-reads
+use Rattle.words.proofs.same.Reads as same-reads
 
--- src/lib.rt:112:9
-leaves-gap-requires : tie.Need-leaves-gap-requires
-leaves-gap-requires c κs = search needs
+-- src/lib.rt:179:9
+part-places-requires : tie.Need-part-places-requires
+part-places-requires c κs =
+    let p = c .before .before .before .before .before .before .pre in
+    let f = p .0 .framed in
+    ((f .slotsFew, f .coloursFew, f .budgetsFew, omega (arith, p .0 .within, c .before .before .before .before .before .before .fits)), (p .1 .0 .0, p .0 .stands .colourLow, p .1 .0 .1))
 
--- src/lib.rt:113:9
-returns : tie.Need-returns
-returns c =
-    let a = c .before .before .before .before .before .before .before .before .args in
-    let g = sym (c .before .leaves-gap .ensures) ∙ not-f _ (c .if1 .taken) in (
-      record { before = λ i h. refl; after = λ i h. refl },
-      λ v h. slot-closed (a .q) (a .heights .now) (a .bounds .now) (a .parts .now) (a .counts .now) (a .left .now) _ (stripOf (a .p)) (pointOf (a .s)) (a .k) v _ (omega (arith, c .before .before .before .before .before .before .before .slice-known .given (a .base + v))) g,
-    )
-
--- src/lib.rt:116:13
-add-c : tie.Need-add-c
-add-c c = search needs
-
--- src/lib.rt:117:68
-add-open-row : tie.Need-add-open-row
-add-open-row c = search needs
-
--- src/lib.rt:117:23
-row-place-requires : tie.Need-row-place-requires
-row-place-requires c κs =
-    let f = c .before .before .before .before .before .before .before .before .before .pre .0 .framed in
-    ((f .slotsFew, f .coloursFew, f .budgetsFew), upper-lies _ _ (stripOf (c .before .before .before .before .before .before .before .before .before .args .p)) (pointOf (c .before .before .before .before .before .before .before .before .before .args .s)) _ (c .before .before .before .before .before .before .before .before .before .pre .1 .0) (c .before .before .before .before .before .before .before .before .before .pre .0 .stands .colourLow) (c .before .before .before .before .before .before .before .before .before .pre .1 .1))
-
--- src/lib.rt:117:17
-add-upper : tie.Need-add-upper
-add-upper c =
-    let p = c .before .before .before .before .before .before .before .before .before .before .pre in
-    omega (arith, c .row-place .ensures, upper-fits (p .0) (stripOf (c .before .before .before .before .before .before .before .before .before .before .args .p)) (c .before .before .before .before .before .before .before .before .before .before .args .k) (p .1 .0) (p .1 .1))
-
--- src/lib.rt:118:50
-add-open-row-2 : tie.Need-add-open-row-2
-add-open-row-2 c = search needs
-
--- src/lib.rt:118:23
-row-place-requires-2 : tie.Need-row-place-requires-2
-row-place-requires-2 c κs =
-    let f = c .before .before .before .before .before .before .before .before .before .before .pre .0 .framed in
-    ((f .slotsFew, f .coloursFew, f .budgetsFew), lower-lies _ _ (stripOf (c .before .before .before .before .before .before .before .before .before .before .args .p)) (pointOf (c .before .before .before .before .before .before .before .before .before .before .args .s)) _ (c .before .before .before .before .before .before .before .before .before .before .pre .1 .0) (c .before .before .before .before .before .before .before .before .before .before .pre .0 .stands .colourLow) (c .before .before .before .before .before .before .before .before .before .before .pre .1 .1))
-
--- src/lib.rt:118:17
-add-lower : tie.Need-add-lower
-add-lower c =
-    let p = c .before .before .before .before .before .before .before .before .before .before .before .pre in
-    omega (arith, c .row-place2 .ensures, lower-fits (p .0) (stripOf (c .before .before .before .before .before .before .before .before .before .before .before .args .p)) (c .before .before .before .before .before .before .before .before .before .before .before .args .k) (p .1 .0) (p .1 .1))
-
--- src/lib.rt:119:13
+-- src/lib.rt:182:13
 cast-n : tie.Need-cast-n
 cast-n c = search needs
 
--- src/lib.rt:120:64
+-- src/lib.rt:183:16
+sub-last : tie.Need-sub-last
+sub-last c =
+    omega (arith, c .before .before .before .before .before .before .before .before .pre .0 .framed .budgetsSome)
+
+-- src/lib.rt:184:25
+add-same : tie.Need-add-same
+add-same c =
+    let p = c .before .before .before .before .before .before .before .before .pre in
+    let a = c .before .before .before .before .before .before .before .before .args in
+    omega (arith, c .before .part-places .ensures .0, upper-fits (p .0) (stripOf (a .p)) (a .k) (p .1 .0 .0) (p .1 .0 .1), p .0 .framed .budgetsSome)
+
+-- src/lib.rt:184:20
+mul-same : tie.Need-mul-same
+mul-same c =
+    let p = c .before .before .before .before .before .before .before .before .pre in
+    let a = c .before .before .before .before .before .before .before .before .args in
+    omega (arith, c .before .part-places .ensures .0, upper-fits (p .0) (stripOf (a .p)) (a .k) (p .1 .0 .0) (p .1 .0 .1), p .0 .framed .budgetsSome)
+
+-- src/lib.rt:184:20
+slice-read-same : tie.Need-slice-read-same
+slice-read-same c =
+    let p = c .before .before .before .before .before .before .before .before .before .pre in
+    let a = c .before .before .before .before .before .before .before .before .before .args in
+    omega (arith, c .before .before .part-places .ensures .0, upper-fits (p .0) (stripOf (a .p)) (a .k) (p .1 .0 .0) (p .1 .0 .1), p .0 .framed .budgetsSome)
+
+-- src/lib.rt:184:15
+same-requires : tie.Need-same-requires
+same-requires c κs = search needs
+
+-- src/lib.rt:184:57
+add-same-2 : tie.Need-add-same-2
+add-same-2 c =
+    let p = c .before .before .before .before .before .before .before .before .before .before .pre in
+    let a = c .before .before .before .before .before .before .before .before .before .before .args in
+    omega (arith, c .before .before .before .part-places .ensures .1, lower-fits (p .0) (stripOf (a .p)) (a .k) (p .1 .0 .0) (p .1 .0 .1), p .0 .framed .budgetsSome)
+
+-- src/lib.rt:184:52
+mul-same-2 : tie.Need-mul-same-2
+mul-same-2 c =
+    let p = c .before .before .before .before .before .before .before .before .before .before .pre in
+    let a = c .before .before .before .before .before .before .before .before .before .before .args in
+    omega (arith, c .before .before .before .part-places .ensures .1, lower-fits (p .0) (stripOf (a .p)) (a .k) (p .1 .0 .0) (p .1 .0 .1), p .0 .framed .budgetsSome)
+
+-- src/lib.rt:184:52
+slice-read-same-2 : tie.Need-slice-read-same-2
+slice-read-same-2 c =
+    let p = c .before .before .before .before .before .before .before .before .before .before .before .pre in
+    let a = c .before .before .before .before .before .before .before .before .before .before .before .args in
+    omega (arith, c .before .before .before .before .part-places .ensures .1, lower-fits (p .0) (stripOf (a .p)) (a .k) (p .1 .0 .0) (p .1 .0 .1), p .0 .framed .budgetsSome)
+
+-- src/lib.rt:184:47
+same-requires-2 : tie.Need-same-requires-2
+same-requires-2 c κs = search needs
+
+-- src/lib.rt:184:8
+either-requires : tie.Need-either-requires
+either-requires c κs = search needs
+
+-- src/lib.rt:185:9
+returns : tie.Need-returns
+returns c =
+    let a = c .before .before .before .before .before .before .before .before .before .before .before .before .before .before .args in
+    let p = c .before .before .before .before .before .before .before .before .before .before .before .before .before .before .pre in
+    let e = c .before .before .before .before .before .before .before .part-places .ensures in (
+      record { before = λ i h. refl; after = λ i h. refl },
+      λ v h. slot-none (a .q) (a .heights .now) (a .bounds .now) (a .parts .now) (a .counts .now) (a .left .now) (a .work .now) (a .low) (stripOf (a .p)) (pointOf (a .s)) (a .k) v _ _ _ _ _ (omega (arith, c .before .before .before .before .before .before .before .before .before .before .before .before .before .slice-known .given (a .base + v))) (p .1 .1) (e .0) (e .1) (c .before .before .before .before .same .ensures) (c .before .before .same2 .ensures) (sym (c .before .either .ensures) ∙ c .if1 .taken),
+    )
+
+-- src/lib.rt:196:9
 open-cost-requires : tie.Need-open-cost-requires
 open-cost-requires c κs = search needs
 
--- src/lib.rt:120:5
+-- src/lib.rt:187:5
 open-row-requires : tie.Need-open-row-requires
 open-row-requires c κs =
-    let p = c .before .before .before .before .before .before .before .before .before .before .before .before .before .before .pre in
-    let a = c .before .before .before .before .before .before .before .before .before .before .before .before .before .before .args in
-    let u = upper-fits (p .0) (stripOf (a .p)) (a .k) (p .1 .0) (p .1 .1) in
-    let l = lower-fits (p .0) (stripOf (a .p)) (a .k) (p .1 .0) (p .1 .1) in
-    let e = c .before .before .before .before .row-place .ensures in
-    let f = c .before .before .before .row-place2 .ensures in
-    (p .0 .listed, (p .0 .leftLong, omega (arith, p .0 .apart), omega (arith, p .0 .apart), omega arith, omega arith))
+    let p = c .before .before .before .before .before .before .before .before .before .before .before .before .before .before .before .before .pre in
+    let a = c .before .before .before .before .before .before .before .before .before .before .before .before .before .before .before .before .args in
+    let u = upper-fits (p .0) (stripOf (a .p)) (a .k) (p .1 .0 .0) (p .1 .0 .1) in
+    let l = lower-fits (p .0) (stripOf (a .p)) (a .k) (p .1 .0 .0) (p .1 .0 .1) in
+    let e = c .before .before .before .before .before .before .before .before .before .part-places .ensures in
+    (p .0 .listed, (p .0 .leftLong, omega (arith, p .0 .apart, e .0), omega (arith, p .0 .apart, e .1), omega (arith, e .0), omega (arith, e .1)))
 
--- src/lib.rt:106:1
+-- src/lib.rt:159:1
 same-length : tie.Need-same-length
 same-length c = search needs
 
--- src/lib.rt:106:1
+-- src/lib.rt:159:1
 returns-2 : tie.Need-returns-2
 returns-2 c =
-    let a = c .before .before .before .before .before .before .before .before .before .before .before .before .before .before .before .before .before .args in
-    let g = sym (c .before .before .before .before .before .before .before .before .before .before .leaves-gap .ensures) ∙ not-e _ (c .before .before .before .before .before .before .before .before .before .if1 .left) in
+    let a = c .before .before .before .before .before .before .before .before .before .before .before .before .before .before .before .before .before .before .before .args in
+    let p = c .before .before .before .before .before .before .before .before .before .before .before .before .before .before .before .before .before .before .before .pre in
     let o = c .before .before .open-row in
-    let e = ap (λ (z : ℕ). a .low + z) (c .before .before .before .before .before .before .before .row-place .ensures) in
-    let f = ap (λ (z : ℕ). a .low + z) (c .before .before .before .before .before .before .row-place2 .ensures) in (
+    let e = c .before .before .before .before .before .before .before .before .before .before .before .before .part-places .ensures in (
       o .ensures .0,
-      λ v h. o .ensures .1 v h ∙ ap (min (getD (a .work .now) (a .base + v) 0)) (slot-open (a .q) (a .heights .now) (a .bounds .now) (a .parts .now) (a .counts .now) (a .left .now) (a .work .now) (a .low) (stripOf (a .p)) (pointOf (a .s)) (a .k) v _ _ _ g (c .before .before .before .open-cost .ensures) e f),
+      λ v h. o .ensures .1 v h ∙ ap (min (getD (a .work .now) (a .base + v) 0)) (slot-open (a .q) (a .heights .now) (a .bounds .now) (a .parts .now) (a .counts .now) (a .left .now) (a .work .now) (a .low) (stripOf (a .p)) (pointOf (a .s)) (a .k) v _ _ _ _ _ (p .1 .1) (c .before .before .before .open-cost .ensures) (e .0) (e .1) (c .before .before .before .before .before .before .before .before .before .same .ensures) (c .before .before .before .before .before .before .before .same2 .ensures) (sym (c .before .before .before .before .before .before .either .ensures) ∙ c .before .before .before .before .before .if1 .left)),
     )
 
 pub open-slot-spec : {M : Type 1} → statement M
 open-slot-spec =
     tie.close
     (tie.spec
-    leaves-gap-requires
-    returns
-    add-c
-    add-open-row
-    row-place-requires
-    add-upper
-    add-open-row-2
-    row-place-requires-2
-    add-lower
+    part-places-requires
     cast-n
+    sub-last
+    add-same
+    mul-same
+    slice-read-same
+    same-requires
+    add-same-2
+    mul-same-2
+    slice-read-same-2
+    same-requires-2
+    either-requires
+    returns
     open-cost-requires
     open-row-requires
     same-length

@@ -1,10 +1,10 @@
-use Rattle.optimum.specs.OneSided.{topWord}
 use Rattle.strips.specs.Strips.{stripOf, pointOf}
-use Rattle.entries.proofs.Terms.{Tried, tried-none, tried-more}
+use Rattle.entries.proofs.Terms.{tried-empty}
+use Rattle.entries.proofs.Single.{single-row}
 use mathlib.Core.Path.{_≡_, refl, ap, sym, _∙_}
 use mathlib.Core.List.{List, [], _∷_, _++_}
 use mathlib.Core.Logic.{⊎-elim}
-use Prim.Native.Nat.{ℕ, zero, suc, _+_, _-_, _*_, _<_, _≤_, min}
+use Prim.Native.Nat.{ℕ, zero, suc, _+_, _-_, _*_, _<_, _≤_}
 use native.Mathlib.Omega.{arith}
 use native.Mathlib.Numerals.{add-one}
 use lib.ListN.{length, getD, take, drop, set, length-set}
@@ -14,86 +14,111 @@ use Rattle.entries.proofs.open_slots.Statement.{statement}
 use Rattle.entries.proofs.open_slots.Tie as tie
 use Rattle.entries.proofs.open_slots.Reads as reads
 use Rattle.entries.proofs.open_slots.Lts as lts
-use Rattle.entries.proofs.open_slot.Reads as open-slot-reads
-use Rattle.words.proofs.monus.Reads as monus-reads
+use Rattle.entries.proofs.is_single.Reads as is-single-reads
+use Rattle.entries.proofs.least_open.Reads as least-open-reads
+use Rattle.entries.proofs.open_each.Reads as open-each-reads
+use Rattle.strips.proofs.open_window.Reads as open-window-reads
 
-abbrev Inv-loop : tie.InvT-loop
-Inv-loop work₀ q heights bounds parts counts left p s base low end k₀ work k = (p .a ≤ k) × (k - p .a ≤ end - p .a) × Tried q heights bounds parts counts left work₀ work base low (stripOf p) (pointOf s) (k - p .a)
+-- src/lib.rt:291:9
+open-window-requires : tie.Need-open-window-requires
+open-window-requires c κs =
+    let p = c .before .before .before .before .before .before .pre in
+    (p .0 .framed .rising, (p .1 .bLow, omega (arith, p .0 .stands .colourLow, p .0 .framed .coloursFew)))
 
-abbrev μ-loop : tie.MeasureT-loop
-μ-loop work₀ q heights bounds parts counts left p s base low end k₀ work k = end - k
-
--- src/lib.rt:130:9
-monus-requires : tie.Need-monus-requires Inv-loop μ-loop
-monus-requires c κs = search needs
-
--- src/lib.rt:132:5
-loop-holds : tie.Need-loop-holds Inv-loop μ-loop
-loop-holds c =
-    let a = c .before .before .before .before .before .before .before .args in
-    let e : a .p .a - a .p .a ≡ 0 = omega arith in (
-      omega arith,
-      omega arith,
-      rw e (tried-none (a .q) (a .heights .now) (a .bounds .now) (a .parts .now) (a .counts .now) (a .left .now) (a .work .now) (a .base) (a .low) (stripOf (a .p)) (pointOf (a .s)) (λ i. omega (arith, c .before .before .before .before .before .before .slice-known .given i))),
-    )
-
--- src/lib.rt:133:9
-open-slot-requires : tie.Need-open-slot-requires Inv-loop μ-loop
-open-slot-requires c κs =
-    let p = c .before .before .before .before .before .before .before .before .before .before .pre in
-    let l = c .before .before .loop in
-    (rw (l .inv .2 .long) (p .0), (p .1, omega (arith, c .before .before .before .monus .ensures)))
-
--- src/lib.rt:134:9
-add-k : tie.Need-add-k Inv-loop μ-loop
-add-k c =
-    omega (arith, c .before .before .before .before .before .before .monus .ensures, c .before .before .before .before .before .before .before .before .before .before .before .before .before .pre .1 .bLow, c .before .before .before .before .before .before .before .before .before .before .before .before .before .pre .0 .framed .slotsFew)
-
--- src/lib.rt:132:5
-loop-less : tie.Need-loop-less Inv-loop μ-loop
-loop-less c =
-    search needs
-
--- src/lib.rt:132:5
-loop-again : tie.Need-loop-again Inv-loop μ-loop
-loop-again c =
-    let a = c .before .before .before .before .before .before .before .before .before .before .before .before .before .args in
-    let p = c .before .before .before .before .before .before .before .before .before .before .before .before .before .pre in
-    let l = c .before .before .before .before .before .loop in
-    let o = c .before .before .open-slot in
-    let e : l .k + 1 - a .p .a ≡ l .k - a .p .a + 1 = omega arith in
-    let f : a .p .a + (l .k - a .p .a) ≡ l .k = omega arith in (
-      omega arith,
-      omega arith,
-      rw e (tried-more (a .q) (a .heights .now) (a .bounds .now) (a .parts .now) (a .counts .now) (a .left .now) (a .work .now) (l .work) (o .last .0) (a .base) (a .low) (stripOf (a .p)) (pointOf (a .s)) (l .k - a .p .a)
-          (p .0 .apart) (l .inv .2) (o .kept .0) (o .ensures .0) (λ v h. rw f (o .ensures .1 v h))),
-    )
-
--- src/lib.rt:124:1
-same-length : tie.Need-same-length Inv-loop μ-loop
-same-length c =
-    c .before .loop .inv .2 .long
-
--- src/lib.rt:124:1
-returns : tie.Need-returns Inv-loop μ-loop
+-- src/lib.rt:293:9
+returns : tie.Need-returns
 returns c =
-    let l = c .before .loop in
     let a = c .before .before .before .before .before .before .before .before .before .args in
-    let e : l .k - a .p .a ≡ a .p .b - 1 - a .p .a = omega (arith, c .before .before .monus .ensures) in
-    let t : Tried (a .q) (a .heights .now) (a .bounds .now) (a .parts .now) (a .counts .now) (a .left .now) (a .work .now) (l .work) (a .base) (a .low) (stripOf (a .p)) (pointOf (a .s)) (a .p .b - 1 - a .p .a) = rw e at (l .inv .2) in
+    let w = c .before .before .open-window in
+    let t = tried-empty (a .q) (a .heights .now) (a .bounds .now) (a .parts .now) (a .counts .now) (a .left .now) (a .work .now) (a .base) (a .low) (stripOf (a .p)) (pointOf (a .s)) (w .result) (w .ensures) (c .if1 .taken) (λ i. omega (arith, c .before .before .before .before .before .before .before .before .slice-known .given i)) in
     (t .others, t .row)
+
+-- src/lib.rt:295:18
+cast-is-single : tie.Need-cast-is-single
+cast-is-single c = search needs
+
+-- src/lib.rt:295:8
+is-single-requires : tie.Need-is-single-requires
+is-single-requires c κs =
+    let p = c .before .before .before .before .before .before .before .before .before .before .pre in
+    (p .0 .listed, p .0 .leftLong, p .0 .framed .budgetsSome)
+
+-- src/lib.rt:296:65
+mul-least-open : tie.Need-mul-least-open
+mul-least-open c =
+    let p = c .before .before .before .before .before .before .before .before .before .before .before .before .before .pre in
+    omega (arith, p .0 .apart, p .0 .within, p .0 .framed .budgetsSome)
+
+-- src/lib.rt:296:65
+slice-reshared-read-least-open : tie.Need-slice-reshared-read-least-open
+slice-reshared-read-least-open c =
+    let p = c .before .before .before .before .before .before .before .before .before .before .before .before .before .pre in
+    omega (arith, p .0 .apart, p .0 .within, p .0 .framed .budgetsSome)
+
+-- src/lib.rt:296:13
+least-open-requires : tie.Need-least-open-requires
+least-open-requires c κs =
+    let p = c .before .before .before .before .before .before .before .before .before .before .before .before .before .pre in
+    let f = p .0 .framed in
+    let o = c .before .before .is-single .ensures (c .before .if2 .taken) in
+    let w = c .before .before .before .before .before .before .open-window .ensures in
+    let l = c .before .before .before .before .if1 .left in
+    ((record { narrow = f .narrow; heightLow = f .heightLow; yLow = p .0 .stands .yLow }, f .slotsFew, f .coloursFew, p .0 .stands .colourLow, o .one), ((p .1, p .0 .within), (l, w .high l)))
+
+-- src/lib.rt:297:9
+mul-work : tie.Need-mul-work
+mul-work c =
+    let p = c .before .before .before .before .before .before .before .before .before .before .before .before .before .before .pre in
+    omega (arith, p .0 .apart, p .0 .within, p .0 .framed .budgetsSome)
+
+-- src/lib.rt:297:9
+slice-write-work : tie.Need-slice-write-work
+slice-write-work c =
+    let p = c .before .before .before .before .before .before .before .before .before .before .before .before .before .before .pre in
+    omega (arith, p .0 .apart, p .0 .within, p .0 .framed .budgetsSome)
+
+-- src/lib.rt:298:9
+same-length : tie.Need-same-length
+same-length c = search needs
+
+-- src/lib.rt:298:9
+returns-2 : tie.Need-returns-2
+returns-2 c =
+    let a = c .before .before .before .before .before .before .before .before .before .before .before .before .before .before .args in
+    let p = c .before .before .before .before .before .before .before .before .before .before .before .before .before .before .pre in
+    let o = c .before .before .before .is-single .ensures (c .before .before .if2 .taken) in
+    let w = c .before .before .before .before .before .before .before .open-window in
+    single-row (a .q) (a .heights .now) (a .bounds .now) (a .parts .now) (a .counts .now) (a .left .now) (a .work .now) (a .base) (a .low) (stripOf (a .p)) (pointOf (a .s)) o (w .result) _ (omega (arith, p .0 .apart, p .0 .within, p .0 .framed .budgetsSome)) (w .ensures) (c .before .before .before .before .before .if1 .left) (c .least-open .ensures)
+
+-- src/lib.rt:300:5
+open-each-requires : tie.Need-open-each-requires
+open-each-requires c κs =
+    let p = c .before .before .before .before .before .before .before .before .before .before .before .before .before .pre in
+    (p .0, (p .1, (c .before .before .before .before .before .before .open-window .ensures, c .before .before .before .before .if1 .left)))
+
+-- src/lib.rt:273:1
+same-length-2 : tie.Need-same-length-2
+same-length-2 c = search needs
+
+-- src/lib.rt:273:1
+returns-3 : tie.Need-returns-3
+returns-3 c = search needs
 
 pub open-slots-spec : {M : Type 1} → statement M
 open-slots-spec =
     tie.close
     (tie.spec
-    Inv-loop
-    μ-loop
-    monus-requires
-    loop-holds
-    open-slot-requires
-    add-k
-    loop-less
-    loop-again
+    open-window-requires
+    returns
+    cast-is-single
+    is-single-requires
+    mul-least-open
+    slice-reshared-read-least-open
+    least-open-requires
+    mul-work
+    slice-write-work
     same-length
-    returns)
+    returns-2
+    open-each-requires
+    same-length-2
+    returns-3)

@@ -59,9 +59,12 @@ loop-again : tie.Need-loop-again Inv-loop μ-loop
 loop-again c =
     let l = c .before .loop in
     let a = c .before .before .args in
-    let k = row-room (l .r) (a .rows) (a .n) (c .loop-test .taken) in
-    (omega (arith, c .loop-test .taken), ap (λ (z : ℕ). z + a .n) (l .inv .1) ∙ omega arith, simp length-set (l .inv .2),
-      λ i h. getD-set-other (l .work) (l .at) i 0 0 (λ (e : i ≡ l .at). omega (arith, l .inv .1, k, c .before .before .pre .1)) ∙ l .inv .3 i h)
+    let k = row-room (l .r) (a .rows) (a .n) (c .loop-test .taken) in (
+      omega (arith, c .loop-test .taken),
+      ap (λ (z : ℕ). z + a .n) (l .inv .1) ∙ omega arith,
+      simp length-set (l .inv .2),
+      λ i h. getD-set-other (l .work) (l .at) i 0 0 (λ (e : i ≡ l .at). omega (arith, l .inv .1, k, c .before .before .pre .1)) ∙ l .inv .3 i h,
+    )
 
 -- src/lib.rt:255:1
 same-length : tie.Need-same-length Inv-loop μ-loop

@@ -102,10 +102,15 @@ loop-again c =
     let l = c .before .before .before .before .before .before .before .loop in
     let f = c .before .before .before .follow in
     let e = c .next-below .ensures in
-    let r = lies-at (length (a .heights .now)) (a .q .colours) (stripOf (l .p)) (omega (arith, l .inv .0, p .1 .0)) (omega (arith, l .inv .1, p .1 .1)) (omega (arith, c .before .before .before .before .before .if1 .taken)) (l .inv .2) refl in
-    (e .0 ∙ l .inv .0, e .1 ∙ l .inv .1, e .2, omega (arith, c .before .before .before .before .before .if1 .taken, next-slot (a .q .colours) (l .p .b) (l .p .cb) _ _ (l .inv .2) (e .3)),
-      next-row _ _ _ _ _ (stripOf (l .p)) (stripOf (c .next-below .result)) (e .0) (e .1) (e .3) (l .inv .4), f .kept .0 ∙ l .inv .5,
-      rw (e .0, e .1, e .3) (followed-more (a .q) (a .heights .now) (a .bounds .now) (a .base) (a .low) (pointOf (a .s)) _ (l .work) (f .last .0) (stripOf (l .p)) _ (l .at) (p .0 .apart) r refl (l .inv .4) (p .0 .framed .budgetsSome) (l .inv .6) (f .ensures .0) (f .ensures .1)))
+    let r = lies-at (length (a .heights .now)) (a .q .colours) (stripOf (l .p)) (omega (arith, l .inv .0, p .1 .0)) (omega (arith, l .inv .1, p .1 .1)) (omega (arith, c .before .before .before .before .before .if1 .taken)) (l .inv .2) refl in (
+      e .0 ∙ l .inv .0,
+      e .1 ∙ l .inv .1,
+      e .2,
+      omega (arith, c .before .before .before .before .before .if1 .taken, next-slot (a .q .colours) (l .p .b) (l .p .cb) _ _ (l .inv .2) (e .3)),
+      next-row _ _ _ _ _ (stripOf (l .p)) (stripOf (c .next-below .result)) (e .0) (e .1) (e .3) (l .inv .4),
+      f .kept .0 ∙ l .inv .5,
+      rw (e .0, e .1, e .3) (followed-more (a .q) (a .heights .now) (a .bounds .now) (a .base) (a .low) (pointOf (a .s)) _ (l .work) (f .last .0) (stripOf (l .p)) _ (l .at) (p .0 .apart) r refl (l .inv .4) (p .0 .framed .budgetsSome) (l .inv .6) (f .ensures .0) (f .ensures .1)),
+    )
 
 -- src/lib.rt:179:1
 same-length : tie.Need-same-length Inv-loop μ-loop

@@ -64,9 +64,12 @@ loop-again c =
     let a = c .before .before .before .before .before .before .before .before .before .before .before .args in
     let l = c .before .before .before .before .before .before .before .loop in
     let f = c .before .before .before .follow-end in
-    let e = c .next-end .ensures in
-    (e .0, omega (arith, c .before .before .before .before .before .if1 .taken, next-slot (a .q .colours) (l .above .slot) (l .above .colour) _ _ (l .inv .0) (e .1)), f .kept .0 ∙ l .inv .2,
-      rw (e .1) (passed-more (a .q) (a .heights .now) (a .bounds .now) (a .base) (a .low) (pointOf (a .s)) _ (l .work) (f .last .0) _ (p .apart) (p .framed .budgetsSome) (l .inv .3) (f .ensures .0) (f .ensures .1)))
+    let e = c .next-end .ensures in (
+      e .0,
+      omega (arith, c .before .before .before .before .before .if1 .taken, next-slot (a .q .colours) (l .above .slot) (l .above .colour) _ _ (l .inv .0) (e .1)),
+      f .kept .0 ∙ l .inv .2,
+      rw (e .1) (passed-more (a .q) (a .heights .now) (a .bounds .now) (a .base) (a .low) (pointOf (a .s)) _ (l .work) (f .last .0) _ (p .apart) (p .framed .budgetsSome) (l .inv .3) (f .ensures .0) (f .ensures .1)),
+    )
 
 -- src/lib.rt:232:1
 same-length : tie.Need-same-length Inv-loop μ-loop

@@ -70,14 +70,16 @@ add-t20 c = search needs
 mark-own-requires : tie.Need-mark-own-requires Inv-loop μ-loop
 mark-own-requires c κs =
     let p = c .before .before .before .before .before .before .before .before .before .before .before .before .pre in
-    let f = p .0 .0 in
-    (record {
-      slotsFew = f .slotsFew;
-      coloursFew = f .coloursFew;
-      budgetsFew = f .budgetsFew;
-      budgetsSome = f .budgetsSome;
-      within = rw (c .before .before .before .clear-marks .kept .0) (first-room _ _ _ (p .1 .1));
-    }, record { aLow = omega arith; caLow = omega arith; bLow = omega arith; cbLow = omega arith; dLow = refl })
+    let f = p .0 .0 in (
+      record {
+        slotsFew = f .slotsFew;
+        coloursFew = f .coloursFew;
+        budgetsFew = f .budgetsFew;
+        budgetsSome = f .budgetsSome;
+        within = rw (c .before .before .before .clear-marks .kept .0) (first-room _ _ _ (p .1 .1));
+      },
+      record { aLow = omega arith; caLow = omega arith; bLow = omega arith; cbLow = omega arith; dLow = refl },
+    )
 
 -- src/lib.rt:320:5
 loop-holds : tie.Need-loop-holds Inv-loop μ-loop
@@ -110,10 +112,13 @@ loop-again c =
     let a = c .before .before .before .before .before .before .before .before .before .before .before .before .before .before .before .before .before .before .before .before .before .args in
     let p = c .before .before .before .before .before .before .before .before .before .before .before .before .before .before .before .before .before .before .before .before .before .pre in
     let l = c .before .before .before .before .before .loop in
-    let m = c .before .before .mark-site in
-    (l .inv .0, omega (arith, c .before .before .before .before .loop-test .taken), m .kept .0 ∙ l .inv .2,
+    let m = c .before .before .mark-site in (
+      l .inv .0,
+      omega (arith, c .before .before .before .before .loop-test .taken),
+      m .kept .0 ∙ l .inv .2,
       (λ f g. reach-more (a .q) (a .heights .now) (a .bounds .now) f (a .xs .now) (a .ys .now) (a .cs .now) g (l .work) (m .last .0) _ (l .j) (c .before .before .before .before .loop-test .taken) (l .inv .3 f g) (m .ensures .0) (m .ensures .1)),
-      λ i h. m .ensures .0 .others .after i (past-level (l .j) (length (a .xs .now)) _ i (c .before .before .before .before .loop-test .taken) h) ∙ l .inv .4 i h)
+      λ i h. m .ensures .0 .others .after i (past-level (l .j) (length (a .xs .now)) _ i (c .before .before .before .before .loop-test .taken) h) ∙ l .inv .4 i h,
+    )
 
 -- src/lib.rt:294:1
 same-length : tie.Need-same-length Inv-loop μ-loop
@@ -126,11 +131,12 @@ returns c =
     let a = c .before .before .before .before .before .before .before .before .before .before .before .before .before .before .before .before .before .args in
     let p = c .before .before .before .before .before .before .before .before .before .before .before .before .before .before .before .before .before .pre in
     let l = c .before .loop in
-    let z : l .j ≡ length (a .xs .now) = omega (arith, c .loop-test .left, l .inv .1) in
-    (to-level (instanceOn (a .q) (a .heights .now) (a .bounds .now)) (a .q) (pointsBy (a .xs .now) (a .ys .now) (a .cs .now)) (l .work) _ _ (l .j) (l .inv .0) z (l .inv .3 (p .0 .0) (p .0 .1)),
+    let z : l .j ≡ length (a .xs .now) = omega (arith, c .loop-test .left, l .inv .1) in (
+      to-level (instanceOn (a .q) (a .heights .now) (a .bounds .now)) (a .q) (pointsBy (a .xs .now) (a .ys .now) (a .cs .now)) (l .work) _ _ (l .j) (l .inv .0) z (l .inv .3 (p .0 .0) (p .0 .1)),
       λ i h.
-      let e = ap (λ (z : ℕ). z * a .q .budgets) (p .1 .0) in
-      l .inv .4 i (rw (l .inv .0) h) ∙ c .before .before .before .before .mark-own .ensures .0 .others .after i (first-room _ _ _ h) ∙ c .before .before .before .before .before .before .before .before .clear-marks .ensures i (count-words (length (a .xs .now) + 1) (a .rows) (a .q .budgets) _ _ e h))
+          let e = ap (λ (z : ℕ). z * a .q .budgets) (p .1 .0) in
+          l .inv .4 i (rw (l .inv .0) h) ∙ c .before .before .before .before .mark-own .ensures .0 .others .after i (first-room _ _ _ h) ∙ c .before .before .before .before .before .before .before .before .clear-marks .ensures i (count-words (length (a .xs .now) + 1) (a .rows) (a .q .budgets) _ _ e h),
+    )
 
 pub mark-table-spec : {M : Type 1} → statement M
 mark-table-spec =

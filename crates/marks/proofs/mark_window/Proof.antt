@@ -53,9 +53,13 @@ loop-again : tie.Need-loop-again Inv-loop μ-loop
 loop-again c =
     let l = c .before .before .before .before .before .before .loop in
     let t = c .before .before .before .before .if1 .taken in
-    let f = c .before .before .mark-parts in
-    (omega (arith, l .inv .0), inr (omega (arith, t)), marking-join _ _ _ _ _ (l .inv .2) (f .ensures .0), f .kept .0 ∙ l .inv .3,
-      λ i a b. by-equal i (l .k) (λ e. rw e (f .ensures .1)) (λ n. parts-kept _ _ _ _ _ _ _ _ (f .ensures .0) (l .inv .4 i a (omega arith))))
+    let f = c .before .before .mark-parts in (
+      omega (arith, l .inv .0),
+      inr (omega (arith, t)),
+      marking-join _ _ _ _ _ (l .inv .2) (f .ensures .0),
+      f .kept .0 ∙ l .inv .3,
+      λ i a b. by-equal i (l .k) (λ e. rw e (f .ensures .1)) (λ n. parts-kept _ _ _ _ _ _ _ _ (f .ensures .0) (l .inv .4 i a (omega arith))),
+    )
 
 -- src/lib.rt:87:1
 same-length : tie.Need-same-length Inv-loop μ-loop

@@ -71,15 +71,17 @@ fill-marked-requires c κs =
     let p = c .before .before .before .before .before .before .before .before .before .before .before .before .before .pre in
     let a = c .before .before .before .before .before .before .before .before .before .before .before .before .before .args in
     let l = c .before .before .before .loop in
-    let r = lies-at (length (a .heights .now)) (a .q .colours) (stripOf (l .p)) (omega (arith, l .inv .0, p .1 .0)) (omega (arith, l .inv .1, p .1 .1)) (omega (arith, c .before .if1 .taken)) (l .inv .2) refl in
-    (record {
-      framed = p .0 .framed;
-      listed = p .0 .listed;
-      leftLong = p .0 .leftLong;
-      stands = p .0 .stands;
-      apart = row-low (a .q) (a .heights .now) (a .bounds .now) (a .parts .now) (a .counts .now) (a .left .now) (a .base) (a .low) (pointOf (a .s)) _ _ (p .0 .apart) r (l .inv .4);
-      within = omega (arith, l .inv .5, p .0 .within);
-    }, r)
+    let r = lies-at (length (a .heights .now)) (a .q .colours) (stripOf (l .p)) (omega (arith, l .inv .0, p .1 .0)) (omega (arith, l .inv .1, p .1 .1)) (omega (arith, c .before .if1 .taken)) (l .inv .2) refl in (
+      record {
+        framed = p .0 .framed;
+        listed = p .0 .listed;
+        leftLong = p .0 .leftLong;
+        stands = p .0 .stands;
+        apart = row-low (a .q) (a .heights .now) (a .bounds .now) (a .parts .now) (a .counts .now) (a .left .now) (a .base) (a .low) (pointOf (a .s)) _ _ (p .0 .apart) r (l .inv .4);
+        within = omega (arith, l .inv .5, p .0 .within);
+      },
+      r,
+    )
 
 -- src/lib.rt:84:9
 add-at-2 : tie.Need-add-at-2 Inv-loop μ-loop
@@ -113,10 +115,15 @@ loop-again c =
     let f = c .before .before .before .fill-marked in
     let e = c .next-below .ensures in
     let r = lies-at (length (a .heights .now)) (a .q .colours) (stripOf (l .p)) (omega (arith, l .inv .0, p .1 .0)) (omega (arith, l .inv .1, p .1 .1)) (omega (arith, c .before .before .before .before .before .if1 .taken)) (l .inv .2) refl in
-    let z = later-end (a .q .colours) (l .p .b) (l .p .cb) (length (a .heights .now) + 2) 0 (l .inv .2) (omega (arith, c .before .before .before .before .before .if1 .taken)) in
-    (e .0 ∙ l .inv .0, e .1 ∙ l .inv .1, e .2, omega (arith, z, e .3),
-      next-row _ _ _ _ _ (stripOf (l .p)) (stripOf (c .next-below .result)) (e .0) (e .1) (e .3) (l .inv .4), f .kept .0 ∙ l .inv .5,
-      rw (e .0, e .1, e .3) (filled-more (a .q) (a .heights .now) (a .bounds .now) (a .parts .now) (a .counts .now) (a .left .now) (a .base) (a .low) (pointOf (a .s)) _ (l .work) (f .last .0) (stripOf (l .p)) _ (l .at) (p .0 .apart) r refl (l .inv .4) (l .inv .6) (f .ensures .0) (f .ensures .1)))
+    let z = later-end (a .q .colours) (l .p .b) (l .p .cb) (length (a .heights .now) + 2) 0 (l .inv .2) (omega (arith, c .before .before .before .before .before .if1 .taken)) in (
+      e .0 ∙ l .inv .0,
+      e .1 ∙ l .inv .1,
+      e .2,
+      omega (arith, z, e .3),
+      next-row _ _ _ _ _ (stripOf (l .p)) (stripOf (c .next-below .result)) (e .0) (e .1) (e .3) (l .inv .4),
+      f .kept .0 ∙ l .inv .5,
+      rw (e .0, e .1, e .3) (filled-more (a .q) (a .heights .now) (a .bounds .now) (a .parts .now) (a .counts .now) (a .left .now) (a .base) (a .low) (pointOf (a .s)) _ (l .work) (f .last .0) (stripOf (l .p)) _ (l .at) (p .0 .apart) r refl (l .inv .4) (l .inv .6) (f .ensures .0) (f .ensures .1)),
+    )
 
 -- src/lib.rt:55:1
 same-length : tie.Need-same-length Inv-loop μ-loop

@@ -66,9 +66,12 @@ loop-again c =
     let l = c .before .before .before .before .before .before .before .loop in
     let f = c .before .before .before .fill-end in
     let e = c .next-end .ensures in
-    let z = later-end (a .q .colours) (l .above .slot) (l .above .colour) (length (a .heights .now) + 1) 0 (l .inv .0) (omega (arith, c .before .before .before .before .before .if1 .taken)) in
-    (e .0, omega (arith, z, e .1), f .kept .0 ∙ l .inv .2,
-      rw (e .1) (passed-more (a .q) (a .heights .now) (a .bounds .now) (a .parts .now) (a .counts .now) (a .left .now) (a .base) (a .low) (pointOf (a .s)) _ (l .work) (f .last .0) (l .above .slot) (l .above .colour) (p .apart) (omega (arith, c .before .before .before .before .before .if1 .taken)) (l .inv .0) (l .inv .3) (f .ensures .0) (f .ensures .1)))
+    let z = later-end (a .q .colours) (l .above .slot) (l .above .colour) (length (a .heights .now) + 1) 0 (l .inv .0) (omega (arith, c .before .before .before .before .before .if1 .taken)) in (
+      e .0,
+      omega (arith, z, e .1),
+      f .kept .0 ∙ l .inv .2,
+      rw (e .1) (passed-more (a .q) (a .heights .now) (a .bounds .now) (a .parts .now) (a .counts .now) (a .left .now) (a .base) (a .low) (pointOf (a .s)) _ (l .work) (f .last .0) (l .above .slot) (l .above .colour) (p .apart) (omega (arith, c .before .before .before .before .before .if1 .taken)) (l .inv .0) (l .inv .3) (f .ensures .0) (f .ensures .1)),
+    )
 
 -- src/lib.rt:114:1
 same-length : tie.Need-same-length Inv-loop μ-loop

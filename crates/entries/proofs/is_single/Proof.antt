@@ -1,0 +1,61 @@
+use borrow.Author.Tests.{eqb-true}
+use Rattle.lists.proofs.Tests.{and-both, clash}
+use mathlib.Core.Path.{_≡_, refl, ap, sym, _∙_}
+use mathlib.Core.List.{List, [], _∷_, _++_}
+use mathlib.Core.Logic.{⊎-elim}
+use Prim.Native.Nat.{ℕ, zero, suc, _+_, _-_, _*_, _<_, _≤_}
+use native.Mathlib.Omega.{arith}
+use native.Mathlib.Numerals.{add-one}
+use lib.ListN.{length, getD, take, drop, set, length-set}
+use borrow.Author.Tests.{eq-eqb, ne-eqb, lt-ltb, le-ltb, le-leb, lt-leb}
+use borrow.Author.Needs.{needs}
+use Rattle.entries.proofs.is_single.Statement.{statement}
+use Rattle.entries.proofs.is_single.Tie as tie
+use Rattle.entries.proofs.is_single.Reads as reads
+use Rattle.entries.proofs.is_single.Lts as lts
+use Rattle.words.proofs.both.Reads as both-reads
+
+-- src/lib.rt:234:9
+returns : tie.Need-returns
+returns c =
+    λ e. clash e refl
+
+-- src/lib.rt:237:9
+shared-slice-read-both : tie.Need-shared-slice-read-both
+shared-slice-read-both c = search needs
+
+-- src/lib.rt:238:14
+shared-slice-read-both-2 : tie.Need-shared-slice-read-both-2
+shared-slice-read-both-2 c = search needs
+
+-- src/lib.rt:238:30
+shared-slice-read-both-3 : tie.Need-shared-slice-read-both-3
+shared-slice-read-both-3 c = search needs
+
+-- src/lib.rt:238:9
+both-requires : tie.Need-both-requires
+both-requires c κs = search needs
+
+-- src/lib.rt:236:5
+both-requires-2 : tie.Need-both-requires-2
+both-requires-2 c κs = search needs
+
+-- src/lib.rt:229:1
+returns-2 : tie.Need-returns-2
+returns-2 c =
+    λ e.
+    let w = and-both _ _ (sym (c .both2 .ensures) ∙ e) in
+    let x = and-both _ _ (sym (c .before .both .ensures) ∙ w .1) in
+    record { one = omega (arith, c .before .before .before .before .before .if1 .left); own = eqb-true _ _ (w .0); counted = eqb-true _ _ (x .0); drawn = eqb-true _ _ (x .1) }
+
+pub is-single-spec : {M : Type 1} → statement M
+is-single-spec =
+    tie.close
+    (tie.spec
+    returns
+    shared-slice-read-both
+    shared-slice-read-both-2
+    shared-slice-read-both-3
+    both-requires
+    both-requires-2
+    returns-2)
