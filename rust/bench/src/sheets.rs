@@ -71,3 +71,10 @@ pub fn largest_of_program() -> Vec<Named> {
         banded("two-sided, colours and budgets", 32, 26, &[1, 1, 1, 1, 1, 1, FREE, FREE]),
     ]
 }
+
+#[test]
+fn largest_of_program_fill_its_work_area() {
+    for Named { name, sheet } in largest_of_program() {
+        assert!((15_900..=16_384).contains(&sheet.work_words()), "{name}");
+    }
+}
