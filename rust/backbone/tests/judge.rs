@@ -1,9 +1,8 @@
 //! The library's judge and a plain one, on stored sheets that are right, invented or damaged.
 
 use backbone::{judge, Rule};
-use model::random::{damage, small_sheet, Random};
+use model::random::{stored_sheet, Random};
 use model::rules;
-use model::sheet::Sheet;
 
 const STORED_SHEETS: usize = 400_000;
 
@@ -14,33 +13,12 @@ fn library_verdict(stored: &[u32]) -> (u8, u8) {
     }
 }
 
-/// A layout with random ties, few slots more often than many, and true numbers.
-fn invented_layout(sheet: &Sheet, random: &mut Random) -> Vec<u32> {
-    let slots = sheet.slots.len() as u32;
-    if slots == 0 {
-        return vec![8 << 28];
-    }
-    let start = random.below(slots);
-    let spread = random.between(1, slots);
-    let slot_of: Vec<usize> = sheet
-        .sites
-        .iter()
-        .map(|site| ((start + site.colour as u32 * random.pick(&[1, 2]) + random.below(spread)) % slots) as usize)
-        .collect();
-    rules::layout_words(sheet, &slot_of)
-}
-
 #[test]
 fn stored_sheets_are_judged_alike() {
     let mut random = Random::new(31);
     let (mut rules_met, mut refusals_met) = ([0; 7], [0; 12]);
     for _ in 0..STORED_SHEETS {
-        let sheet = small_sheet(&mut random);
-        let layout = invented_layout(&sheet, &mut random);
-        let mut stored = [sheet.words(), layout].concat();
-        for _ in 0..random.pick(&[0, 0, 1, 1, 2]) {
-            damage(&mut stored, &mut random);
-        }
+        let stored = stored_sheet(&mut random);
         let (refusal, rule) = rules::judge(&stored);
         assert_eq!(library_verdict(&stored), (refusal, rule), "{stored:x?}");
         if refusal == 0 {

@@ -10,6 +10,8 @@ use model::{maker, rules, search};
 
 const SMALL_SHEETS: usize = 120_000;
 const MEDIUM_SHEETS: usize = 3_000;
+/// Each test's sheets are shared out among this many threads, each with its own seed.
+const THREADS: usize = 4;
 
 /// The plain table and walk.
 fn plainly_made(sheet: &Sheet) -> Result<Vec<u32>, u8> {
@@ -63,27 +65,36 @@ impl Met {
     }
 }
 
+/// Draws and checks sheets in several threads, and looks whether all sorts have been met.
+fn compare(sheets: usize, seed: u64, draw: fn(&mut Random) -> Sheet, check: fn(&Sheet, &mut Random) -> bool) {
+    let share = |index: usize| {
+        let mut random = Random::new(seed + index as u64);
+        let mut met = Met::default();
+        for _ in 0..sheets.div_ceil(THREADS) {
+            let sheet = draw(&mut random);
+            let laid_out = check(&sheet, &mut random);
+            met.note(&sheet, laid_out);
+        }
+        assert!(met.least() > sheets / THREADS / 50, "{met:?}");
+    };
+    let share = &share;
+    std::thread::scope(|scope| {
+        for index in 0..THREADS {
+            scope.spawn(move || share(index));
+        }
+    });
+}
+
 #[test]
 fn small_sheets_as_the_search_has_them() {
-    let mut random = Random::new(21);
-    let mut met = Met::default();
-    for _ in 0..SMALL_SHEETS {
-        let sheet = small_sheet(&mut random);
-        let made = checked(&sheet, &mut random);
-        assert_eq!(made, search::best(&sheet).ok_or(Refusal::NoLayout.number()), "{sheet:?}");
-        met.note(&sheet, made.is_ok());
-    }
-    assert!(met.least() > SMALL_SHEETS / 50, "{met:?}");
+    compare(SMALL_SHEETS, 210, small_sheet, |sheet, random| {
+        let made = checked(sheet, random);
+        assert_eq!(made, search::best(sheet).ok_or(Refusal::NoLayout.number()), "{sheet:?}");
+        made.is_ok()
+    });
 }
 
 #[test]
 fn medium_sheets_as_the_plain_table_has_them() {
-    let mut random = Random::new(22);
-    let mut met = Met::default();
-    for _ in 0..MEDIUM_SHEETS {
-        let sheet = medium_sheet(&mut random);
-        let made = checked(&sheet, &mut random);
-        met.note(&sheet, made.is_ok());
-    }
-    assert!(met.least() > MEDIUM_SHEETS / 50, "{met:?}");
+    compare(MEDIUM_SHEETS, 220, medium_sheet, |sheet, random| checked(sheet, random).is_ok());
 }

@@ -7,16 +7,23 @@ mod common;
 use common::SHEET_A;
 use model::program::{prints, MOST_BYTES};
 use model::random::{any_list, damage, small_sheet, Random};
-use std::io::{Read, Write};
+use std::io::{pipe, Read, Write};
+use std::panic::resume_unwind;
 use std::path::PathBuf;
-use std::process::{Child, Command, Stdio};
-use std::sync::atomic::{AtomicBool, AtomicUsize, Ordering};
+use std::process::{Child, Command, ExitStatus, Stdio};
+use std::sync::atomic::{AtomicBool, Ordering};
 use std::sync::Mutex;
-use std::time::Duration;
+use std::thread;
+use std::time::{Duration, Instant};
 
 const INPUTS: usize = 200_000;
+/// The inputs are shared out among threads, each with its own seed: more than processors, so that none is idle
+/// while a thread waits for its program.
+const SEEDS: [u64; 4] = [41, 42, 43, 44];
 /// A program that takes this long for one input hangs.
 const PATIENCE: Duration = Duration::from_secs(20);
+/// Any pipe holds this many bytes.
+const PIPE: usize = 4096;
 
 fn path() -> PathBuf {
     let path = std::env::var_os("BACKBONE_PROGRAM")
@@ -25,66 +32,86 @@ fn path() -> PathBuf {
     path
 }
 
-/// Runs the program on one input after the other; a second thread ends a run that hangs.
+/// Runs the program on one input after the other.
 struct Runner {
     path: PathBuf,
-    running: Mutex<Option<Child>>,
-    runs: AtomicUsize,
-    done: AtomicBool,
+    running: Mutex<Option<(Child, Instant)>>,
 }
 
 impl Runner {
     /// What the program prints, or how it failed.
     fn run(&self, input: &[u8]) -> Result<String, String> {
-        let mut command = Command::new(&self.path);
-        command.stdin(Stdio::piped()).stdout(Stdio::piped());
-        let mut child = command.spawn().map_err(|error| error.to_string())?;
-        let (stdin, stdout) = (child.stdin.take(), child.stdout.take());
-        *self.running.lock().unwrap() = Some(child);
-        // The program need not read all of an input that is too long; the pipe holds the rest.
-        let _ = stdin.expect("stdin is piped").write_all(input);
-        let mut text = Vec::new();
-        let read = stdout.expect("stdout is piped").read_to_end(&mut text);
-        let mut child = self.running.lock().unwrap().take().expect("the child is there until it is waited for");
-        let status = child.wait().map_err(|error| error.to_string())?;
-        self.runs.fetch_add(1, Ordering::Relaxed);
-        read.map_err(|error| error.to_string())?;
+        let mut text = Vec::with_capacity(PIPE);
+        let ran = self.start(input).and_then(|mut stdout| stdout.read_to_end(&mut text));
+        let status = ran.and_then(|_| self.wait()).map_err(|error| error.to_string())?;
         if !status.success() {
             return Err(status.to_string());
         }
         String::from_utf8(text).map_err(|error| error.to_string())
     }
 
-    fn end_runs_that_hang(&self) {
-        let mut last = usize::MAX;
-        let mut waited = Duration::ZERO;
-        let tick = Duration::from_millis(100);
-        while !self.done.load(Ordering::Relaxed) {
-            std::thread::sleep(tick);
-            let runs = self.runs.load(Ordering::Relaxed);
-            waited = if runs == last { waited + tick } else { Duration::ZERO };
-            last = runs;
-            if waited > PATIENCE {
-                if let Some(child) = self.running.lock().unwrap().as_mut() {
-                    let _ = child.kill();
-                }
+    /// Starts the program with its input. What a pipe holds stands there before, so that the program need not wait.
+    fn start(&self, input: &[u8]) -> std::io::Result<impl Read> {
+        let (stdin, mut writer) = pipe()?;
+        let (first, rest) = input.split_at(input.len().min(PIPE));
+        writer.write_all(first)?;
+        let writer = (!rest.is_empty()).then_some(writer);
+        let mut child = Command::new(&self.path).stdin(stdin).stdout(Stdio::piped()).spawn()?;
+        let stdout = child.stdout.take().expect("stdout is piped");
+        *self.running.lock().unwrap() = Some((child, Instant::now()));
+        if let Some(mut writer) = writer {
+            // The program need not read all of an input that is too long.
+            let _ = writer.write_all(rest);
+        }
+        Ok(stdout)
+    }
+
+    /// Waits for the end of a program that has closed its output, which is near; one that hangs can still be ended.
+    fn wait(&self) -> std::io::Result<ExitStatus> {
+        loop {
+            let mut running = self.running.lock().unwrap();
+            let (child, _) = running.as_mut().expect("the program has been started");
+            if let Some(status) = child.try_wait()? {
+                *running = None;
+                return Ok(status);
+            }
+            drop(running);
+            thread::yield_now();
+        }
+    }
+
+    fn end_if_it_hangs(&self) {
+        if let Some((child, start)) = self.running.lock().unwrap().as_mut() {
+            if start.elapsed() > PATIENCE {
+                let _ = child.kill();
             }
         }
     }
 }
 
-fn with_runner(act: impl FnOnce(&Runner)) {
-    let runner =
-        Runner { path: path(), running: Mutex::new(None), runs: AtomicUsize::new(0), done: AtomicBool::new(false) };
-    std::thread::scope(|scope| {
-        scope.spawn(|| runner.end_runs_that_hang());
-        // Ends the second thread even if an assertion fails.
-        let outcome = std::panic::catch_unwind(std::panic::AssertUnwindSafe(|| act(&runner)));
-        runner.done.store(true, Ordering::Relaxed);
-        if let Err(failure) = outcome {
-            std::panic::resume_unwind(failure);
-        }
-    });
+/// Acts on a runner in each of some threads; one thread more ends runs that hang.
+fn with_runners<T: Send>(threads: usize, act: impl Fn(usize, &Runner) -> T + Sync) -> Vec<T> {
+    let runner = |_| Runner { path: path(), running: Mutex::new(None) };
+    let (runners, done) = ((0..threads).map(runner).collect::<Vec<_>>(), AtomicBool::new(false));
+    let act = &act;
+    thread::scope(|scope| {
+        scope.spawn(|| {
+            while !done.load(Ordering::Relaxed) {
+                runners.iter().for_each(Runner::end_if_it_hangs);
+                thread::sleep(Duration::from_millis(50));
+            }
+        });
+        let started: Vec<_> =
+            runners.iter().enumerate().map(|(index, runner)| scope.spawn(move || act(index, runner))).collect();
+        // All are waited for before a failure is passed on, which would leave the first thread running.
+        let outcomes: Vec<_> = started.into_iter().map(|thread| thread.join()).collect();
+        done.store(true, Ordering::Relaxed);
+        outcomes.into_iter().map(|outcome| outcome.unwrap_or_else(|failure| resume_unwind(failure))).collect()
+    })
+}
+
+fn with_runner(act: impl Fn(&Runner) + Sync) {
+    with_runners(1, |_, runner| act(runner));
 }
 
 fn bytes(words: &[u32]) -> Vec<u8> {
@@ -117,24 +144,30 @@ fn any_input(random: &mut Random) -> Vec<u8> {
     input
 }
 
+/// Runs the program on some inputs beside the plain one, and counts refusals and, at 0, layouts.
+fn compare(runner: &Runner, inputs: usize, seed: u64) -> [usize; 13] {
+    let mut random = Random::new(seed);
+    let mut met = [0; 13];
+    for _ in 0..inputs {
+        let input = any_input(&mut random);
+        let expected = prints(&input);
+        assert_eq!(runner.run(&input).as_deref(), Ok(&expected[..]), "{input:x?}");
+        let refusal = expected
+            .strip_prefix("refused ")
+            .map_or(0, |number| number.trim_end().parse::<usize>().expect("a refusal has a number"));
+        met[refusal] += 1;
+    }
+    met
+}
+
 #[test]
 fn random_bytes() {
-    with_runner(|runner| {
-        let mut random = Random::new(41);
-        let mut met = [0; 13];
-        for _ in 0..INPUTS {
-            let input = any_input(&mut random);
-            let expected = prints(&input);
-            assert_eq!(runner.run(&input).as_deref(), Ok(&expected[..]), "{input:x?}");
-            let refusal = expected
-                .strip_prefix("refused ")
-                .map_or(0, |number| number.trim_end().parse::<usize>().expect("a refusal has a number"));
-            met[refusal] += 1;
-        }
-        // All answers but 9, which 33 answer words shut out, and 11, which is the judge's.
-        let rare = (0..13).filter(|refusal| ![9, 11].contains(refusal) && met[*refusal] < INPUTS / 1000);
-        assert_eq!(rare.count(), 0, "{met:?}");
-    });
+    let share = INPUTS.div_ceil(SEEDS.len());
+    let met = with_runners(SEEDS.len(), |index, runner| compare(runner, share, SEEDS[index]));
+    let times = |refusal: usize| met.iter().map(|met| met[refusal]).sum::<usize>();
+    // All answers but 9, which 33 answer words shut out, and 11, which is the judge's.
+    let rare = (0..13).filter(|refusal| ![9, 11].contains(refusal) && times(*refusal) < INPUTS / 1000);
+    assert_eq!(rare.count(), 0, "{met:?}");
 }
 
 #[test]

@@ -1,17 +1,22 @@
 //! Times the library beside the same algorithm in safe Rust, a search over all layouts, and an exact integer
 //! program. Writes Markdown to standard output.
 //!
-//! Answers are compared as they come: where two differ, the run ends with an error.
+//! Answers are compared as they come: where two differ, the run ends with an error. Sections are left out by naming
+//! those that are wanted: maker, growth, program, judge.
 
 mod integer_program;
 mod machine;
+mod program;
+mod same_loops;
 mod sheets;
 mod timing;
 
 use integer_program::{Outcome, Solver};
+use model::program::WORK_WORDS;
 use model::sheet::Sheet;
 use model::{maker, rules, search};
 use sheets::Named;
+use std::hint::black_box;
 use std::time::Duration;
 use timing::{race, show, timed};
 
@@ -25,22 +30,30 @@ struct Areas {
 }
 
 impl Areas {
+    fn new(sheet: &Sheet, work_words: usize) -> Areas {
+        Areas { work: vec![1; work_words], answer: vec![1; sheet.sites.len() + 1] }
+    }
+
     fn of(sheet: &Sheet) -> Areas {
-        Areas { work: vec![1; sheet.work_words() as usize], answer: vec![1; sheet.sites.len() + 1] }
+        Areas::new(sheet, sheet.work_words() as usize)
     }
 }
 
-/// The best layout and the times of the library and of plain Rust.
+/// The best layout and the times of the library and of plain Rust, in the work words that the sheet needs.
 fn race_makers(sheet: &Sheet) -> (Vec<u32>, Duration, Duration) {
+    race_makers_in(sheet, sheet.work_words() as usize)
+}
+
+fn race_makers_in(sheet: &Sheet, work_words: usize) -> (Vec<u32>, Duration, Duration) {
     let words = sheet.words();
-    let mut areas = Areas::of(sheet);
+    let mut areas = Areas::new(sheet, work_words);
     let mut plain_areas = Areas { work: Vec::new(), answer: areas.answer.clone() };
     // One work area for both, since the largest is 1.7 GB.
     let work = std::cell::RefCell::new(std::mem::take(&mut areas.work));
-    let (library, plain) = race(
-        || assert_eq!(backbone::make(&words, &mut work.borrow_mut(), &mut areas.answer), Ok(())),
-        || assert_eq!(maker::make(&words, &mut work.borrow_mut(), &mut plain_areas.answer), 0),
-    );
+    let [library, plain] = race([
+        &mut || assert_eq!(backbone::make(&words, &mut work.borrow_mut(), &mut areas.answer), Ok(())),
+        &mut || assert_eq!(maker::make(&words, &mut work.borrow_mut(), &mut plain_areas.answer), 0),
+    ]);
     assert_eq!(areas.answer, plain_areas.answer, "the library and plain Rust differ: {sheet:?}");
     (areas.answer, library, plain)
 }
@@ -111,19 +124,36 @@ fn print_growth() {
 
 fn print_judges(named: &[Named]) {
     println!("\n## The judge\n");
-    println!("| stored sheet | n | m | library | safe Rust | library / Rust |");
-    println!("|---|---|---|---|---|---|");
+    println!("| stored sheet | n | m | library | same loops in Rust | library / same loops | decoding judge | library / decoding |");
+    println!("|---|---|---|---|---|---|---|---|");
     for Named { name, sheet } in named.iter().filter(|named| named.sheet.work_words() < 100_000_000) {
         let mut areas = Areas::of(sheet);
         assert_eq!(maker::make(&sheet.words(), &mut areas.work, &mut areas.answer), 0);
         let stored = [sheet.words(), areas.answer].concat();
-        let (library, plain) = race(
-            || assert_eq!(backbone::judge(std::hint::black_box(&stored)), Ok(None)),
-            || assert_eq!(rules::judge(std::hint::black_box(&stored)), (0, 0)),
-        );
+        let [library, loops, decoding] = race([
+            &mut || assert_eq!(backbone::judge(black_box(&stored)), Ok(None)),
+            &mut || assert_eq!(same_loops::judge(black_box(&stored)), (0, 0)),
+            &mut || assert_eq!(rules::judge(black_box(&stored)), (0, 0)),
+        ]);
         let (sites, slots) = (sheet.sites.len(), sheet.slots.len());
+        let beside = |rival: Duration| format!("{} | {}", show(rival), ratio(library, rival));
+        println!("| {name} | {sites} | {slots} | {} | {} | {} |", show(library), beside(loops), beside(decoding));
+    }
+}
+
+/// The program's work area is the limit here, so these are the longest that a user of the program waits.
+fn print_program() {
+    println!("\n## The program's largest sheets\n");
+    if !program::is_there() {
+        println!("The program is not built; `rt check backbones` makes it. Its times are left out.");
+        return;
+    }
+    println!("| sheet | n | m | C | P | work words | library | safe Rust | library / Rust | whole process |");
+    println!("|---|---|---|---|---|---|---|---|---|---|");
+    for Named { name, sheet } in sheets::largest_of_program() {
+        let (_, library, plain) = race_makers_in(&sheet, WORK_WORDS);
         let times = format!("{} | {} | {}", show(library), show(plain), ratio(library, plain));
-        println!("| {name} | {sites} | {slots} | {times} |");
+        println!("| {name} {}| {times} | {} |", sizes(&sheet), show(program::time(&sheet)));
     }
 }
 
@@ -133,9 +163,19 @@ fn main() {
         "Each time is the least of several runs, library and Rust by turns; runs of a second or more are made once."
     );
     println!("The integer programs give the cost alone, not the first of the equals; their times have the solver's start in them.\n");
-    let solvers = Solver::installed();
+    let asked: Vec<String> = std::env::args().skip(1).collect();
+    let is_asked = |section: &str| asked.is_empty() || asked.iter().any(|name| name == section);
     let named = sheets::dozen();
-    print_makers(&named, &solvers);
-    print_growth();
-    print_judges(&named);
+    if is_asked("maker") {
+        print_makers(&named, &Solver::installed());
+    }
+    if is_asked("growth") {
+        print_growth();
+    }
+    if is_asked("program") {
+        print_program();
+    }
+    if is_asked("judge") {
+        print_judges(&named);
+    }
 }

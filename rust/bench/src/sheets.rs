@@ -54,3 +54,27 @@ pub fn growing() -> Vec<Named> {
     sheets.extend([FREE, 3, 15, 63].map(|bound| banded("budgets", 12, 16, &[bound, FREE])));
     sheets
 }
+
+/// Sheets that need nearly all of the program's 16,384 work words, none more, each with much of another number.
+pub fn largest_of_program() -> Vec<Named> {
+    vec![
+        banded("one-sided, most slots", 1, 43, &[FREE]),
+        banded("one-sided, most sites", 32, 9, &[FREE]),
+        banded("one-sided, sites and slots", 15, 14, &[FREE]),
+        banded("one-sided, colours", 15, 6, &[FREE, FREE, FREE]),
+        banded("one-sided, most colours", 3, 6, &[FREE; 7]),
+        banded("one-sided, bound", 31, 6, &[1]),
+        banded("one-sided, budgets", 7, 6, &[7]),
+        banded("one-sided, most budgets", 3, 2, &[63]),
+        banded("two-sided, colours", 32, 48, &[3, 2, 2, FREE, FREE, FREE, FREE, FREE]),
+        banded("two-sided, budgets", 32, 48, &[3, 3, 3, FREE]),
+        banded("two-sided, colours and budgets", 32, 26, &[1, 1, 1, 1, 1, 1, FREE, FREE]),
+    ]
+}
+
+#[test]
+fn largest_of_program_fill_its_work_area() {
+    for Named { name, sheet } in largest_of_program() {
+        assert!((15_900..=16_384).contains(&sheet.work_words()), "{name}");
+    }
+}

@@ -1,4 +1,4 @@
-//! Times of two rivals, taken by turns so that a busy machine slows both alike.
+//! Times of rivals, taken by turns so that a busy machine slows all alike.
 
 use std::time::{Duration, Instant};
 
@@ -18,25 +18,26 @@ pub fn timed<T>(act: impl FnOnce() -> T) -> (T, Duration) {
 }
 
 /// The least time of one call of each, over several rounds.
-pub fn race(mut first: impl FnMut(), mut second: impl FnMut()) -> (Duration, Duration) {
-    let (once, other) = (timed(&mut first).1, timed(&mut second).1);
-    if once > LONG || other > LONG {
-        return (once, other);
+pub fn race<const RIVALS: usize>(mut rivals: [&mut dyn FnMut(); RIVALS]) -> [Duration; RIVALS] {
+    let once = rivals.each_mut().map(|act| timed(act).1);
+    if once.iter().any(|time| *time > LONG) {
+        return once;
     }
-    let mut least = (Duration::MAX, Duration::MAX);
+    let mut least = [Duration::MAX; RIVALS];
     let start = Instant::now();
     for round in 0..MOST_ROUNDS {
         if round >= FEWEST_ROUNDS && start.elapsed() > ENOUGH {
             break;
         }
-        least.0 = least.0.min(one_of_many(&mut first, once));
-        least.1 = least.1.min(one_of_many(&mut second, other));
+        for ((act, once), least) in rivals.iter_mut().zip(once).zip(&mut least) {
+            *least = (*least).min(one_of_many(act, once));
+        }
     }
     least
 }
 
 /// The mean of a round of calls.
-fn one_of_many(act: &mut impl FnMut(), once: Duration) -> Duration {
+fn one_of_many(act: &mut dyn FnMut(), once: Duration) -> Duration {
     let calls = (ROUND.as_nanos() / once.as_nanos().max(50)).clamp(1, 200_000) as u32;
     timed(|| (0..calls).for_each(|_| act())).1 / calls
 }

@@ -13,6 +13,8 @@ pub struct Budgets {
     pub count: usize,
     /// What opening a label of a colour takes from a budget: the place value of its digit, 0 if unbounded.
     pub draw: [usize; MOST_COLOURS],
+    /// For each colour, the run of budgets in which its digit takes each value once; all budgets if unbounded.
+    pub block: [usize; MOST_COLOURS],
     /// For each colour, the budgets that allow one more label of it, one bit each.
     pub allowing: [u64; MOST_COLOURS],
     /// For each budget, where its shares begin.
@@ -27,6 +29,7 @@ impl Budgets {
         let mut budgets = Budgets {
             count,
             draw: [0; MOST_COLOURS],
+            block: [count; MOST_COLOURS],
             allowing: [0; MOST_COLOURS],
             starts: [0; MOST + 1],
             shares: Vec::new(),
@@ -39,6 +42,9 @@ impl Budgets {
             budgets.allowing[colour] = mask.sum();
             budgets.draw[colour] = if *bound == UNBOUNDED { 0 } else { place };
             place *= radix;
+            if *bound != UNBOUNDED {
+                budgets.block[colour] = place;
+            }
         }
         budgets
     }
@@ -46,12 +52,11 @@ impl Budgets {
     /// The budgets with their shares listed.
     pub fn with_shares(sheet: &Sheet) -> Budgets {
         let mut budgets = Budgets::of(sheet);
-        let mut radix = [1; MOST_COLOURS];
-        for (colour, bound) in sheet.bounds.iter().enumerate() {
-            radix[colour] = if *bound == UNBOUNDED { 1 } else { *bound as usize + 1 };
-        }
-        let fits = |mut part: usize, mut whole: usize| {
-            radix.iter().all(|radix| {
+        let radix = |bound: &u32| if *bound == UNBOUNDED { 1 } else { *bound + 1 };
+        let radices: Vec<u32> = sheet.bounds.iter().map(radix).collect();
+        let fits = |part: usize, whole: usize| {
+            let (mut part, mut whole) = (part as u32, whole as u32);
+            radices.iter().all(|radix| {
                 let fits = part % radix <= whole % radix;
                 (part, whole) = (part / radix, whole / radix);
                 fits

@@ -1,5 +1,6 @@
 //! Random sheets and damage to them, the same on each run.
 
+use crate::rules::layout_words;
 use crate::sheet::{Sheet, Site, MOST_BUDGETS, UNBOUNDED};
 
 /// Splitmix64: one 64-bit state, good enough to spread over small sheets.
@@ -196,6 +197,32 @@ pub fn damage(words: &mut Vec<u32>, random: &mut Random) {
         4 => words[place] = words[place].wrapping_add(random.below(5)).wrapping_sub(2),
         _ => drop(words.remove(place)),
     }
+}
+
+/// A layout with random ties, few slots more often than many, and true numbers.
+pub fn invented_layout(sheet: &Sheet, random: &mut Random) -> Vec<u32> {
+    let slots = sheet.slots.len() as u32;
+    if slots == 0 {
+        return vec![8 << 28];
+    }
+    let start = random.below(slots);
+    let spread = random.between(1, slots);
+    let slot_of: Vec<usize> = sheet
+        .sites
+        .iter()
+        .map(|site| ((start + site.colour as u32 * random.pick(&[1, 2]) + random.below(spread)) % slots) as usize)
+        .collect();
+    layout_words(sheet, &slot_of)
+}
+
+/// A small sheet with an invented layout, as it is or damaged.
+pub fn stored_sheet(random: &mut Random) -> Vec<u32> {
+    let sheet = small_sheet(random);
+    let mut stored = [sheet.words(), invented_layout(&sheet, random)].concat();
+    for _ in 0..random.pick(&[0, 0, 1, 1, 2]) {
+        damage(&mut stored, random);
+    }
+    stored
 }
 
 /// A list of words of any sort: random sheets, whole or damaged, edges of the counts, and noise.

@@ -1,5 +1,10 @@
 //! Two-sided sheets: every backbone runs from edge to edge, so a layout is a chain of labels read downwards, and
 //! each site goes to the label next above or next below it.
+//!
+//! The benchmark times the library against this. Both read the sheet with all refusals, keep the table in the
+//! caller's work words, fill it once for the least cost and again for each halving of a site's cap, go through
+//! budgets block by block, and leave all work words zero. What is this one's own: the sites are sorted by y, so that
+//! those of a strip stand side by side.
 
 use crate::budgets::Budgets;
 use crate::costs::{Aim, NONE};
@@ -124,11 +129,12 @@ impl<'a> Maker<'a> {
         }
     }
 
+    /// In each block of budgets the first ones, as many as the draw, have no label of the colour left.
     fn lower_row(&self, row: &mut [u32], next: &[u32], step: u32, colour: usize) {
-        let (draw, allowing) = (self.budgets.draw[colour], self.budgets.allowing[colour]);
-        for (budget, cost) in row.iter_mut().enumerate() {
-            if allowing >> budget & 1 == 1 {
-                *cost = (*cost).min(next[budget - draw].saturating_add(step));
+        let (draw, block) = (self.budgets.draw[colour], self.budgets.block[colour]);
+        for (row, next) in row.chunks_exact_mut(block).zip(next.chunks_exact(block)) {
+            for (cost, lower) in row[draw..].iter_mut().zip(next) {
+                *cost = (*cost).min(lower.saturating_add(step));
             }
         }
     }

@@ -1,0 +1,82 @@
+//! The same loops against the library and against the judge that decodes.
+
+use super::judge;
+use backbone::Rule;
+use model::random::{banded_sheet, damage, medium_sheet, stored_sheet, Random};
+use model::sheet::Sheet;
+use model::{maker, rules};
+
+const STORED_SHEETS: usize = 200_000;
+const LAWFUL_SHEETS: usize = 2_000;
+
+fn library_verdict(stored: &[u32]) -> (u8, u8) {
+    match backbone::judge(stored) {
+        Ok(rule) => (0, rule.map_or(0, Rule::number)),
+        Err(refusal) => (refusal.number(), 0),
+    }
+}
+
+/// The verdict that all three judges give.
+fn judged_alike(stored: &[u32]) -> (u8, u8) {
+    let verdict = judge(stored);
+    assert_eq!(verdict, library_verdict(stored), "{stored:x?}");
+    assert_eq!(verdict, rules::judge(stored), "{stored:x?}");
+    verdict
+}
+
+/// The sheet with its best layout, if it has one.
+fn stored_with_best(sheet: &Sheet) -> Option<Vec<u32>> {
+    let mut work = vec![0; sheet.work_words() as usize];
+    let mut answer = vec![0; sheet.sites.len() + 1];
+    let refusal = maker::make(&sheet.words(), &mut work, &mut answer);
+    (refusal == 0).then(|| [sheet.words(), answer].concat())
+}
+
+#[test]
+fn invented_and_damaged_layouts() {
+    let mut random = Random::new(71);
+    let (mut rules_met, mut refusals_met) = ([0; 7], [0; 12]);
+    for _ in 0..STORED_SHEETS {
+        let (refusal, rule) = judged_alike(&stored_sheet(&mut random));
+        if refusal == 0 {
+            rules_met[usize::from(rule)] += 1;
+        }
+        refusals_met[usize::from(refusal)] += 1;
+    }
+    assert!(rules_met.iter().all(|times| *times > STORED_SHEETS / 1000), "{rules_met:?}");
+    for refusal in [1, 2, 4, 5, 6, 7, 11] {
+        assert!(refusals_met[refusal] > STORED_SHEETS / 2000, "{refusals_met:?}");
+    }
+}
+
+#[test]
+fn lawful_layouts_and_damage_to_them() {
+    let mut random = Random::new(72);
+    let mut lawful = 0;
+    while lawful < LAWFUL_SHEETS {
+        let Some(mut stored) = stored_with_best(&medium_sheet(&mut random)) else {
+            continue;
+        };
+        assert_eq!(judged_alike(&stored), (0, 0));
+        lawful += 1;
+        for _ in 0..4 {
+            damage(&mut stored, &mut random);
+            judged_alike(&stored);
+        }
+    }
+}
+
+#[test]
+fn largest_sheets_and_each_word_twice() {
+    let two_sided = banded_sheet(true, 48, 32, &[1, 1, 1, 1, 1, 1, 255, 255], 32);
+    let one_sided = banded_sheet(false, 24, 32, &[3, 255, 255], 32);
+    for sheet in [two_sided, one_sided] {
+        let stored = stored_with_best(&sheet).expect("a banded sheet has a layout");
+        assert_eq!(judged_alike(&stored), (0, 0));
+        for place in 0..stored.len() {
+            let mut longer = stored.clone();
+            longer.insert(place, stored[place]);
+            judged_alike(&longer);
+        }
+    }
+}
