@@ -1,31 +1,31 @@
 -- An entry as code works it out is the model's. Assumes nothing but that the lists of budgets are right.
 use mathlib.Core.Path.{_≡_, refl, sym, ap, ap₂, _∙_, fun-ext}
 use mathlib.Core.Logic.{_⊎_, inl, inr}
-use mathlib.Core.Bool.{Bool, true, false, cond, not, _&&_, _||_}
-use mathlib.Core.List.{List, [], _∷_}
-use Prim.Native.Nat.{ℕ, zero, suc, _+_, _*_, _-_, _<_, _≤_, min}
+use mathlib.Core.Bool.{Bool, true, false, cond, _&&_, _||_}
+use mathlib.Core.List.{List}
+use Prim.Native.Nat.{ℕ, suc, _+_, _*_, _-_, _<_, _≤_, min}
 use native.Mathlib.Nat.{le-antisymm, le-trans}
 use native.Mathlib.Omega.{arith}
 use native.Mathlib.Numerals.{add-one}
-use lib.Dec.{eqb, leb, ltb}
+use lib.Dec.{ltb}
 use lib.ListN.{length, getD, drop}
-use borrow.Author.Tests.{lt-ltb, le-ltb, ltb-true, eqb-true, eq-eqb}
-use Rattle.lists.proofs.Tests.{by-test, by-order, by-either, and-both, and-of, or-e, clash}
+use borrow.Author.Tests.{lt-ltb, le-ltb, ltb-true, eqb-true}
+use Rattle.lists.proofs.Tests.{by-test, by-order, by-either, and-both, or-e}
 use Rattle.search.specs.Cost.{plus, least, plus-top, top-plus, plus-le, least-le, least-le-top, least-most}
 use Rattle.search.specs.Share.{conv}
 use Rattle.search.specs.Radix.{below}
-use Rattle.optimum.specs.Strips.{Point, Strip, Instance, inside, opens, joinsUp, joinsDown, clearFrom}
+use Rattle.optimum.specs.Strips.{Point, Strip, Instance, inside, opens, joinsUp, joinsDown}
 use Rattle.optimum.specs.OneSided.{topWord}
-use Rattle.optimum.specs.Cells.{cells, cellOf, shareCells, stepCell}
+use Rattle.optimum.specs.Cells.{cellOf, shareCells, stepCell}
 use Rattle.optimum.proofs.Loops.{at-drop}
 use Rattle.arrays.specs.declared.Measures.{Measures}
 use Rattle.arrays.specs.Arrays.{instanceBy}
 use Rattle.strips.specs.Strips.{instanceOn, gapLeft, siteOpens, openCost, joinCost}
-use Rattle.strips.proofs.Decisions.{inside-on, opens-on, joins-up-on, joins-down-on, opens-split}
+use Rattle.strips.proofs.Decisions.{inside-on, opens-on, joins-up-on, joins-down-on}
 use Rattle.budgets.specs.Budgets.{Within, Splits, partAt, shareBy, leftBy}
 use Rattle.budgets.proofs.Sharing.{share-by}
 use Rattle.entries.proofs.Joins.{opening, opens-of, shut, up-at, down-at, up-least, down-least}
-use Rattle.entries.specs.Rows.{rowOf, rowsOf, rowIn, Lies, openBy, upperPart, lowerPart, joinLeast, noPart, slotTerm, slotsLeast, insideEntry, entryBy, entryIn}
+use Rattle.entries.specs.Rows.{rowOf, rowIn, Lies, openBy, upperPart, lowerPart, joinLeast, noPart, slotTerm, slotsLeast, insideEntry, entryBy, entryIn}
 
 -- the place of a cell, by its row
 pub cell-row : (P : Instance) (C R : ℕ) (p : Strip) (v : ℕ) → P .kinds ≡ 1 → p .d ≡ 0 → cellOf P C R p v ≡ rowOf (P .m) C p * R + v

@@ -1,18 +1,17 @@
 -- What opening a label asks, taken apart, and what joining one costs. Assumes nothing.
 use mathlib.Core.Path.{_≡_, sym, _∙_}
 use mathlib.Core.Logic.{_⊎_}
-use mathlib.Core.Bool.{true, false, cond, _&&_}
+use mathlib.Core.Bool.{true, false}
 use mathlib.Core.List.{List}
-use Prim.Native.Nat.{ℕ, suc, _+_, _*_, _-_, _<_, _≤_, min}
+use Prim.Native.Nat.{ℕ, suc, _+_, _-_, _<_, _≤_}
 use native.Mathlib.Omega.{arith}
-use lib.Dec.{ltb}
-use lib.ListN.{length, getD}
+use lib.ListN.{length}
 use borrow.Author.Tests.{lt-ltb, ltb-true, eqb-true}
 use Rattle.lists.proofs.Tests.{by-test, by-either, and-both, and-of}
 use Rattle.optimum.specs.Strips.{Point, Strip, opens, joinsUp, joinsDown}
 use Rattle.optimum.specs.OneSided.{topWord}
 use Rattle.arrays.specs.declared.Measures.{Measures}
-use Rattle.strips.specs.Strips.{instanceOn, gapLeft, siteOpens, wordBy, joinCost}
+use Rattle.strips.specs.Strips.{instanceOn, gapLeft, siteOpens, joinCost}
 use Rattle.strips.proofs.Decisions.{opens-split}
 use Rattle.entries.specs.Rows.{joinLeast, Framed, Stands}
 

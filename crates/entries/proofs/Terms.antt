@@ -1,8 +1,8 @@
 -- The terms of an entry, as the rows are written. Assumes nothing.
 use mathlib.Core.Path.{_≡_, refl, sym, ap, ap₂, _∙_, fun-ext, subst}
 use mathlib.Core.Logic.{_⊎_, inl, inr}
-use mathlib.Core.Bool.{Bool, true, false, cond, _&&_, _||_}
-use mathlib.Core.List.{List, [], _∷_}
+use mathlib.Core.Bool.{Bool, true, false, _&&_, _||_}
+use mathlib.Core.List.{List}
 use Prim.Native.Nat.{ℕ, zero, suc, _+_, _*_, _-_, _<_, _≤_, min}
 use native.Mathlib.Omega.{arith}
 use native.Mathlib.Numerals.{add-one}
@@ -11,7 +11,7 @@ use lib.ListN.{length, getD}
 use borrow.Author.Tests.{le-leb, lt-leb, lt-ltb, le-ltb}
 use Rattle.lists.proofs.Tests.{and-of, by-order}
 use Rattle.search.specs.Cost.{plus, least, least-le-top}
-use Rattle.optimum.specs.Strips.{Point, Strip, Instance, inside}
+use Rattle.optimum.specs.Strips.{Point, Strip, inside}
 use Rattle.optimum.specs.OneSided.{topWord}
 use Rattle.arrays.specs.declared.Measures.{Measures}
 use Rattle.strips.specs.declared.Window.{Window}

@@ -1,25 +1,23 @@
 -- What a strip asks for, and that what the whole sheet leads to has the shape that is looked for. Assumes nothing.
-use mathlib.Core.Path.{_≡_, refl, sym, ap, ap₂, _∙_, subst}
+use mathlib.Core.Path.{_≡_, sym, ap, ap₂, _∙_, subst}
 use mathlib.Core.Logic.{_⊎_, inl, inr}
-use mathlib.Core.Bool.{Bool, true, false, cond, _||_}
+use mathlib.Core.Bool.{true, false, _||_}
 use mathlib.Core.List.{List}
-use Prim.Native.Nat.{ℕ, zero, suc, _+_, _*_, _-_, _<_, _≤_}
+use Prim.Native.Nat.{ℕ, suc, _-_, _<_, _≤_}
 use native.Mathlib.Omega.{arith}
 use native.Mathlib.Numerals.{add-one}
-use lib.Dec.{eqb, ltb}
-use lib.ListN.{length, getD}
-use borrow.Author.Tests.{lt-ltb, leb-true, ltb-true}
+use lib.ListN.{length}
+use borrow.Author.Tests.{leb-true, ltb-true}
 use Rattle.lists.proofs.Tests.{by-test, by-either, and-both, or-e, clash}
 use Rattle.optimum.specs.Strips.{Point, Strip, Instance, inside, opens, joinsUp, joinsDown, children}
 use Rattle.optimum.specs.OneSided.{topWord}
-use Rattle.optimum.specs.Reached.{In, Asks, steps}
+use Rattle.optimum.specs.Reached.{In, Asks}
 use Rattle.arrays.specs.declared.Measures.{Measures}
 use Rattle.strips.specs.Strips.{instanceOn, siteOpens, WindowOf}
 use Rattle.strips.specs.declared.Window.{Window}
 use Rattle.entries.specs.Rows.{Framed, Lies, Stands, joinLeast, upperPart, lowerPart}
-use Rattle.entries.proofs.Places.{upper-lies, lower-lies}
 use Rattle.entries.proofs.Joins.{Opening, opening, up-least, down-least, join-low}
-use Rattle.marks.specs.Marks.{Marked, PartsMarked, upperEnd, Shaped}
+use Rattle.marks.specs.Marks.{Marked, PartsMarked}
 
 module _ (q : Measures) (hs bs : List ℕ) (p : Strip) (s : Point) where
   abbrev P : Instance

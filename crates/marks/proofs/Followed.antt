@@ -1,19 +1,17 @@
 -- The strips of a level followed one by one, by their ends. Assumes nothing.
 use mathlib.Core.Path.{_≡_, refl, sym, ap, ap₂, _∙_, subst}
-use mathlib.Core.Bool.{Bool, true, false}
+use mathlib.Core.Bool.{false}
 use mathlib.Core.List.{List}
-use Prim.Native.Nat.{ℕ, zero, suc, _+_, _*_, _-_, _/_, _%_, _<_, _≤_}
-use native.Mathlib.Nat.{mul-le-mul}
+use Prim.Native.Nat.{ℕ, suc, _+_, _*_, _-_, _/_, _%_, _<_, _≤_}
 use native.Mathlib.Omega.{arith}
 use lib.Arith.{digits-div, digits-mod}
 use lib.ListN.{length, getD}
-use Rattle.lists.proofs.Tests.{by-order, by-equal, clash}
+use Rattle.lists.proofs.Tests.{by-order, clash}
 use Rattle.optimum.specs.Strips.{Point, Strip, Instance}
 use Rattle.optimum.specs.Reached.{Asks}
 use Rattle.arrays.specs.declared.Measures.{Measures}
-use Rattle.budgets.specs.Budgets.{Others}
 use Rattle.strips.specs.Strips.{instanceOn}
-use Rattle.entries.specs.Rows.{rowOf, rowsOf, levelSize, Lies}
+use Rattle.entries.specs.Rows.{rowOf, levelSize, Lies}
 use Rattle.entries.proofs.Places.{row-fits}
 use Rattle.marks.specs.Marks.{Marked, Marking, Room, Ready, endPlace, upperEnd, Shaped, Led}
 use Rattle.marks.proofs.Marking.{marking-none, marking-join}

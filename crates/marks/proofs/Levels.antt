@@ -1,12 +1,12 @@
 -- Where levels stand, and that their places are small numbers. Assumes nothing.
-use mathlib.Core.Path.{_≡_, refl, sym, ap, _∙_}
+use mathlib.Core.Path.{_≡_, refl, ap}
 use mathlib.Core.List.{List}
-use Prim.Native.Nat.{ℕ, zero, suc, _+_, _*_, _-_, _<_, _≤_}
+use Prim.Native.Nat.{ℕ, suc, _+_, _*_, _-_, _<_, _≤_}
 use native.Mathlib.Nat.{mul-le-mul}
 use native.Mathlib.Omega.{arith}
 use lib.ListN.{length}
 use Rattle.arrays.specs.declared.Measures.{Measures}
-use Rattle.entries.specs.Rows.{Framed, rowsOf, levelSize}
+use Rattle.entries.specs.Rows.{Framed, levelSize}
 use Rattle.entries.proofs.Places.{rows-few}
 
 pub next-level : (j size : ℕ) → (j + 1) * size ≡ j * size + size

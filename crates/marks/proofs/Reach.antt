@@ -1,12 +1,10 @@
 -- What the whole sheet leads to has the shape that is looked for, and is marked level by level. Assumes nothing.
-use mathlib.Core.Path.{_≡_, refl, sym, ap, ap₂, _∙_, subst}
-use mathlib.Core.Logic.{_⊎_, inl, inr}
-use mathlib.Core.Bool.{Bool, true, false, cond}
+use mathlib.Core.Path.{_≡_, refl, sym, ap, _∙_, subst}
+use mathlib.Core.Bool.{true}
 use mathlib.Core.List.{List}
 use Prim.Native.Nat.{ℕ, zero, suc, _+_, _*_, _-_, _<_, _≤_}
 use native.Mathlib.Omega.{arith}
 use native.Mathlib.Numerals.{add-one}
-use lib.Dec.{eqb, ltb}
 use lib.ListN.{length, getD}
 use borrow.Author.Tests.{lt-ltb, ne-eqb}
 use Rattle.lists.proofs.Tests.{by-test, by-either, by-order}
@@ -15,11 +13,11 @@ use Rattle.optimum.specs.Reached.{Asks, Reached, noPoint, wholeSheet}
 use Rattle.arrays.specs.declared.Measures.{Measures}
 use Rattle.arrays.specs.Arrays.{instanceBy, pointsBy}
 use Rattle.strips.specs.Strips.{instanceOn}
-use Rattle.entries.specs.Rows.{rowOf, levelSize, Framed, Lies, Stands, upperPart, lowerPart}
+use Rattle.entries.specs.Rows.{rowOf, levelSize, Framed, Stands, upperPart, lowerPart}
 use Rattle.entries.proofs.Places.{upper-lies, lower-lies}
 use Rattle.marks.specs.Marks.{Marked, Marking, upperEnd, Shaped, Led, Sites, ReachMarked}
 use Rattle.marks.proofs.Asked.{asked-out, asked-in}
-use Rattle.marks.proofs.Points.{points-long, point-at}
+use Rattle.marks.proofs.Points.{point-at}
 
 -- ---- radices and draws have no part in what is reached
 

@@ -1,14 +1,14 @@
 -- The arrays of an accepted sheet are as the table and the walk ask. Assumes nothing.
 use mathlib.Core.Path.{_≡_, refl, sym, ap, ap₂, _∙_}
-use mathlib.Core.Bool.{Bool, true, false, cond}
+use mathlib.Core.Bool.{false, cond}
 use mathlib.Core.List.{List, [], _∷_, _++_}
 use Prim.Native.Nat.{ℕ, zero, suc, _+_, _-_, _*_, _≤_, _<_}
 use native.Mathlib.Omega.{arith}
-use lib.Dec.{eqb, ltb}
+use lib.Dec.{eqb}
 use lib.ListN.{length, getD, take, drop, replicate}
 use borrow.Author.Tests.{ltb-true}
 use Rattle.lists.proofs.Tests.{by-test}
-use Rattle.sheet.specs.Sheet.{all, Site, Colour, Sheet, sheetIn, sheetFault, productOf, workFor}
+use Rattle.sheet.specs.Sheet.{Colour, Sheet, sheetIn, sheetFault, productOf, workFor}
 use Rattle.sheet.proofs.Accepted.{Sound, sound, lowY, colourLow}
 use Rattle.labelling.specs.Layout.{noSite}
 use Rattle.labelling.proofs.Members.{all-at, used-at, rise-at}
@@ -16,7 +16,7 @@ use Rattle.labelling.proofs.Words.{height-low}
 use Rattle.optimum.specs.OneSided.{order}
 use Rattle.optimum.specs.Budgets.{radicesOf}
 use Rattle.optimum.proofs.Full.{full-holds}
-use Rattle.optimum.proofs.Order.{Ordered, ordered}
+use Rattle.optimum.proofs.Order.{ordered}
 use Rattle.optimum.proofs.OneSidedAnswer.{work-cells}
 use Rattle.arrays.specs.declared.Measures.{Measures}
 use Rattle.arrays.specs.Arrays.{measuresOf, boundsOf, tabulate, drawsList, xsOf, ysOf, coloursOf, gathered, instanceBy, pointsBy}
@@ -27,7 +27,6 @@ use Rattle.entries.specs.Rows.{levelSize}
 use Rattle.table.specs.Rows.{Given}
 use Rattle.budgets.specs.Budgets.{Splits}
 use Rattle.optimum.specs.Reached.{TableOf}
-use Rattle.walk.specs.Walk.{WalkArrays}
 use Rattle.walk.proofs.Tying.{points-long}
 use Rattle.onesided.specs.Laid.{Ranked, TableFilled, wiped}
 

@@ -1,9 +1,9 @@
 -- A strip and a site as the code holds them, and the part of an instance that decides what may be done in one strip. Definitions.
 use mathlib.Core.Path.{_≡_}
-use mathlib.Core.Bool.{Bool, true, false, cond, not, _&&_, _||_}
-use mathlib.Core.List.{List, [], _∷_}
-use Prim.Native.Nat.{ℕ, zero, suc, _+_, _*_, _-_, _<_, _≤_}
-use lib.Dec.{eqb, leb, ltb}
+use mathlib.Core.Bool.{Bool, true, false, cond, _&&_}
+use mathlib.Core.List.{List, []}
+use Prim.Native.Nat.{ℕ, suc, _+_, _*_, _-_, _<_, _≤_}
+use lib.Dec.{leb, ltb}
 use lib.ListN.{length, getD}
 use Rattle.labelling.specs.Layout.{apart}
 use Rattle.optimum.specs.Strips.{Point, Strip, Instance, farFrom, clearFrom}

@@ -1,8 +1,8 @@
 -- Rows of a level filled one by one, by their ends. Assumes nothing.
 use mathlib.Core.Path.{_≡_, refl, sym, ap, ap₂, _∙_, fun-ext, subst}
-use mathlib.Core.Bool.{true, false}
+use mathlib.Core.Bool.{false}
 use mathlib.Core.List.{List}
-use Prim.Native.Nat.{ℕ, zero, suc, _+_, _*_, _-_, _<_, _≤_}
+use Prim.Native.Nat.{ℕ, _+_, _*_, _-_, _<_, _≤_}
 use native.Mathlib.Nat.{mul-le-mul, le-refl}
 use native.Mathlib.Omega.{arith}
 use lib.ListN.{length, getD, set}
@@ -13,7 +13,7 @@ use Rattle.arrays.specs.declared.Measures.{Measures}
 use Rattle.budgets.specs.Budgets.{Others}
 use Rattle.entries.specs.Rows.{rowOf, rowIn, levelSize, Lies, entryBy}
 use Rattle.entries.proofs.Places.{row-fits}
-use Rattle.marks.specs.Marks.{Marked, endPlace, endWords, upperEnd, Shaped}
+use Rattle.marks.specs.Marks.{endPlace, endWords, upperEnd, Shaped}
 use Rattle.marks.proofs.Followed.{same-end, later-end, slot-high, slot-low, row-ends, same-strip}
 use Rattle.marks.proofs.Levels.{row-room}
 use Rattle.table.specs.Rows.{RowFilled}

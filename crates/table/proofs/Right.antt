@@ -1,9 +1,9 @@
 -- A level filled from one that is right is right where it is asked for, and so is a table of such levels. Assumes nothing but the
 -- arrays of a sheet.
-use mathlib.Core.Path.{_≡_, refl, sym, ap, ap₂, _∙_, subst, subst⁻¹}
+use mathlib.Core.Path.{_≡_, refl, sym, ap, ap₂, _∙_, subst}
 use mathlib.Core.Bool.{true}
-use mathlib.Core.List.{List, [], _∷_}
-use Prim.Native.Nat.{ℕ, zero, suc, _+_, _*_, _-_, _<_, _≤_}
+use mathlib.Core.List.{List, _∷_}
+use Prim.Native.Nat.{ℕ, suc, _+_, _*_, _-_, _<_, _≤_}
 use native.Mathlib.Omega.{arith}
 use native.Mathlib.Numerals.{add-one}
 use lib.ListN.{length, getD, drop, drop-of-length-le, length-drop}
@@ -11,7 +11,7 @@ use lib.Seq.{ext-getD}
 use Rattle.lists.proofs.Tests.{by-order}
 use Rattle.search.specs.Plan.{T, T-nil}
 use Rattle.optimum.specs.Strips.{Point, Strip, Instance, inside, opens, rulesOf}
-use Rattle.optimum.specs.Cells.{cells, cellOf}
+use Rattle.optimum.specs.Cells.{cells}
 use Rattle.optimum.specs.Reached.{noPoint, Asks, Reached, TableOf}
 use Rattle.optimum.proofs.StripsHeld.{Rising, laws}
 use Rattle.optimum.proofs.Levels.{Row, entry-asked}

@@ -9,7 +9,7 @@ use Rattle.search.specs.Radix.{below}
 use Rattle.optimum.specs.Strips.{Point, Strip, Instance, rulesOf}
 use Rattle.optimum.specs.Reached.{Reached}
 use Rattle.arrays.specs.declared.Measures.{Measures}
-use Rattle.budgets.specs.Budgets.{Divides, Within, Others}
+use Rattle.budgets.specs.Budgets.{Divides, Within}
 use Rattle.entries.specs.Rows.{rowOf, levelSize, rowIn, Framed, Stands, entryBy}
 use Rattle.marks.specs.Marks.{Marked, Sites}
 

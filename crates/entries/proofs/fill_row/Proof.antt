@@ -1,18 +1,10 @@
-use mathlib.Core.Bool.{true, false}
 use Rattle.lists.proofs.Tests.{not-e, not-f}
-use Rattle.optimum.specs.OneSided.{topWord}
 use Rattle.strips.specs.Strips.{stripOf, pointOf}
-use Rattle.budgets.specs.Budgets.{Others}
 use Rattle.entries.proofs.Places.{own-fits}
 use Rattle.entries.proofs.Terms.{row-copied, row-joined, row-opened}
-use mathlib.Core.Path.{_≡_, refl, ap, sym, _∙_}
-use mathlib.Core.List.{List, [], _∷_, _++_}
-use mathlib.Core.Logic.{⊎-elim}
-use Prim.Native.Nat.{ℕ, zero, suc, _+_, _-_, _*_, _<_, _≤_, min}
+use mathlib.Core.Path.{ap, sym, _∙_}
+use Prim.Native.Nat.{ℕ, _+_, _-_}
 use native.Mathlib.Omega.{arith}
-use native.Mathlib.Numerals.{add-one}
-use lib.ListN.{length, getD, take, drop, set, length-set}
-use borrow.Author.Tests.{eq-eqb, ne-eqb, lt-ltb, le-ltb, le-leb, lt-leb}
 use borrow.Author.Needs.{needs}
 use Rattle.entries.proofs.fill_row.Statement.{statement}
 use Rattle.entries.proofs.fill_row.Tie as tie

@@ -5,14 +5,10 @@ use Rattle.strips.specs.Strips.{stripOf, pointOf}
 use Rattle.entries.specs.Rows.{rowIn, singleTerm}
 use Rattle.entries.proofs.Places.{row-fits, upper-lies, lower-lies}
 use Rattle.entries.proofs.Single.{single-term, single-more, single-none}
-use mathlib.Core.Path.{_≡_, refl, ap, sym, _∙_}
-use mathlib.Core.List.{List, [], _∷_, _++_}
-use mathlib.Core.Logic.{⊎-elim}
-use Prim.Native.Nat.{ℕ, zero, suc, _+_, _-_, _*_, _<_, _≤_}
+use mathlib.Core.Path.{_≡_, _∙_}
+use Prim.Native.Nat.{_+_, _-_, _≤_}
 use native.Mathlib.Omega.{arith}
-use native.Mathlib.Numerals.{add-one}
-use lib.ListN.{length, getD, take, drop, set, length-set}
-use borrow.Author.Tests.{eq-eqb, ne-eqb, lt-ltb, le-ltb, le-leb, lt-leb}
+use lib.ListN.{length}
 use borrow.Author.Needs.{needs}
 use Rattle.entries.proofs.least_open.Statement.{statement}
 use Rattle.entries.proofs.least_open.Tie as tie

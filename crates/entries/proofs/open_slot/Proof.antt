@@ -2,14 +2,10 @@ use Prim.Native.Nat.{min}
 use Rattle.strips.specs.Strips.{stripOf, pointOf}
 use Rattle.entries.proofs.Places.{upper-fits, lower-fits}
 use Rattle.entries.proofs.Terms.{slot-none, slot-open}
-use mathlib.Core.Path.{_≡_, refl, ap, sym, _∙_}
-use mathlib.Core.List.{List, [], _∷_, _++_}
-use mathlib.Core.Logic.{⊎-elim}
-use Prim.Native.Nat.{ℕ, zero, suc, _+_, _-_, _*_, _<_, _≤_}
+use mathlib.Core.Path.{refl, ap, sym, _∙_}
+use Prim.Native.Nat.{_+_, _-_}
 use native.Mathlib.Omega.{arith}
-use native.Mathlib.Numerals.{add-one}
-use lib.ListN.{length, getD, take, drop, set, length-set}
-use borrow.Author.Tests.{eq-eqb, ne-eqb, lt-ltb, le-ltb, le-leb, lt-leb}
+use lib.ListN.{getD}
 use borrow.Author.Needs.{needs}
 use Rattle.entries.proofs.open_slot.Statement.{statement}
 use Rattle.entries.proofs.open_slot.Tie as tie

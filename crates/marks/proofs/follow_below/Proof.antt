@@ -5,13 +5,9 @@ use Rattle.entries.proofs.Places.{row-fits}
 use Rattle.marks.specs.Marks.{endPlace}
 use Rattle.marks.proofs.Followed.{Followed, followed-none, followed-more, followed-all, next-row, next-slot, later-end, start-lies, lies-at, room-of, at-low}
 use mathlib.Core.Path.{_≡_, refl, ap, sym, _∙_}
-use mathlib.Core.List.{List, [], _∷_, _++_}
-use mathlib.Core.Logic.{⊎-elim}
-use Prim.Native.Nat.{ℕ, zero, suc, _+_, _-_, _*_, _<_, _≤_}
+use Prim.Native.Nat.{ℕ, _+_, _-_, _*_, _≤_}
 use native.Mathlib.Omega.{arith}
-use native.Mathlib.Numerals.{add-one}
-use lib.ListN.{length, getD, take, drop, set, length-set}
-use borrow.Author.Tests.{eq-eqb, ne-eqb, lt-ltb, le-ltb, le-leb, lt-leb}
+use lib.ListN.{length}
 use borrow.Author.Needs.{needs}
 use Rattle.marks.proofs.follow_below.Statement.{statement}
 use Rattle.marks.proofs.follow_below.Tie as tie

@@ -1,14 +1,10 @@
 use Rattle.strips.specs.Strips.{pointOf}
 use Rattle.marks.specs.Marks.{endPlace}
 use Rattle.marks.proofs.Followed.{Passed, passed-none, passed-more, passed-all, next-slot, later-end}
-use mathlib.Core.Path.{_≡_, refl, ap, sym, _∙_}
-use mathlib.Core.List.{List, [], _∷_, _++_}
-use mathlib.Core.Logic.{⊎-elim}
-use Prim.Native.Nat.{ℕ, zero, suc, _+_, _-_, _*_, _<_, _≤_}
+use mathlib.Core.Path.{_≡_, refl, _∙_}
+use Prim.Native.Nat.{_+_, _-_, _≤_}
 use native.Mathlib.Omega.{arith}
-use native.Mathlib.Numerals.{add-one}
-use lib.ListN.{length, getD, take, drop, set, length-set}
-use borrow.Author.Tests.{eq-eqb, ne-eqb, lt-ltb, le-ltb, le-leb, lt-leb}
+use lib.ListN.{length}
 use borrow.Author.Needs.{needs}
 use Rattle.marks.proofs.follow_level.Statement.{statement}
 use Rattle.marks.proofs.follow_level.Tie as tie

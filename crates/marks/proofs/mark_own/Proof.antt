@@ -1,13 +1,8 @@
-use Rattle.lists.proofs.Tests.{not-e, not-f, clash}
+use Rattle.lists.proofs.Tests.{not-f, clash}
 use Rattle.marks.proofs.Marking.{marking-none, own-room, own-marking, own-marked}
-use mathlib.Core.Path.{_≡_, refl, ap, sym, _∙_}
-use mathlib.Core.List.{List, [], _∷_, _++_}
-use mathlib.Core.Logic.{⊎-elim}
-use Prim.Native.Nat.{ℕ, zero, suc, _+_, _-_, _*_, _<_, _≤_}
+use mathlib.Core.Path.{refl, ap}
+use Prim.Native.Nat.{ℕ, _+_, _-_}
 use native.Mathlib.Omega.{arith}
-use native.Mathlib.Numerals.{add-one}
-use lib.ListN.{length, getD, take, drop, set, length-set}
-use borrow.Author.Tests.{eq-eqb, ne-eqb, lt-ltb, le-ltb, le-leb, lt-leb}
 use borrow.Author.Needs.{needs}
 use Rattle.marks.proofs.mark_own.Statement.{statement}
 use Rattle.marks.proofs.mark_own.Tie as tie

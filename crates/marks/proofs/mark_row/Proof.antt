@@ -4,14 +4,10 @@ use Rattle.optimum.specs.OneSided.{topWord}
 use Rattle.strips.specs.Strips.{stripOf, pointOf}
 use Rattle.marks.proofs.Marking.{marking-join}
 use Rattle.marks.proofs.Asked.{marked-out, marked-in}
-use mathlib.Core.Path.{_≡_, refl, ap, sym, _∙_}
-use mathlib.Core.List.{List, [], _∷_, _++_}
-use mathlib.Core.Logic.{⊎-elim}
-use Prim.Native.Nat.{ℕ, zero, suc, _+_, _-_, _*_, _<_, _≤_}
+use mathlib.Core.Path.{refl, ap, sym, _∙_}
+use Prim.Native.Nat.{ℕ, _-_}
 use native.Mathlib.Omega.{arith}
-use native.Mathlib.Numerals.{add-one}
-use lib.ListN.{length, getD, take, drop, set, length-set}
-use borrow.Author.Tests.{eq-eqb, ne-eqb, lt-ltb, le-ltb, le-leb, lt-leb}
+use borrow.Author.Tests.{lt-ltb}
 use borrow.Author.Needs.{needs}
 use Rattle.marks.proofs.mark_row.Statement.{statement}
 use Rattle.marks.proofs.mark_row.Tie as tie

@@ -6,14 +6,10 @@ use Rattle.entries.proofs.Places.{rows-few}
 use Rattle.marks.specs.Marks.{Sites, ReachMarked}
 use Rattle.marks.proofs.Levels.{level-small, count-words, first-room, past-level, enough, few, few-rows}
 use Rattle.marks.proofs.Reach.{reach-first, reach-more, whole-marked, to-level}
-use mathlib.Core.Path.{_≡_, refl, ap, sym, _∙_}
-use mathlib.Core.List.{List, [], _∷_, _++_}
-use mathlib.Core.Logic.{⊎-elim}
-use Prim.Native.Nat.{ℕ, zero, suc, _+_, _-_, _*_, _<_, _≤_}
+use mathlib.Core.Path.{_≡_, refl, ap, _∙_}
+use Prim.Native.Nat.{ℕ, _+_, _-_, _*_, _≤_}
 use native.Mathlib.Omega.{arith}
-use native.Mathlib.Numerals.{add-one}
-use lib.ListN.{length, getD, take, drop, set, length-set}
-use borrow.Author.Tests.{eq-eqb, ne-eqb, lt-ltb, le-ltb, le-leb, lt-leb}
+use lib.ListN.{length, getD}
 use borrow.Author.Needs.{needs}
 use Rattle.marks.proofs.mark_table.Statement.{statement}
 use Rattle.marks.proofs.mark_table.Tie as tie

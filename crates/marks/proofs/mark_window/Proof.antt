@@ -4,15 +4,10 @@ use Rattle.strips.specs.Strips.{stripOf, pointOf}
 use Rattle.entries.specs.Rows.{rowsOf}
 use Rattle.marks.specs.Marks.{Marking, PartsMarked}
 use Rattle.marks.proofs.Marking.{marking-none, marking-join, parts-kept}
-use mathlib.Core.Path.{_≡_, refl, ap, sym, _∙_}
-use mathlib.Core.List.{List, [], _∷_, _++_}
-use mathlib.Core.Logic.{⊎-elim}
-use Prim.Native.Nat.{ℕ, zero, suc, _+_, _-_, _*_, _<_, _≤_}
+use mathlib.Core.Path.{_≡_, refl, _∙_}
+use Prim.Native.Nat.{ℕ, _-_, _*_, _<_, _≤_}
 use native.Mathlib.Omega.{arith}
-use native.Mathlib.Numerals.{add-one}
-use lib.ListN.{length, getD, take, drop, set, length-set}
-use borrow.Author.Tests.{eq-eqb, ne-eqb, lt-ltb, le-ltb, le-leb, lt-leb}
-use borrow.Author.Needs.{needs}
+use lib.ListN.{length}
 use Rattle.marks.proofs.mark_window.Statement.{statement}
 use Rattle.marks.proofs.mark_window.Tie as tie
 use Rattle.marks.proofs.mark_window.Reads as reads

@@ -5,14 +5,10 @@ use Rattle.entries.proofs.Places.{row-fits}
 use Rattle.marks.specs.Marks.{endPlace}
 use Rattle.marks.proofs.Followed.{next-row, later-end, start-lies, lies-at}
 use Rattle.table.proofs.Filling.{Filled, filled-none, filled-more, filled-all, row-low, start-end, to-end}
-use mathlib.Core.Path.{_≡_, refl, ap, sym, _∙_}
-use mathlib.Core.List.{List, [], _∷_, _++_}
-use mathlib.Core.Logic.{⊎-elim}
-use Prim.Native.Nat.{ℕ, zero, suc, _+_, _-_, _*_, _<_, _≤_}
+use mathlib.Core.Path.{_≡_, refl, ap, _∙_}
+use Prim.Native.Nat.{ℕ, _+_, _-_, _*_, _≤_}
 use native.Mathlib.Omega.{arith}
-use native.Mathlib.Numerals.{add-one}
-use lib.ListN.{length, getD, take, drop, set, length-set}
-use borrow.Author.Tests.{eq-eqb, ne-eqb, lt-ltb, le-ltb, le-leb, lt-leb}
+use lib.ListN.{length}
 use borrow.Author.Needs.{needs}
 use Rattle.table.proofs.fill_below.Statement.{statement}
 use Rattle.table.proofs.fill_below.Tie as tie

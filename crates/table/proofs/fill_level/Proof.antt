@@ -2,14 +2,10 @@ use Rattle.strips.specs.Strips.{pointOf}
 use Rattle.marks.specs.Marks.{endPlace}
 use Rattle.marks.proofs.Followed.{later-end, slot-low}
 use Rattle.table.proofs.Filling.{Passed, passed-none, passed-more, passed-all}
-use mathlib.Core.Path.{_≡_, refl, ap, sym, _∙_}
-use mathlib.Core.List.{List, [], _∷_, _++_}
-use mathlib.Core.Logic.{⊎-elim}
-use Prim.Native.Nat.{ℕ, zero, suc, _+_, _-_, _*_, _<_, _≤_}
+use mathlib.Core.Path.{_≡_, refl, _∙_}
+use Prim.Native.Nat.{_+_, _-_, _≤_}
 use native.Mathlib.Omega.{arith}
-use native.Mathlib.Numerals.{add-one}
-use lib.ListN.{length, getD, take, drop, set, length-set}
-use borrow.Author.Tests.{eq-eqb, ne-eqb, lt-ltb, le-ltb, le-leb, lt-leb}
+use lib.ListN.{length}
 use borrow.Author.Needs.{needs}
 use Rattle.table.proofs.fill_level.Statement.{statement}
 use Rattle.table.proofs.fill_level.Tie as tie

@@ -1,17 +1,8 @@
 use Rattle.table.proofs.Filling.{others-of}
-use Rattle.strips.specs.Strips.{pointOf}
-use Rattle.arrays.specs.Arrays.{instanceBy, pointsBy}
 use Rattle.marks.proofs.Levels.{next-level, level-room, place-small}
 use Rattle.table.proofs.Right.{level-right}
-use Rattle.budgets.specs.Budgets.{Others}
-use mathlib.Core.Path.{_≡_, refl, ap, sym, _∙_}
-use mathlib.Core.List.{List, [], _∷_, _++_}
-use mathlib.Core.Logic.{⊎-elim}
-use Prim.Native.Nat.{ℕ, zero, suc, _+_, _-_, _*_, _<_, _≤_}
+use Prim.Native.Nat.{_+_, _-_}
 use native.Mathlib.Omega.{arith}
-use native.Mathlib.Numerals.{add-one}
-use lib.ListN.{length, getD, take, drop, set, length-set}
-use borrow.Author.Tests.{eq-eqb, ne-eqb, lt-ltb, le-ltb, le-leb, lt-leb}
 use borrow.Author.Needs.{needs}
 use Rattle.table.proofs.fill_site.Statement.{statement}
 use Rattle.table.proofs.fill_site.Tie as tie

@@ -2,14 +2,10 @@ use Rattle.entries.specs.Rows.{levelSize}
 use Rattle.marks.proofs.Levels.{level-small, place-small, last-room}
 use Rattle.table.specs.Rows.{Given}
 use Rattle.table.proofs.Right.{Done, done-last, done-more, done-all, given-area}
-use mathlib.Core.Path.{_≡_, refl, ap, sym, _∙_}
-use mathlib.Core.List.{List, [], _∷_, _++_}
-use mathlib.Core.Logic.{⊎-elim}
-use Prim.Native.Nat.{ℕ, zero, suc, _+_, _-_, _*_, _<_, _≤_}
+use mathlib.Core.Path.{_≡_, refl, ap, _∙_}
+use Prim.Native.Nat.{ℕ, _-_, _*_, _≤_}
 use native.Mathlib.Omega.{arith}
-use native.Mathlib.Numerals.{add-one}
-use lib.ListN.{length, getD, take, drop, set, length-set}
-use borrow.Author.Tests.{eq-eqb, ne-eqb, lt-ltb, le-ltb, le-leb, lt-leb}
+use lib.ListN.{length}
 use borrow.Author.Needs.{needs}
 use Rattle.table.proofs.fill_table.Statement.{statement}
 use Rattle.table.proofs.fill_table.Tie as tie
