@@ -57,6 +57,10 @@ level-set parts counts work base C R L k c i l h =
       coloured = λ j. by-equal j k (λ e. rw (e, getD-set-same L k c 0 l) h) (λ e. rw (getD-set-other L k j c 0 e) (i .coloured j));
     }
 
+-- a step keeps the cost where its price and the rest after it come to it
+pub keeps-by : (price price' rest rest' t here : ℕ) (r : Bool) → r ≡ eqb t here → t ≡ plus topWord price rest → price ≡ price' → rest ≡ rest' → r ≡ eqb (plus topWord price' rest') here
+keeps-by price price' rest rest' t here r e f g h = e ∙ rw (f, g, h)
+
 -- a step that is not lawful keeps no cost below none
 pub never-keeps : (c z here : ℕ) → c ≡ topWord → here < topWord → eqb (plus topWord c z) here ≡ false
 unfolding plus
