@@ -1,18 +1,13 @@
--- The first that passes a test, by halving, where what passes passes on.
+-- Where what passes a test passes on, halving finds the first that passes.
 use mathlib.Core.Path.{_≡_, refl, sym, ap, _∙_}
-use mathlib.Core.Bool.{Bool, true, false, cond}
+use mathlib.Core.Bool.{Bool, true, false}
 use Prim.Native.Nat.{ℕ, zero, suc, _+_, _/_, _^_, _≤_, _<_}
 use native.Mathlib.Nat.{two-pow-succ}
 use native.Mathlib.Omega.{arith}
-use lib.Dec.{ltb}
 use borrow.Author.Tests.{lt-ltb, le-ltb}
 use Rattle.lists.proofs.Tests.{by-test, by-order, clash}
 use Rattle.search.specs.Cost.{first, first-le, first-is}
-
--- between lo and hi, in so many steps
-unfoldable pub halve : (ℕ → Bool) → (steps lo hi : ℕ) → ℕ
-halve t zero lo hi = lo
-halve t (suc f) lo hi = cond (ltb lo hi) (cond (t ((lo + hi) / 2)) (halve t f lo ((lo + hi) / 2)) (halve t f (suc ((lo + hi) / 2)) hi)) lo
+use Rattle.optimum.specs.Halve.{halve}
 
 -- the first is the one that passes and has none before it
 first-one : (n : ℕ) (t : ℕ → Bool) (k : ℕ) → k < n → t k ≡ true → ((j : ℕ) → j < k → t j ≡ false) → first n t ≡ k

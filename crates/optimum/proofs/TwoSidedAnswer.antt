@@ -25,7 +25,8 @@ use Rattle.optimum.specs.CostWord.{topWord, countIn, lengthIn, layoutCos
 use Rattle.optimum.specs.TwoSided.{instanceOf, twoSided}
 use Rattle.optimum.proofs.CostWord.{better-costs, layout-count, layout-length}
 use Rattle.optimum.proofs.Caps.{Respects, allows-uncapped, keeps, exact, none-ahead, passes-on, passes-last, chosen}
-use Rattle.optimum.proofs.Halve.{halve, halve-first}
+use Rattle.optimum.specs.Halve.{halve}
+use Rattle.optimum.proofs.Halve.{halve-first}
 use Rattle.optimum.proofs.LawfulFits.{cost, cost-is, cost-top, lawful-low, low-slot}
 use Rattle.optimum.proofs.FitsLawful.{lawful-attained}
 

@@ -16,7 +16,7 @@ use Rattle.labelling.specs.Entry.{isNone, makeFault, makeAnswer}
 use Rattle.text.specs.Text.{decimal, written, pastOf}
 use Rattle.text.proofs.Decimal.{decimal-length}
 use Rattle.text.proofs.Written.{written-front}
-use Rattle.report.specs.Report.{wordsIn, isUnfit, refusedLine, siteLine, slotAt, siteLines, layoutText, sheetText, programSheetText, programText, longest, reportSize, reportArea}
+use Rattle.report.specs.Report.{wordsIn, isUnfit, refusedLine, slotAt, siteLines, layoutText, sheetText, programSheetText, programText, longest, reportSize, reportArea}
 use Rattle.report.proofs.Words.{words-fit}
 
 -- a refusal by its number
@@ -55,9 +55,6 @@ front l s h p q =
 -- HOW LONG a text can be: a number of ten digits at most in each place
 few : (n : ℕ) → n < 10000000000 → length (decimal n) ≤ 10
 few n h = decimal-length 9 n h
-
-line-few : (i c k : ℕ) → i < 10000000000 → c < 10000000000 → k < 10000000000 → length (siteLine i c k) ≤ 50
-line-few i c k p q r = simp length-append (omega (arith, few i p, few c q, few k r))
 
 lines-few : (ls : List ℕ) (i c : ℕ) (ws : List ℕ) → i + length ws ≤ 1000 → c + length ws ≤ 1000 →
     length (siteLines ls i (sitesIn c ws)) ≤ 50 * length (sitesIn c ws)

@@ -5,12 +5,11 @@ use mathlib.Core.Logic.{_≢_}
 use mathlib.Core.Bool.{true}
 use mathlib.Core.List.{List, [], _∷_}
 use Prim.Native.Nat.{ℕ, zero, suc, _+_, _-_, _*_, _/_, _%_, _<_}
-use native.Mathlib.Nat.{mod-lt, zero-mod, zero-div, mod-eq-of-lt, div-eq-of-lt, div-lt-iff-lt-mul, add-zero, mul-comm, div-div-eq-div-mul, div-one}
+use native.Mathlib.Nat.{mod-lt, zero-mod, zero-div, mod-eq-of-lt, div-eq-of-lt, add-zero, mul-comm, div-div-eq-div-mul, div-one}
 use native.Mathlib.Omega.{arith}
 use lib.Arith.{digits-div, digits-mod}
 use lib.ListN.{length, getD}
 use borrow.Author.Tests.{le-leb}
-use Rattle.lists.proofs.Tests.{and-of}
 use Rattle.search.specs.Radix.{below, digitOf, place, digit-sub, sharing}
 
 -- every radix is 1 at least
@@ -112,13 +111,3 @@ unfolding product Positive digitOf
 digit-full [] c w h = absurd (omega arith)
 digit-full (r ∷ rs) zero w h = full r (product rs) (w .0) (product-pos rs (w .1)) .1
 digit-full (r ∷ rs) (suc c) w h = rw (full r (product rs) (w .0) (product-pos rs (w .1)) .2) (digit-full rs c (w .1) (omega arith))
-
--- every budget may be taken from the greatest
-pub below-full : (rs : List ℕ) → Positive rs → (v : ℕ) → v < product rs → below rs v (product rs - 1) ≡ true
-unfolding product Positive below
-below-full [] w v h = le-leb v 0 (omega arith)
-below-full (r ∷ rs) w v h =
-    let f = full r (product rs) (w .0) (product-pos rs (w .1)) in
-    let d : v % r < r = mod-lt v (w .0) in
-    let q : v / r < product rs = div-lt-iff-lt-mul (w .0) .1 (omega arith) in
-    and-of _ _ (le-leb (v % r) ((r * product rs - 1) % r) (omega arith)) (rw (f .2) (below-full rs (w .1) (v / r) q))

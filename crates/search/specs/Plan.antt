@@ -194,7 +194,7 @@ module _ {Strip Site : Type 0} (G : Rules Strip Site) where
         strips-same : (ss : List Site) (x : State) → Whole x → best process x ss ≡ Rest ss (x .0) (x .1)
         strips-same ss x w = unfold Run in strips-independent ss (x .0) (x .1) (w .0) (w .1)
 
-    -- so it gives the first
+    -- THEOREMS 3 AND 4 TOGETHER, for any strips, steps and costs, ends in themselves: so it gives the first
     pub walk-gives-first : (ss : List Site) (L : List Strip) (v : ℕ) (js : List ℕ) → Filled L → ((t : Site) → holders inside t L ≡ 1)
         → answerRest ss L v ≡ some js → First process (L, v) ss js
     walk-gives-first ss L v js f h e = answer-first process (L, v) ss js (sym (walks-agree ss L v f h) ∙ e)

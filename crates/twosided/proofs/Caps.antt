@@ -15,7 +15,7 @@ use Rattle.lists.proofs.Front.{front, front-more, front-all}
 use Rattle.labelling.specs.Layout.{tieWords}
 use Rattle.optimum.specs.Sums.{listing, listing-at, length-listing}
 use Rattle.optimum.specs.UsedSlots.{Instance, put, value, leftmost}
-use Rattle.optimum.proofs.Halve.{halve}
+use Rattle.optimum.specs.Halve.{halve}
 use Rattle.optimum.proofs.Rows.{put-set}
 use Rattle.arrays.specs.declared.Measures.{Measures}
 use Rattle.usedslots.specs.Table.{instanceBy, tableBy, capsIn, Fits}

@@ -10,7 +10,7 @@ use Rattle.search.specs.Cost.{plus}
 use Rattle.search.specs.Radix.{place}
 use Rattle.optimum.specs.Sums.{sumTo}
 use Rattle.optimum.specs.UsedSlots.{Instance, T}
-use Rattle.optimum.proofs.Rows.{cell, acc}
+use Rattle.optimum.specs.Rows.{cell, acc}
 use Rattle.arrays.specs.declared.Measures.{Measures}
 use Rattle.usedslots.specs.declared.Label.{Label}
 

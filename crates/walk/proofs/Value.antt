@@ -22,7 +22,7 @@ use Rattle.optimum.specs.Cells.{build, cells, cellOf, joinCells, foldCells, sta
 use Rattle.optimum.specs.Reached.{In, noPoint, Reached, TableOf}
 use Rattle.optimum.proofs.StripsHeld.{Rising, Fit, next-fit}
 use Rattle.optimum.proofs.Levels.{build-at, build-long, Row, value-rows}
-use Rattle.optimum.proofs.Loops.{walk-step, skip-step}
+use Rattle.optimum.proofs.Loops.{walk-step}
 use Rattle.optimum.proofs.Reached.{reached-next, reached-rows}
 use Rattle.optimum.proofs.Pairs.{zeros}
 use Rattle.budgets.specs.Budgets.{Splits}
