@@ -1,4 +1,5 @@
--- The one-sided model on document 01's starred examples and on the sheets that tell a misreading, computed; and by cells on sheet A.
+-- The one-sided model on document 01's starred examples and on the sheets that tell a misreading, computed; and by a table of words
+-- on sheet A. Ends in themselves.
 use mathlib.Core.Path.{_≡_, refl}
 use mathlib.Core.List.{[], _∷_}
 use mathlib.Core.Option.{some}
@@ -20,8 +21,8 @@ use Rattle.optimum.specs.OneSided.{farEnough, clearOf, shareOf, leadOf, 
 pub examples : Starred × Telling
 unfolding plus least first sum prod conv cheaper never just table rest below place weight T Rest chooseBy walkBy answerBy slotsIn coloursIn sitesRun sitesIn productOf over under inside farFrom clearFrom opens joinsUp joinsDown cost draw children stripsFrom strips holdFrom hold marked price next value walked farEnough clearOf siteShare shareOf leadOf mayOpen tipClear turnOf heldOf all radicesOf drawsOf wordOf nextRank rankOf siteOf orderFrom order pointsAt scatter oneSided tiedOf isUsed usedFrom leastX slotsOf boundsKept backbones drops byRank slotAt comesFirst Rattle.labelling.specs.Layout.nextRank
 examples = (
-  (refl, refl, refl, refl, refl, refl),
-  ((refl, refl, refl), (refl, refl), (refl, refl), (refl, refl, refl), (refl, refl, refl), refl),
+  ((refl, refl, refl), refl, refl, refl, refl, refl),
+  ((refl, refl, refl), (refl, refl, refl), (refl, refl), (refl, refl), (refl, refl, refl), (refl, refl, refl), (refl, refl, refl), (refl, refl, refl)),
 )
 
 pub cells-a : oneSidedCells (sheetIn a) ≡ some (0 ∷ 0 ∷ 2 ∷ [])
