@@ -11,7 +11,8 @@ use lib.Dec.{eqb, leb, ltb}
 use lib.ListN.{length, getD, drop}
 use borrow.Author.Tests.{lt-ltb, le-ltb, ltb-true, eqb-true, eq-eqb}
 use Rattle.lists.proofs.Tests.{by-test, by-either, and-both, and-of, or-e, clash}
-use Rattle.search.specs.Cost.{plus, least, plus-le, least-le, least-le-top, least-most}
+use Rattle.search.specs.Cost.{plus, least}
+use Rattle.search.proofs.Cost.{plus-le, least-le, least-le-top, least-most}
 use Rattle.search.specs.Share.{conv}
 use Rattle.search.specs.Radix.{below}
 use Rattle.optimum.specs.Strips.{Point, Strip, Instance, inside, opens, joinsUp, joinsDown, clearFrom}

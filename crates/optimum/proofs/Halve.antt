@@ -6,7 +6,8 @@ use native.Mathlib.Nat.{two-pow-succ}
 use native.Mathlib.Omega.{arith}
 use borrow.Author.Tests.{lt-ltb, le-ltb}
 use Rattle.lists.proofs.Tests.{by-test, by-order, clash}
-use Rattle.search.specs.Cost.{first, first-le, first-is}
+use Rattle.search.specs.Cost.{first}
+use Rattle.search.proofs.Cost.{first-le, first-is}
 use Rattle.optimum.specs.Halve.{halve}
 
 -- the first is the one that passes and has none before it

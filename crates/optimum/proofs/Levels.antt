@@ -10,11 +10,16 @@ use lib.Dec.{eqb, ltb}
 use lib.ListN.{length, getD, set, replicate}
 use lib.Arith.{digits-div, digits-mod}
 use Rattle.lists.proofs.Tests.{by-test, by-order, by-equal, by-either}
-use Rattle.search.specs.Cost.{plus, least, least-cong, first-cong, top-plus}
-use Rattle.search.specs.Semi.{fold, fold-prod, one-prod}
-use Rattle.search.specs.Share.{conv, just, semiring}
-use Rattle.search.specs.Radix.{below, sharing}
-use Rattle.search.specs.Plan.{T, Rest, T-nil, T-in, T-out, Rest-one, Rest-two}
+use Rattle.search.specs.Cost.{plus, least}
+use Rattle.search.proofs.Cost.{least-cong, first-cong, top-plus}
+use Rattle.search.specs.Semi.{fold}
+use Rattle.search.proofs.Semi.{fold-prod, one-prod}
+use Rattle.search.specs.Share.{conv, just}
+use Rattle.search.proofs.Share.{semiring}
+use Rattle.search.specs.Radix.{below, maskOf, convMasked}
+use Rattle.search.proofs.Radix.{sharing, conv-masked}
+use Rattle.search.specs.Plan.{T, Rest}
+use Rattle.search.proofs.Plan.{T-nil, T-in, T-out, Rest-one, Rest-two}
 use Rattle.search.specs.Walk.{answerBy, walkBy, chooseBy}
 use Rattle.optimum.specs.Strips.{Point, Strip, Instance, inside, marked, opens, joinsUp, joinsDown, cost, draw, children, rulesOf, stripsFrom, strips, State, next, labels, value}
 use Rattle.optimum.specs.Reached.{In, steps, Asks}
@@ -88,6 +93,12 @@ module _ (P : Instance) (C R : ℕ) where
 
   abbrev pub Level : List ℕ → List Point → Type 0
   Level low ss = (p : Strip) (v : ℕ) → InRange p → v < R → getD low (cellOf P C R p v) 0 ≡ T (rulesOf P) ss p v
+
+  -- what two strips cost that share the budget u, by the mask of what may be taken from u: an end in itself, for code that goes by bits
+  pub share-masked : (low : List ℕ) (p q : Strip) (u : ℕ)
+      → shareCells P C R low p q u ≡ convMasked top (maskOf radices u) (λ w. getD low (cellOf P C R p w) 0) (λ w. getD low (cellOf P C R q w) 0) u
+  unfolding shareCells conv
+  share-masked low p q u = sym (conv-masked top radices (λ w. getD low (cellOf P C R p w) 0) (λ w. getD low (cellOf P C R q w) 0) u)
 
   module _ (rising : Rising P) where
     pub share-two : (low : List ℕ) (ss : List Point) (p q : Strip) (u : ℕ) → Row low ss p → Row low ss q → u < R

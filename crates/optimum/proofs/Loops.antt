@@ -8,7 +8,8 @@ use native.Mathlib.Omega.{arith}
 use lib.Dec.{eqb}
 use lib.ListN.{drop, getD}
 use borrow.Author.Tests.{eqb-true, eq-eqb}
-use Rattle.search.specs.Cost.{plus, least, first, plus-below, least-is, first-le, first-is}
+use Rattle.search.specs.Cost.{plus, least, first}
+use Rattle.search.proofs.Cost.{plus-below, least-is, first-le, first-is}
 use Rattle.search.specs.Walk.{best, chooseBy}
 use Rattle.optimum.specs.Strips.{Point, Instance, State, price, next, labels, value}
 use Rattle.optimum.proofs.StripsHeld.{Rising, Fit, value-best, next-fit}

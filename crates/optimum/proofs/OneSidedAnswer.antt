@@ -8,7 +8,8 @@ use native.Mathlib.Omega.{arith}
 use native.Mathlib.Nat.{pow-suc, pow-zero}
 use lib.ListN.{length, getD, replicate, drop}
 use borrow.Author.Tests.{ltb-true, lt-ltb, le-ltb, eq-eqb}
-use Rattle.search.specs.Plan.{T, Rest, Rest-one}
+use Rattle.search.specs.Plan.{T, Rest}
+use Rattle.search.proofs.Plan.{Rest-one}
 use Rattle.search.specs.Walk.{answerBy, walkBy}
 use Rattle.sheet.specs.Sheet.{all, Sheet, sheetIn, productOf, workFor}
 use Rattle.sheet.proofs.Accepted.{Sound, sound, colourLow, sites-coloured}

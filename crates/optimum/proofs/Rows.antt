@@ -10,9 +10,11 @@ use lib.Seq.{getD-set-same, getD-set-other}
 use lib.ListN.{length, getD, set}
 use borrow.Author.Tests.{eq-eqb, ne-eqb}
 use Rattle.lists.proofs.Tests.{by-test, by-equal}
-use Rattle.search.specs.Cost.{plus, least, plus-zero, plus-top, top-plus, least-le-top, least-cong}
+use Rattle.search.specs.Cost.{plus, least}
+use Rattle.search.proofs.Cost.{plus-zero, plus-top, top-plus, least-le-top, least-cong}
 use Rattle.search.specs.Walk.{best}
-use Rattle.optimum.specs.Sums.{listing, sum-le}
+use Rattle.search.specs.Sums.{listing}
+use Rattle.search.proofs.CappedSums.{sum-le}
 use Rattle.optimum.specs.UsedSlots.{Instance, put, farUp, may, draw, strip, price, next, final, labels, below, T}
 use Rattle.optimum.specs.Rows.{link, acc, cell}
 pub use Rattle.search.proofs.Digits.{digit-flat}

@@ -12,11 +12,15 @@ use lib.Seq.{getD-set-same, getD-set-other}
 use lib.ListN.{length, getD, set, replicate, length-set, length-replicate}
 use borrow.Author.Tests.{ltb-true, ltb-false, le-leb, lt-leb, lt-ltb, le-ltb, eqb-true, eqb-false, eq-eqb, ne-eqb}
 use Rattle.lists.proofs.Tests.{by-test, by-order, by-equal, by-either, and-both, or-e, not-f}
-use Rattle.search.specs.Cost.{plus, least-cong}
+use Rattle.search.specs.Cost.{plus}
+use Rattle.search.proofs.Cost.{least-cong}
 use Rattle.search.specs.Strips.{holders, oneIf, weigh, after}
-use Rattle.search.specs.Radix.{below, sharing}
-use Rattle.search.specs.Plan.{Filled, Laws, Run, process, price as stripPrice, next as stripNext, strips-independent}
-use Rattle.search.specs.Walk.{best, answer, answer-by, answer-first, answer-none, First, costOf, walk, walk-cost}
+use Rattle.search.specs.Radix.{below}
+use Rattle.search.proofs.Radix.{sharing}
+use Rattle.search.specs.Plan.{Filled, Laws, Run, process, price as stripPrice, next as stripNext}
+use Rattle.search.proofs.Plan.{strips-independent}
+use Rattle.search.specs.Walk.{best, answer, First, costOf, walk}
+use Rattle.search.proofs.Walk.{answer-by, answer-first, answer-none, walk-cost}
 use Rattle.optimum.specs.Strips.{Point, Strip, Instance, over, under, inside, opens, joinsUp, joinsDown, clearFrom, cost, draw, children, rulesOf, stripsFrom, strips, holdFrom, hold, marked, State, price, next, labels, value, walked}
 
 -- a list with one place changed

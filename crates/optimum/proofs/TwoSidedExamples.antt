@@ -4,7 +4,7 @@ use Rattle.search.specs.Cost.{plus, least, first}
 use Rattle.search.specs.Radix.{digitOf, place}
 use Rattle.sheet.specs.Sheet.{all, rankOf, slotsIn, sitesIn, coloursIn, sitesRun, productOf}
 use Rattle.labelling.specs.Layout.{siteShare, tiedOf, isUsed, usedFrom, leastX, slotsOf, boundsKept, backbones, drops, nextRank, byRank, slotAt, comesFirst}
-use Rattle.optimum.specs.Sums.{listing, sumTo}
+use Rattle.search.specs.Sums.{listing, sumTo}
 use Rattle.optimum.specs.UsedSlots.{put, at, over, under, farUp, clearUp, clearDown, may, draw, allows, upCost, downCost, siteCost, inside, strip, price, next, final, below, T, value, leftmost, choose, capAll, ties, answer}
 use Rattle.optimum.specs.TwoSided.{radicesOf, twoSided}
 use Rattle.optimum.specs.Examples.{StarredTwoSided, TellingTwoSided}

@@ -8,6 +8,5 @@ pub mod UsedSlots
 pub mod Rows
 pub mod Halve
 pub mod TwoSided
-pub mod Sums
 pub mod Examples
 pub mod Optimum

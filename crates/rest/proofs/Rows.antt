@@ -10,7 +10,8 @@ use lib.Dec.{eqb}
 use lib.ListN.{length, getD, set, length-set}
 use lib.Seq.{ext-getD, getD-set-same, getD-set-other}
 use Rattle.lists.proofs.Tests.{by-test, by-equal}
-use Rattle.search.specs.Cost.{plus, least, least-cong}
+use Rattle.search.specs.Cost.{plus, least}
+use Rattle.search.proofs.Cost.{least-cong}
 use Rattle.optimum.specs.OneSided.{topWord}
 use Rattle.optimum.specs.Cells.{build}
 use Rattle.optimum.proofs.Levels.{build-at, build-long}

@@ -6,7 +6,7 @@ use lib.Dec.{ltb, leb, eqb}
 use mathlib.Core.Path.{_≡_}
 use lib.ListN.{length, getD, set, drop, replicate}
 use Rattle.labelling.specs.Layout.{tieWords, layoutWords}
-use Rattle.optimum.specs.Sums.{listing}
+use Rattle.search.specs.Sums.{listing}
 use Rattle.optimum.specs.UsedSlots.{Instance, put, value, leftmost, ties}
 use Rattle.optimum.specs.Halve.{halve}
 use Rattle.arrays.specs.declared.Measures.{Measures}

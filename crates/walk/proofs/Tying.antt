@@ -11,7 +11,8 @@ use lib.ListN.{length, getD, set, drop, replicate, length-set, length-drop, drop
 use lib.Seq.{drop-cons, getD-set-same, getD-set-other}
 use borrow.Author.Tests.{eqb-true}
 use Rattle.lists.proofs.Tests.{by-equal}
-use Rattle.search.specs.Cost.{plus, first, first-is}
+use Rattle.search.specs.Cost.{plus, first}
+use Rattle.search.proofs.Cost.{first-is}
 use Rattle.search.specs.Walk.{Process, chooseBy, walkBy}
 use Rattle.arrays.specs.declared.Measures.{Measures}
 use Rattle.arrays.specs.Arrays.{instanceBy, pointsBy}

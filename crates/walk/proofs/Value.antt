@@ -9,7 +9,8 @@ use lib.Dec.{eqb}
 use lib.ListN.{length, getD, set, drop, replicate, length-set, length-replicate, length-drop}
 use lib.Seq.{getD-drop, drop-drop}
 use Rattle.lists.proofs.Tests.{by-test, by-order}
-use Rattle.search.specs.Cost.{plus, least, first, least-cong}
+use Rattle.search.specs.Cost.{plus, least, first}
+use Rattle.search.proofs.Cost.{least-cong}
 use Rattle.search.specs.Radix.{below}
 use Rattle.search.specs.Share.{just, conv}
 use Rattle.search.specs.Plan.{T}
