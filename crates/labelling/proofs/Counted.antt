@@ -173,7 +173,7 @@ sum-firsts p f js m (suc n) h = ap (λ (z : ℕ). z + cond (isFirst p js n) (f j
         λ q. rw q (omega (arith, where-more t f j 0 m (omega arith) (omega (arith, h n (omega arith))) q)))
 
 -- front of a sum
-sum-front : (f : ℕ → ℕ) (n : ℕ) → sumBefore f (suc n) ≡ f 0 + sumBefore (λ i. f (suc i)) n
+pub sum-front : (f : ℕ → ℕ) (n : ℕ) → sumBefore f (suc n) ≡ f 0 + sumBefore (λ i. f (suc i)) n
 unfolding sumBefore
 sum-front f zero = omega arith
 sum-front f (suc n) = omega (arith, sum-front f n)

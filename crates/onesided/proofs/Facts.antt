@@ -1,31 +1,31 @@
 -- The arrays of an accepted sheet are as the table and the walk ask. Assumes nothing.
 use mathlib.Core.Path.{_≡_, refl, sym, ap, ap₂, _∙_}
-use mathlib.Core.Bool.{Bool, true, false, cond}
+use mathlib.Core.Bool.{false, cond}
 use mathlib.Core.List.{List, [], _∷_, _++_}
 use Prim.Native.Nat.{ℕ, zero, suc, _+_, _-_, _*_, _≤_, _<_}
 use native.Mathlib.Omega.{arith}
-use lib.Dec.{eqb, ltb}
+use lib.Dec.{eqb}
 use lib.ListN.{length, getD, take, drop, replicate}
 use borrow.Author.Tests.{ltb-true}
 use Rattle.lists.proofs.Tests.{by-test}
-use Rattle.sheet.specs.Sheet.{all, Site, Colour, Sheet, sheetIn, sheetFault, productOf, workFor}
+use Rattle.sheet.specs.Sheet.{Colour, Sheet, sheetIn, sheetFault, productOf, workFor}
 use Rattle.sheet.proofs.Accepted.{Sound, sound, lowY, colourLow}
 use Rattle.labelling.specs.Layout.{noSite}
 use Rattle.labelling.proofs.Members.{all-at, used-at, rise-at}
 use Rattle.labelling.proofs.Words.{height-low}
 use Rattle.optimum.specs.OneSided.{order}
 use Rattle.optimum.specs.Budgets.{radicesOf}
-use Rattle.optimum.proofs.Order.{Ordered, ordered}
+use Rattle.optimum.proofs.Order.{ordered}
 use Rattle.optimum.proofs.OneSidedAnswer.{work-cells}
 use Rattle.arrays.specs.declared.Measures.{Measures}
-use Rattle.arrays.specs.Arrays.{measuresOf, boundsOf, tabulate, drawsList, xsOf, ysOf, coloursOf, gathered, instanceBy, pointsBy}
+use Rattle.search.proofs.Sums.{length-listing}
+use Rattle.arrays.specs.Arrays.{measuresOf, boundsOf, drawsList, xsOf, ysOf, coloursOf, gathered, instanceBy, pointsBy}
 use Rattle.arrays.proofs.Instances.{ys-at, colours-at}
 use Rattle.arrays.proofs.Fields.{bounds-long}
 use Rattle.arrays.proofs.Ordered.{gathered-long, radix-pos}
 use Rattle.table.specs.Rows.{Given, levelSize}
 use Rattle.budgets.specs.Budgets.{Splits}
 use Rattle.optimum.specs.Reached.{TableOf}
-use Rattle.walk.specs.Walk.{WalkArrays}
 use Rattle.walk.proofs.Tying.{points-long}
 use Rattle.onesided.specs.Laid.{Ranked, TableFilled, wiped}
 
@@ -40,11 +40,6 @@ unfolding radicesOf
 radices-positive [] k h = absurd (omega arith)
 radices-positive (c ∷ ks) zero h = by-test (eqb (c .bound) 255) (λ e. rw e (omega arith)) (λ e. rw e (omega arith))
 radices-positive (c ∷ ks) (suc k) h = radices-positive ks k (omega arith)
-
-tabulate-long : (f : ℕ → ℕ) (k n : ℕ) → length (tabulate f k n) ≡ n
-unfolding tabulate
-tabulate-long f k zero = refl
-tabulate-long f k (suc n) = ap suc (tabulate-long f (suc k) n)
 
 pub product-some : (ks : List Colour) → 0 < productOf ks
 unfolding productOf
@@ -98,7 +93,7 @@ module _ (ws : List ℕ) (f : sheetFault ws ≡ 0) where
         };
         rising = λ j k p q. rise-at (s .slots) (o .rise) j k p q;
         divides = radices-positive (s .colours);
-        drawn = tabulate-long _ 0 (length (s .colours));
+        drawn = length-listing _ 0 (length (s .colours));
         sitesFew = omega (arith, gx, n-is, o .few-sites);
         ysLong = gy ∙ sym gx;
         csLong = gc ∙ sym gx;

@@ -31,6 +31,10 @@ module _ (top : ℕ) where
   unfolding plus
   top-plus a = omega arith
 
+  pub plus-past : (a b : ℕ) → top ≤ a → plus top a b ≡ top
+  unfolding plus
+  plus-past a b h = omega arith
+
   pub plus-le : (a b : ℕ) → plus top a b ≤ top
   unfolding plus
   plus-le a b = omega arith

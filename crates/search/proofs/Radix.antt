@@ -138,7 +138,7 @@ pub mask-bit : (rs : List ℕ) (v w : ℕ) → bitOf (maskOf rs v) w ≡ below r
 unfolding maskOf
 mask-bit rs v w = bits-by (λ k. below rs k v) (suc v) w (λ k l. is-false (below rs k v) (λ e. omega (arith, fits rs k v e)))
 
--- the mask of a budget below 64 is a word of 64 bits
+-- the mask of a budget below 64 is a word of 64 bits: an end in itself, for code that holds it
 pub mask-word : (rs : List ℕ) (v : ℕ) → v < 64 → maskOf rs v < 18446744073709551616
 unfolding maskOf
 mask-word rs v h = let p : 2 ^ suc v ≤ 2 ^ 64 = pow-mono {i = suc v} {j = 64} (omega arith) in omega (arith, mask-small (λ k. below rs k v) (suc v))

@@ -11,11 +11,7 @@ use borrow.Author.Tests.{eqb-true, eq-eqb, ltb-true, lt-ltb, le-ltb}
 use Rattle.lists.proofs.Tests.{by-test, by-order, by-either}
 use Rattle.search.specs.Walk.{Before, Process, best, costOf, choose, walk, answer, First, chooseBy, walkBy, answerBy}
 use Rattle.search.specs.Cost.{plus}
-use Rattle.search.proofs.Cost.{plus-le, plus-mono, plus-cancel, plus-below, least-le-top, least-le, least-is, first-le, first-is, first-cong}
-
-past : (top a b : ℕ) → top ≤ a → plus top a b ≡ top
-unfolding plus
-past top a b h = omega arith
+use Rattle.search.proofs.Cost.{plus-le, plus-past, plus-mono, plus-cancel, plus-below, least-le-top, least-le, least-is, first-le, first-is, first-cong}
 
 module _ {X Site : Type 0} (G : Process X Site) where
   open Process G using (top, m, price, next, final)
@@ -148,7 +144,7 @@ module _ {X Site : Type 0} (G : Process X Site) where
         → plus top (price x s k) (value (next x s k) ss) ≡ plus top (price x s k) (best G (next x s k) ss)
     same-step x s ss k i =
         by-order top (price x s k)
-        (λ l. past top (price x s k) _ l ∙ sym (past top (price x s k) _ l))
+        (λ l. plus-past top (price x s k) _ l ∙ sym (plus-past top (price x s k) _ l))
         (λ l. ap (plus top (price x s k)) (right (next x s k) ss (onward x s k i l)))
 
     same-choice : (x : X) (s : Site) (ss : List Site) → Inv x → chooseBy G value x s ss ≡ choose G x s ss

@@ -1,5 +1,5 @@
 -- Sharing a budget. `below w v` says that w may be taken from the budget v, which leaves v - w; `conv f g v` is the least cost of
--- sharing v between f and g. With it, and the least of two, the functions from budgets to costs are a commutative semiring.
+-- sharing v between f and g. With it, and the least of two, the functions from budgets to costs are a commutative semiring (proofs/Share).
 use mathlib.Core.Path.{_≡_}
 use mathlib.Core.Bool.{Bool, true, cond}
 use Prim.Native.Nat.{ℕ, suc, _-_, _≤_, min}
