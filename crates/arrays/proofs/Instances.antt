@@ -1,38 +1,27 @@
 -- The arrays of a sheet give its instances. Assumes nothing.
-use mathlib.Core.Path.{_≡_, refl, sym, ap, ap₂, _∙_}
-use mathlib.Core.Bool.{Bool, true, false, cond, not}
+use mathlib.Core.Path.{_≡_, refl, sym, _∙_}
+use mathlib.Core.Bool.{not}
 use mathlib.Core.List.{List, [], _∷_}
-use Prim.Native.Nat.{ℕ, zero, suc, _+_, _*_, _-_, _≤_, _<_}
+use Prim.Native.Nat.{ℕ, zero, suc, _≤_}
 use native.Mathlib.Omega.{arith}
-use lib.Dec.{eqb, leb}
+use lib.Dec.{eqb}
 use lib.ListN.{length, getD}
 use Rattle.lists.proofs.Tests.{by-order}
 use Rattle.sheet.specs.Sheet.{Site, Colour, Sheet}
-use Rattle.labelling.specs.Layout.{apart, heightOf, siteShare}
+use Rattle.search.proofs.Sums.{listing-first, listing-past}
+use Rattle.labelling.specs.Layout.{heightOf, siteShare}
 use Rattle.labelling.proofs.Members.{noSite}
-use Rattle.optimum.specs.Strips.{Point, Strip, Instance}
-use Rattle.optimum.specs.OneSided.{farEnough, clearOf, shareOf, leadOf, boundOf, mayOpen, tipClear, turnOf, heldOf, radicesOf, drawsOf, wordOf, topWord, instanceOf, order, pointAt, pointsAt}
-use Rattle.arrays.specs.Arrays.{measuresOf, boundsOf, tabulate, drawsList, xsOf, ysOf, coloursOf, gathered, instanceBy, pointsBy}
+use Rattle.optimum.specs.Budgets.{unboundedColour}
+use Rattle.optimum.specs.OneSided.{farEnough, clearOf, shareOf, leadOf, mayOpen, tipClear, turnOf, heldOf, radicesOf, drawsOf, wordOf, topWord, instanceOf, pointsAt}
+use Rattle.arrays.specs.Arrays.{measuresOf, boundsOf, drawsList, xsOf, ysOf, coloursOf, gathered, instanceBy, pointsBy}
 
-pub bounds-at : (ks : List Colour) (c : ℕ) → getD (boundsOf ks) c 255 ≡ (getD ks c (record { bound = 255; sites = 0 })) .bound
+pub bounds-at : (ks : List Colour) (c : ℕ) → getD (boundsOf ks) c 255 ≡ (getD ks c unboundedColour) .bound
 unfolding boundsOf
 bounds-at [] c = refl
 bounds-at (k ∷ ks) zero = refl
 bounds-at (k ∷ ks) (suc c) = bounds-at ks c
 
-pub tabulate-at : (f : ℕ → ℕ) (k n i : ℕ) → i < n → getD (tabulate f k n) i 0 ≡ f (k + i)
-unfolding tabulate
-tabulate-at f k zero i h = absurd (omega arith)
-tabulate-at f k (suc n) zero h = ap f (omega arith)
-tabulate-at f k (suc n) (suc i) h = tabulate-at f (suc k) n i (omega arith) ∙ ap f (omega arith)
-
-pub tabulate-past : (f : ℕ → ℕ) (k n i : ℕ) → n ≤ i → getD (tabulate f k n) i 0 ≡ 0
-unfolding tabulate
-tabulate-past f k zero i h = refl
-tabulate-past f k (suc n) zero h = absurd (omega arith)
-tabulate-past f k (suc n) (suc i) h = tabulate-past f (suc k) n i (omega arith)
-
-past : (ks : List Colour) (c : ℕ) → length ks ≤ c → (getD ks c (record { bound = 255; sites = 0 })) .bound ≡ 255
+past : (ks : List Colour) (c : ℕ) → length ks ≤ c → (getD ks c unboundedColour) .bound ≡ 255
 past [] c h = refl
 past (k ∷ ks) zero h = absurd (omega arith)
 past (k ∷ ks) (suc c) h = past ks c (omega arith)
@@ -40,8 +29,8 @@ past (k ∷ ks) (suc c) h = past ks c (omega arith)
 pub draws-at : (s : Sheet) (c : ℕ) → getD (drawsList s) c 0 ≡ drawsOf s c
 draws-at s c =
     by-order (length (s .colours)) c
-    (λ h. tabulate-past (drawsOf s) 0 (length (s .colours)) c h ∙ sym (unfold drawsOf in rw (past (s .colours) c h)))
-    (λ h. tabulate-at (drawsOf s) 0 (length (s .colours)) c h ∙ ap (drawsOf s) (omega arith))
+    (λ h. listing-past (drawsOf s) 0 (length (s .colours)) c h ∙ sym (unfold drawsOf in rw (past (s .colours) c h)))
+    (λ h. listing-first (drawsOf s) (length (s .colours)) c h)
 
 -- THE ONE-SIDED INSTANCE
 pub instance-by : (s : Sheet) → instanceBy (measuresOf s) (s .slots) (boundsOf (s .colours)) (radicesOf (s .colours)) (drawsList s) ≡ instanceOf s

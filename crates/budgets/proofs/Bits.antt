@@ -9,7 +9,8 @@ use lib.Pow.{pow-mono}
 use lib.Dec.{eqb}
 use borrow.Author.Tests.{eq-eqb, ne-eqb}
 use Rattle.lists.proofs.Tests.{by-test}
-use Rattle.search.specs.Radix.{below, sharing}
+use Rattle.search.specs.Radix.{below}
+use Rattle.search.proofs.Radix.{sharing}
 use Rattle.budgets.specs.Budgets.{bitOf}
 
 -- bits from w on have been put down

@@ -9,7 +9,8 @@ use lib.Dec.{leb}
 use lib.ListN.{length, getD, drop, set}
 use lib.Seq.{drop-cons, getD-set-same, getD-set-other}
 use Rattle.lists.proofs.Tests.{by-test, by-order, clash}
-use Rattle.search.specs.Cost.{plus, least, least-le-top}
+use Rattle.search.specs.Cost.{plus, least}
+use Rattle.search.proofs.Cost.{least-le-top}
 use Rattle.search.specs.Radix.{below}
 use Rattle.optimum.specs.OneSided.{topWord}
 use Rattle.budgets.specs.Budgets.{Others, Listed, Within, Splits, partAt}

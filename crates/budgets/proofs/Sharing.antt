@@ -6,9 +6,12 @@ use Prim.Native.Nat.{ℕ, zero, suc, _+_, _*_, _-_, _<_, _≤_}
 use native.Mathlib.Nat.{le-antisymm}
 use native.Mathlib.Omega.{arith}
 use lib.ListN.{length, getD}
-use Rattle.search.specs.Cost.{plus, least, least-le, least-le-top, least-most}
-use Rattle.search.specs.Share.{conv, conv-le-top, conv-low, conv-most}
-use Rattle.search.specs.Radix.{below, sharing}
+use Rattle.search.specs.Cost.{plus, least}
+use Rattle.search.proofs.Cost.{least-le, least-le-top, least-most}
+use Rattle.search.specs.Share.{conv}
+use Rattle.search.proofs.Share.{conv-le-top, conv-low, conv-most}
+use Rattle.search.specs.Radix.{below}
+use Rattle.search.proofs.Radix.{sharing}
 use Rattle.optimum.specs.OneSided.{topWord}
 use Rattle.budgets.specs.Budgets.{Listed, Within, Splits, partAt, shareBy}
 

@@ -11,7 +11,8 @@ use lib.Dec.{ltb}
 use lib.ListN.{length, getD, drop}
 use borrow.Author.Tests.{lt-ltb, le-ltb, ltb-true, eqb-true}
 use Rattle.lists.proofs.Tests.{by-test, by-order, by-either, and-both, or-e}
-use Rattle.search.specs.Cost.{plus, least, plus-top, top-plus, plus-le, least-le, least-le-top, least-most}
+use Rattle.search.specs.Cost.{plus, least}
+use Rattle.search.proofs.Cost.{plus-top, top-plus, plus-le, least-le, least-le-top, least-most}
 use Rattle.search.specs.Share.{conv}
 use Rattle.search.specs.Radix.{below}
 use Rattle.optimum.specs.Strips.{Point, Strip, Instance, inside, opens, joinsUp, joinsDown}

@@ -11,7 +11,8 @@ use lib.ListN.{length, getD, set}
 use lib.Seq.{getD-set-same, getD-set-other}
 use borrow.Author.Tests.{lt-ltb, eqb-true}
 use Rattle.lists.proofs.Tests.{by-test, by-order, by-either, or-e}
-use Rattle.search.specs.Cost.{plus, least, plus-top, top-plus, plus-le, least-le, least-le-top, least-most}
+use Rattle.search.specs.Cost.{plus, least}
+use Rattle.search.proofs.Cost.{plus-top, top-plus, plus-le, least-le, least-le-top, least-most}
 use Rattle.optimum.specs.Strips.{Point, Strip}
 use Rattle.optimum.specs.OneSided.{topWord}
 use Rattle.arrays.specs.declared.Measures.{Measures}

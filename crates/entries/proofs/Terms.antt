@@ -10,7 +10,8 @@ use lib.Dec.{eqb, leb}
 use lib.ListN.{length, getD}
 use borrow.Author.Tests.{le-leb, lt-leb, lt-ltb, le-ltb}
 use Rattle.lists.proofs.Tests.{and-of, by-order}
-use Rattle.search.specs.Cost.{plus, least, least-le-top}
+use Rattle.search.specs.Cost.{plus, least}
+use Rattle.search.proofs.Cost.{least-le-top}
 use Rattle.optimum.specs.Strips.{Point, Strip, inside}
 use Rattle.optimum.specs.OneSided.{topWord}
 use Rattle.arrays.specs.declared.Measures.{Measures}

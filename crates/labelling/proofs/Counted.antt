@@ -1,26 +1,20 @@
--- The tests of the rules, the count and the length are the tests, counts and sums over the sites by their numbers.
+-- A test of all tied sites, the numbers of slots of rule 2, the count and the length are tests, counts and sums over the sites by
+-- their numbers.
 -- Assumes nothing but that each site has one tie and that its slot is one of the sheet's.
 use mathlib.Core.Path.{_≡_, refl, sym, _∙_, ap, ap₂, subst, fun-ext}
-use mathlib.Core.Logic.{inl, inr}
-use mathlib.Core.Bool.{Bool, true, false, _&&_, _||_, not, false≢true, cond}
+use mathlib.Core.Bool.{Bool, true, false, _&&_, _||_, false≢true, cond}
 use mathlib.Core.List.{List, [], _∷_}
 use Prim.Native.Nat.{ℕ, zero, suc, _+_, _-_, _≤_, _<_}
-use native.Mathlib.Nat.{le-antisymm}
 use native.Mathlib.Omega.{arith}
-use lib.Dec.{ltb, leb, eqb}
+use lib.Dec.{ltb, eqb}
 use lib.ListN.{length, getD}
-use borrow.Author.Tests.{ltb-true, leb-true, eqb-true, le-leb, eq-eqb, ne-eqb}
-use Rattle.sheet.specs.Sheet.{all, insideBy, Site, Sheet}
-use Rattle.labelling.specs.Layout.{noSite, siteAt, Tied, tieAt, tiedOf, tied, heightOf, isUsed, usedFrom, usedOf, least, leastX, leftEnd, slotsOf, countOf, backbones, siteShare, drops, colourKept, boundsKept, noColour, gapKept, brokenIn, lengthOf, statedCount, statedLength, isLayout, brokenBy, layoutBody, layoutTies}
-use Rattle.labelling.specs.Lawful.{Bounded}
-use Rattle.labelling.specs.Pairs.{missesPair, clearsPair}
-use Rattle.labelling.specs.Counted.{allBefore, sumBefore, isTaken, isFirst, sumFirsts, leastBefore, anySite, ofColour, labelsCounted, coloursCounted, backbonesCounted, sharesCounted, lengthCounted, allPairs, boundCounted, brokenCounted, verdictCounted}
-use Rattle.lists.proofs.Tests.{same-test, clash, by-test, by-order, by-equal, by-either, and-l, and-r, and-i, or-e}
-use Rattle.labelling.proofs.Members.{least-le, leastX-width, leastX-le, leastX-is, noTied, all-at, at-all, used-at, at-used, used-tail, tied-at, length-tied}
+use borrow.Author.Tests.{ltb-true, eqb-true, eq-eqb, ne-eqb}
+use Rattle.sheet.specs.Sheet.{all, Site, Sheet}
+use Rattle.labelling.specs.Layout.{noSite, siteAt, Tied, tieAt, tiedOf, tied, heightOf, isUsed, usedFrom, usedOf, leftEnd, slotsOf, countOf, backbones, siteShare, drops}
+use Rattle.labelling.specs.Counted.{allBefore, sumBefore, isTaken, isFirst, sumFirsts, anySite, ofColour, labelsCounted, coloursCounted, backbonesCounted, sharesCounted}
+use Rattle.lists.proofs.Tests.{same-test, clash, by-test, by-equal, by-either, and-l, and-r, and-i, or-e}
+use Rattle.labelling.proofs.Members.{noTied, all-at, at-all, used-at, at-used, used-tail, tied-at, length-tied}
 use Rattle.labelling.proofs.Best.{below}
-use Rattle.labelling.proofs.Rules.{rule-two}
-use Rattle.labelling.proofs.Pairs.{rule-four-pairs, rule-five-pairs}
-use Rattle.labelling.proofs.Words.{Formed, formed, formed-long, ties-low}
 
 -- ALL, by numbers
 pub all-before : (f : ℕ → Bool) (n : ℕ) → allBefore f n ≡ true → (i : ℕ) → i < n → f i ≡ true
@@ -136,11 +130,6 @@ unfolding sumWhere
 where-same t u f a zero h = refl
 where-same t u f a (suc n) h = ap₂ _+_ (ap (λ (b : Bool). cond b (f a) 0) (h a (omega arith))) (where-same t u f (suc a) n λ k l. h k (omega arith))
 
--- one slot more
-or-i : (a : Bool) {b : Bool} → b ≡ true → (a || b) ≡ true
-or-i true h = refl
-or-i false h = h
-
 or-false : (b : Bool) → (b || false) ≡ b
 or-false true = refl
 or-false false = refl
@@ -183,44 +172,8 @@ sum-firsts p f js m (suc n) h = ap (λ (z : ℕ). z + cond (isFirst p js n) (f j
         (by-test (t j) (λ q. rw q (omega (arith, where-same (λ k. t k || eqb j k) t f 0 m (λ k l. again q k))))
         λ q. rw q (omega (arith, where-more t f j 0 m (omega arith) (omega (arith, h n (omega arith))) q)))
 
--- THE LEAST X, by numbers
-before-width : (k w : ℕ) (ss : List Site) (js : List ℕ) (n : ℕ) → leastBefore k w ss js n ≤ w
-unfolding leastBefore
-before-width k w ss js zero = omega arith
-before-width k w ss js (suc n) =
-    by-test (eqb (getD js n 0) k)
-    (λ e. rw e (omega (arith, least-le ((getD ss n noSite) .x) (leastBefore k w ss js n), before-width k w ss js n))) λ e. rw e (before-width k w ss js n)
-
-before-le : (k w : ℕ) (ss : List Site) (js : List ℕ) (n i : ℕ) → i < n → getD js i 0 ≡ k → leastBefore k w ss js n ≤ (getD ss i noSite) .x
-unfolding leastBefore
-before-le k w ss js zero i l h = absurd (omega arith)
-before-le k w ss js (suc n) i l h =
-    by-equal i n
-    (λ e. let q : getD js n 0 ≡ k = subst (λ (z : ℕ). getD js z 0 ≡ k) e h in
-    rw (eq-eqb (getD js n 0) k q) (omega (arith, least-le ((getD ss n noSite) .x) (leastBefore k w ss js n), ap (λ (z : ℕ). (getD ss z noSite) .x) e)))
-    λ e. by-test (eqb (getD js n 0) k)
-    (λ q. rw q (omega (arith, least-le ((getD ss n noSite) .x) (leastBefore k w ss js n), before-le k w ss js n i (omega arith) h)))
-    λ q. rw q (before-le k w ss js n i (omega arith) h)
-
-before-is : (k w : ℕ) (ss : List Site) (js : List ℕ) (n : ℕ) → leastBefore k w ss js n < w →
-    (i : ℕ) × (i < n) × (getD js i 0 ≡ k) × (leastBefore k w ss js n ≡ (getD ss i noSite) .x)
-unfolding leastBefore
-before-is k w ss js zero h = absurd (omega arith)
-before-is k w ss js (suc n) h = go (eqb (getD js n 0) k) refl h (before-is k w ss js n)
-  where
-    b : ℕ
-    b = leastBefore k w ss js n
-
-    go : (t : Bool) → eqb (getD js n 0) k ≡ t → cond t (least ((getD ss n noSite) .x) b) b < w →
-        (b < w → (i : ℕ) × (i < n) × (getD js i 0 ≡ k) × (b ≡ (getD ss i noSite) .x)) →
-        (i : ℕ) × (i < suc n) × (getD js i 0 ≡ k) × (cond t (least ((getD ss n noSite) .x) b) b ≡ (getD ss i noSite) .x)
-    go true e h ih =
-        by-test (ltb b ((getD ss n noSite) .x)) (λ f. rw f (let (i, l, q, z) = ih (rw f at h) in (i, omega arith, q, z)))
-        λ f. rw f (n, omega arith, eqb-true (getD js n 0) k e, refl)
-    go false e h ih = let (i, l, q, z) = ih h in (i, omega arith, q, z)
-
 -- front of a sum
-sum-front : (f : ℕ → ℕ) (n : ℕ) → sumBefore f (suc n) ≡ f 0 + sumBefore (λ i. f (suc i)) n
+pub sum-front : (f : ℕ → ℕ) (n : ℕ) → sumBefore f (suc n) ≡ f 0 + sumBefore (λ i. f (suc i)) n
 unfolding sumBefore
 sum-front f zero = omega arith
 sum-front f (suc n) = omega (arith, sum-front f n)
@@ -235,29 +188,6 @@ shares-is s (t ∷ ss) (j ∷ js) l =
     sym (sum-front (λ i. siteShare s (heightOf s (getD (j ∷ js) i 0)) ((getD (t ∷ ss) i noSite) .y)) (length ss))
 
 module _ (s : Sheet) (js : List ℕ) (long : length js ≡ length (s .sites)) where
-  -- the least x among the sites of a slot
-  pub least-counted : (k : ℕ) → leastX k (s .width) (tied s js) ≡ leastBefore k (s .width) (s .sites) js (length (s .sites))
-  least-counted k = le-antisymm low up
-    where
-      w : ℕ
-      w = s .width
-
-      a : ℕ
-      a = leastX k w (tied s js)
-
-      b : ℕ
-      b = leastBefore k w (s .sites) js (length (s .sites))
-
-      low : a ≤ b
-      low =
-          by-order w b (λ h. omega (arith, leastX-width k w (tied s js)))
-          λ h. let (i, l, q, z) = before-is k w (s .sites) js (length (s .sites)) h in omega (arith, leastX-le k w (s .sites) js i long l q)
-
-      up : b ≤ a
-      up =
-          by-order w a (λ h. omega (arith, before-width k w (s .sites) js (length (s .sites))))
-          λ h. let (i, l, q, z) = leastX-is k w (s .sites) js long h in omega (arith, before-le k w (s .sites) js (length (s .sites)) i l q)
-
   -- the sites' shares
   pub drops-counted : drops s (tied s js) ≡ sharesCounted s js
   drops-counted = shares-is s (s .sites) js long
@@ -285,56 +215,3 @@ module _ (s : Sheet) (js : List ℕ) (long : length js ≡ length (s .sites)) wh
     -- THE BACKBONES' LENGTHS, each added at the first site of its slot
     pub backbones-counted : backbones s js (usedOf s js) ≡ backbonesCounted s js
     backbones-counted = backbones-over s js (usedOf s js) ∙ firsts-is anySite (λ k. s .width - leftEnd s js k) js any-taken
-
--- THE VERDICT: the least broken rule is found by loops over pairs of sites
-module _ (s : Sheet) (inside : all (insideBy (s .width)) (s .sites) ≡ true) (js : List ℕ) (long : length js ≡ length (s .sites)) (low : below (length (s .slots)) js ≡ true) where
-  pairs-is : (f : Tied → Tied → Bool) → all (λ t. all (f t) (tied s js)) (tied s js) ≡ allPairs s js f
-  pairs-is f =
-      tied-is s js long (λ t. all (f t) (tied s js)) ∙
-      ap (λ (g : ℕ → Bool). allBefore g (length (s .sites))) (fun-ext λ i. tied-is s js long (f (tieAt s js i)))
-
-  bounds-is : boundsKept s js 0 (s .colours) ≡ allBefore (boundCounted s js) (length (s .colours))
-  bounds-is =
-      same-test (boundsKept s js 0 (s .colours)) (allBefore (boundCounted s js) (length (s .colours)))
-      (λ h. before-all (boundCounted s js) (length (s .colours)) λ c l. bounded-i c (rule-two s js long .0 h c l))
-      (λ h. rule-two s js long .1 λ c l. bounded-e c (all-before (boundCounted s js) (length (s .colours)) h c l))
-    where
-      bound : ℕ → ℕ
-      bound c = (getD (s .colours) c noColour) .bound
-
-      bounded-i : (c : ℕ) → Bounded s js c (getD (s .colours) c noColour) → boundCounted s js c ≡ true
-      bounded-i c (inl e) = rw (eq-eqb (bound c) 255 e)
-      bounded-i c (inr e) = or-i (eqb (bound c) 255) (le-leb (coloursCounted s js c) (bound c) (omega (arith, colour-counted s js long low c)))
-
-      bounded-e : (c : ℕ) → boundCounted s js c ≡ true → Bounded s js c (getD (s .colours) c noColour)
-      bounded-e c h =
-          by-either (or-e (eqb (bound c) 255) (leb (coloursCounted s js c) (bound c)) h) (λ e. inl (eqb-true (bound c) 255 e))
-          λ e. inr (omega (arith, colour-counted s js long low c, leb-true (coloursCounted s js c) (bound c) e))
-
-  pub broken-counted : brokenIn s js ≡ brokenCounted s js
-  broken-counted =
-      λ i. cond (not (pairs-is colourKept i)) 1
-      (cond (not (bounds-is i)) 2
-      (cond (not (pairs-is (gapKept s) i)) 3
-      (cond (not ((rule-four-pairs s js long inside low ∙ pairs-is (missesPair s)) i)) 4
-      (cond (not ((rule-five-pairs s js long inside low ∙ pairs-is (clearsPair s)) i)) 5 0))))
-
-  pub length-counted : lengthOf s js ≡ lengthCounted s js
-  length-counted = ap₂ _+_ (backbones-counted s js long low) (drops-counted s js long)
-
-pub verdict-counted : (s : Sheet) → all (insideBy (s .width)) (s .sites) ≡ true → (b : List ℕ) → isLayout s b ≡ true → brokenBy s b ≡ verdictCounted s b
-verdict-counted s inside b h =
-    λ i. cond (not (eqb (broken-counted s inside js long low i) 0)) (broken-counted s inside js long low i)
-    (cond (eqb (statedCount b) (count-counted s js long low i) && eqb (statedLength b) (length-counted s inside js long low i)) 0 6)
-  where
-    js : List ℕ
-    js = layoutTies b
-
-    f : Formed s b
-    f = formed s b h
-
-    long : length js ≡ length (s .sites)
-    long = formed-long s b f
-
-    low : below (length (s .slots)) js ≡ true
-    low = ties-low s (layoutBody b) (f .ties)

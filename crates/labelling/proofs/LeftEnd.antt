@@ -1,13 +1,12 @@
 -- THE LEFT END of a label: at or left of where each of its sites would have it begin, and one of these. Assumes nothing but one tie
 -- a site and no site right of the width.
 use mathlib.Core.Path.{_≡_, refl, _∙_, ap, subst}
-use mathlib.Core.Bool.{Bool, true, false, _||_, cond}
+use mathlib.Core.Bool.{Bool, true, false, cond}
 use mathlib.Core.List.{List}
 use Prim.Native.Nat.{ℕ, _≤_, _<_}
 use native.Mathlib.Omega.{arith}
-use lib.Dec.{leb}
 use lib.ListN.{length, getD}
-use borrow.Author.Tests.{leb-true, le-leb}
+use borrow.Author.Tests.{leb-true}
 use Rattle.sheet.specs.Sheet.{all, Site, Sheet, insideBy}
 use Rattle.labelling.specs.Layout.{noSite, siteAt, tied, isUsed, leastX, leftEnd}
 use Rattle.labelling.specs.Pairs.{startOf}
@@ -19,14 +18,6 @@ use Rattle.sheet.proofs.Accepted.{Sound}
 -- where a site alone would have its label begin, on a one-sided sheet: at its x
 pub start-one : (s : Sheet) → s .isTwoSided ≡ false → (t : Site) → startOf s t ≡ t .x
 start-one s e t = ap (λ (b : Bool). cond b 0 (t .x)) e
-
--- as a loop tests it: two-sided, or not right of x
-pub start-before : (s : Sheet) (t : Site) (x : ℕ) → leb (startOf s t) x ≡ (s .isTwoSided || leb (t .x) x)
-start-before s t x = go (s .isTwoSided)
-  where
-    go : (b : Bool) → leb (cond b 0 (t .x)) x ≡ (b || leb (t .x) x)
-    go true = le-leb 0 x (omega arith)
-    go false = refl
 
 module _ (s : Sheet) (js : List ℕ) (long : length js ≡ length (s .sites)) where
   pub left-le : (i : ℕ) → i < length (s .sites) → leftEnd s js (getD js i 0) ≤ startOf s (siteAt s i)

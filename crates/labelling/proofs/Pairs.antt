@@ -2,7 +2,7 @@
 -- once as statements. Assumes nothing but one tie a site, slots of the sheet, and no site right of the width.
 use mathlib.Core.Path.{_≡_, refl, sym, ap, _∙_, subst, subst⁻¹, fun-ext}
 use mathlib.Core.Bool.{Bool, true, false, _&&_, _||_, not}
-use mathlib.Core.List.{List, []}
+use mathlib.Core.List.{List}
 use Prim.Native.Nat.{ℕ, _≤_, _<_}
 use native.Mathlib.Omega.{arith}
 use lib.Dec.{eqb, leb}
@@ -95,9 +95,6 @@ module _ (s : Sheet) (inside : all (insideBy (s .width)) (s .sites) ≡ true) (j
     where
       used : isUsed (getD js i 0) js ≡ true
       used = used-at js i (omega arith)
-
-  pub rules-others : Rules s js → Others s js
-  rules-others r = record {}
 
   -- THEOREM 0, from pairs: with rule 2 they are the rules
   pub pairs-rules : AllInOrder s js → Others s js → RuleTwo s js → Rules s js

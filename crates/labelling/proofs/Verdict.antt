@@ -4,7 +4,7 @@ use mathlib.Core.Path.{_≡_, refl, sym, subst, subst⁻¹}
 use mathlib.Core.Logic.{_⊎_, inl, inr, _↔_}
 use mathlib.Core.Bool.{Bool, true, false, _&&_, not, false≢true, cond}
 use mathlib.Core.List.{List}
-use Prim.Native.Nat.{ℕ, zero, suc, _≤_, _<_}
+use Prim.Native.Nat.{ℕ, zero, suc, _<_}
 use native.Mathlib.Omega.{arith}
 use lib.Dec.{eqb}
 use lib.ListN.{length}
@@ -129,6 +129,3 @@ module _ (s : Sheet) (b : List ℕ) (h : isLayout s b ≡ true) where
       holds p (suc (suc (suc (suc (suc zero))))) = p .rules .five
       holds p (suc (suc (suc (suc (suc (suc zero)))))) = p .six
       holds p (suc (suc (suc (suc (suc (suc (suc n))))))) = tt
-
-  pub broken-six : brokenBy s b ≤ 6
-  broken-six = by-either (outcome s b h) (λ o. omega arith) λ o. omega arith

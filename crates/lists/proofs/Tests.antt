@@ -1,7 +1,7 @@
 -- Tests and case splits: what a test says, and proofs by its two outcomes. Assumes nothing.
 use mathlib.Core.Path.{_≡_, refl, sym, _∙_}
 use mathlib.Core.Logic.{_⊎_, inl, inr, _≢_}
-use mathlib.Core.Bool.{Bool, true, false, cond, _&&_, _||_, not, true≢false, false≢true}
+use mathlib.Core.Bool.{Bool, true, false, _&&_, _||_, not, true≢false, false≢true}
 use Prim.Native.Nat.{ℕ, _≤_, _<_}
 use native.Mathlib.Decide.{decLe, ℕ-discrete}
 use native.Mathlib.Omega.{arith}
@@ -82,14 +82,6 @@ not-e false e = sym e
 pub not-f : (b : Bool) → not b ≡ true → b ≡ false
 not-f true e = sym e
 not-f false e = refl
-
-pub cond-t : {A : Type 0} (b : Bool) (x y : A) → b ≡ true → cond b x y ≡ x
-cond-t true x y e = refl
-cond-t false x y e = absurd (false≢true e)
-
-pub cond-f : {A : Type 0} (b : Bool) (x y : A) → b ≡ false → cond b x y ≡ y
-cond-f true x y e = absurd (true≢false e)
-cond-f false x y e = refl
 
 -- for `omega (arith, tests)`: what a test says of numbers, and its value from what is known
 pub ruleset tests = (ltb-true, ltb-false, leb-true, leb-false, eqb-true, eqb-false, lt-ltb, le-ltb, le-leb, lt-leb, eq-eqb, ne-eqb)

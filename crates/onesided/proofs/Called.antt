@@ -1,8 +1,8 @@
 -- What is laid out from the arrays of an accepted one-sided sheet is what the maker is to answer and leave. Assumes nothing.
-use mathlib.Core.Path.{_≡_, refl, sym, ap, ap₂, _∙_}
+use mathlib.Core.Path.{_≡_, sym, ap, ap₂, _∙_}
 use mathlib.Core.Bool.{true, false}
-use mathlib.Core.List.{List, [], _∷_, _++_}
-use Prim.Native.Nat.{ℕ, suc, _+_, _-_, _*_}
+use mathlib.Core.List.{List, _++_}
+use Prim.Native.Nat.{ℕ, _+_, _*_}
 use native.Mathlib.Omega.{arith}
 use lib.Dec.{ltb}
 use lib.ListN.{length, set, drop, replicate}
@@ -16,6 +16,7 @@ use Rattle.labelling.proofs.Maker.{cleared}
 use Rattle.optimum.specs.OneSided.{topWord, instanceOf, order, pointsAt, writeTies}
 use Rattle.optimum.specs.CostWord.{countIn, lengthIn}
 use Rattle.optimum.proofs.Order.{ordered}
+use Rattle.optimum.proofs.OneSidedBest.{points-long}
 use Rattle.optimum.proofs.OneSidedAnswer.{firstCell, slotsWalked, cell-value, slots-walked, work-cells, call-unmade}
 use Rattle.optimum.proofs.Write.{call-written}
 use Rattle.arrays.specs.declared.Measures.{Measures}
@@ -24,11 +25,6 @@ use Rattle.arrays.proofs.Instances.{instance-by, points-by}
 use Rattle.optimum.specs.Budgets.{radicesOf}
 use Rattle.rest.specs.Rest.{levelSize}
 use Rattle.onesided.specs.Laid.{leastCost, headWord, laidFault, written, laidOut, wiped}
-
-points-long : (s : Sheet) (is : List ℕ) → length (pointsAt s is) ≡ length is
-unfolding pointsAt
-points-long s [] = refl
-points-long s (i ∷ is) = ap suc (points-long s is)
 
 -- the three equations of a call: what it returns, and both areas
 pub record Made (ws k o : List ℕ) (fault : ℕ) (work out : List ℕ) : Type 0 where

@@ -19,7 +19,8 @@ use Rattle.optimum.proofs.Full.{full-holds}
 use Rattle.optimum.proofs.Order.{ordered}
 use Rattle.optimum.proofs.OneSidedAnswer.{work-cells}
 use Rattle.arrays.specs.declared.Measures.{Measures}
-use Rattle.arrays.specs.Arrays.{measuresOf, boundsOf, tabulate, drawsList, xsOf, ysOf, coloursOf, gathered, instanceBy, pointsBy}
+use Rattle.search.proofs.Sums.{length-listing}
+use Rattle.arrays.specs.Arrays.{measuresOf, boundsOf, drawsList, xsOf, ysOf, coloursOf, gathered, instanceBy, pointsBy}
 use Rattle.arrays.proofs.Instances.{ys-at, colours-at}
 use Rattle.arrays.proofs.Fields.{bounds-long}
 use Rattle.arrays.proofs.Ordered.{gathered-long, radix-pos}
@@ -41,11 +42,6 @@ unfolding radicesOf
 radices-positive [] k h = absurd (omega arith)
 radices-positive (c ∷ ks) zero h = by-test (eqb (c .bound) 255) (λ e. rw e (omega arith)) (λ e. rw e (omega arith))
 radices-positive (c ∷ ks) (suc k) h = radices-positive ks k (omega arith)
-
-tabulate-long : (f : ℕ → ℕ) (k n : ℕ) → length (tabulate f k n) ≡ n
-unfolding tabulate
-tabulate-long f k zero = refl
-tabulate-long f k (suc n) = ap suc (tabulate-long f (suc k) n)
 
 pub product-some : (ks : List Colour) → 0 < productOf ks
 unfolding productOf
@@ -100,7 +96,7 @@ module _ (ws : List ℕ) (f : sheetFault ws ≡ 0) where
         };
         divides = radices-positive (s .colours);
         full = full-holds (s .colours);
-        drawn = tabulate-long _ 0 (length (s .colours));
+        drawn = length-listing _ 0 (length (s .colours));
         sites = record {
           sitesFew = omega (arith, gx, n-is, o .few-sites);
           ysLong = gy ∙ sym gx;

@@ -11,8 +11,9 @@ use lib.Dec.{ltb, leb, eqb}
 use lib.ListN.{getD}
 use borrow.Author.Tests.{leb-true, eqb-true, eqb-false, lt-ltb, le-ltb, le-leb, lt-leb, eq-eqb, ne-eqb}
 use Rattle.lists.proofs.Tests.{by-test, by-order, by-either, by-equal}
-use Rattle.search.specs.Cost.{first-le, first-is}
-use Rattle.optimum.specs.Sums.{tally, tally-in, tally-out}
+use Rattle.search.proofs.Cost.{first-le, first-is}
+use Rattle.search.specs.Sums.{tally}
+use Rattle.search.proofs.Sums.{tally-in, tally-out}
 use Rattle.optimum.specs.UsedSlots.{Instance, put, allows, value, leftmost, choose, capAll}
 
 pub put-same : (caps : ℕ → ℕ) (i p : ℕ) → put caps i p i ≡ p

@@ -7,9 +7,12 @@ use native.Mathlib.Omega.{arith}
 use lib.Dec.{ltb, eqb}
 use borrow.Author.Tests.{leb-true, lt-ltb, le-ltb, le-leb, lt-leb, ne-eqb}
 use Rattle.lists.proofs.Tests.{by-test, by-order, and-both}
-use Rattle.search.specs.Cost.{plus, plus-le, plus-zero, plus-top, top-plus}
+use Rattle.search.specs.Cost.{plus}
+use Rattle.search.proofs.Cost.{plus-le, plus-zero, plus-top, top-plus}
 use Rattle.search.specs.Walk.{costOf}
-use Rattle.optimum.specs.Sums.{listing, tally, tally-in, tally-out, sumTo, sum-le, sum-split, sum-cong}
+use Rattle.search.specs.Sums.{listing, tally, sumTo}
+use Rattle.search.proofs.Sums.{tally-in, tally-out}
+use Rattle.search.proofs.CappedSums.{sum-le, sum-split, sum-cong}
 use Rattle.optimum.specs.UsedSlots.{Instance, over, under, farUp, may, draw, siteCost, inside, strip, price, next, final, labels}
 
 -- a code: none, or a colour's

@@ -9,7 +9,8 @@ use borrow.Author.Tests.{ltb-true, leb-true, lt-ltb, le-leb, eq-eqb, ne-eqb}
 use Rattle.lists.proofs.Tests.{by-test, by-equal, and-both, and-of}
 use Rattle.search.specs.Radix.{digitOf}
 use Rattle.search.proofs.Digits.{Drawn}
-use Rattle.optimum.specs.Sums.{tally, tally-in, tally-out}
+use Rattle.search.specs.Sums.{tally}
+use Rattle.search.proofs.Sums.{tally-in, tally-out}
 use Rattle.optimum.specs.UsedSlots.{Instance, farUp, may, draw}
 use Rattle.optimum.proofs.Chain.{by-code, fits, fits-skip, fits-label}
 

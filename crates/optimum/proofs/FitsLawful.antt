@@ -19,7 +19,8 @@ use Rattle.labelling.proofs.Members.{at-all, at-used}
 use Rattle.labelling.proofs.Best.{below, Obeys}
 use Rattle.labelling.proofs.Rules.{Rules, siteAt, rules-obey}
 use Rattle.labelling.proofs.Counted.{at-slots}
-use Rattle.optimum.specs.Sums.{tally, tally-mono}
+use Rattle.search.specs.Sums.{tally}
+use Rattle.search.proofs.Sums.{tally-mono}
 use Rattle.optimum.specs.UsedSlots.{farUp, value}
 use Rattle.optimum.specs.TwoSided.{radicesOf, countUnit, lengthUnit, instanceOf}
 use Rattle.optimum.specs.Budgets.{fullBudget}

@@ -1,39 +1,27 @@
--- The first that passes a test, by halving, where what passes passes on.
+-- Where what passes a test passes on, halving finds the first that passes.
 use mathlib.Core.Path.{_≡_, refl, sym, ap, _∙_}
-use mathlib.Core.Bool.{Bool, true, false, cond}
+use mathlib.Core.Bool.{Bool, true, false}
 use Prim.Native.Nat.{ℕ, zero, suc, _+_, _/_, _^_, _≤_, _<_}
 use native.Mathlib.Nat.{two-pow-succ}
 use native.Mathlib.Omega.{arith}
-use lib.Dec.{ltb}
 use borrow.Author.Tests.{lt-ltb, le-ltb}
 use Rattle.lists.proofs.Tests.{by-test, by-order, clash}
-use Rattle.search.specs.Cost.{first, first-le, first-is}
-
--- between lo and hi, in so many steps
-unfoldable pub halve : (ℕ → Bool) → (steps lo hi : ℕ) → ℕ
-halve t zero lo hi = lo
-halve t (suc f) lo hi = cond (ltb lo hi) (cond (t ((lo + hi) / 2)) (halve t f lo ((lo + hi) / 2)) (halve t f (suc ((lo + hi) / 2)) hi)) lo
-
--- the first is the one that passes and has none before it
-first-one : (n : ℕ) (t : ℕ → Bool) (k : ℕ) → k < n → t k ≡ true → ((j : ℕ) → j < k → t j ≡ false) → first n t ≡ k
-first-one n t k l e f =
-    let a = first-le n t k e in
-    by-order k (first n t)
-    (λ h. omega arith)
-    (λ h. clash (first-is n t (omega arith)) (f (first n t) h))
+use Rattle.search.specs.Cost.{first}
+use Rattle.optimum.specs.Halve.{halve}
+use Rattle.optimum.proofs.Loops.{first-at}
 
 module _ (n : ℕ) (t : ℕ → Bool) (on : (k l : ℕ) → t k ≡ true → k ≤ l → t l ≡ true) where
   pub halve-first : (f lo hi : ℕ) → lo ≤ hi → hi < lo + 2 ^ f → hi < n → t hi ≡ true → ((j : ℕ) → j < lo → t j ≡ false) → halve t f lo hi ≡ first n t
   unfolding halve
   halve-first zero lo hi a b c e z =
       let h : lo ≡ hi = one (2 ^ 0) refl b in
-      sym (first-one n t lo (omega arith) (ap t h ∙ e) z)
+      sym (first-at n t lo (omega arith) z (ap t h ∙ e))
     where
       one : (p : ℕ) → p ≡ 1 → hi < lo + p → lo ≡ hi
       one p q b = omega arith
   halve-first (suc f) lo hi a b c e z =
       by-order hi lo
-      (λ h. rw (le-ltb lo hi h) (let q : lo ≡ hi = omega arith in sym (first-one n t lo (omega arith) (ap t q ∙ e) z)))
+      (λ h. rw (le-ltb lo hi h) (let q : lo ≡ hi = omega arith in sym (first-at n t lo (omega arith) z (ap t q ∙ e))))
       (λ h. rw (lt-ltb lo hi h)
       (let d : hi < lo + (2 ^ f + 2 ^ f) = double b in
       by-test (t ((lo + hi) / 2))

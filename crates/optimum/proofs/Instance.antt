@@ -8,7 +8,8 @@ use lib.Dec.{eqb}
 use lib.ListN.{length, getD}
 use borrow.Author.Tests.{eqb-true, eqb-false, ne-eqb}
 use Rattle.lists.proofs.Tests.{by-test, by-either, clash, not-f}
-use Rattle.search.specs.Radix.{below, digit-le, sharing}
+use Rattle.search.specs.Radix.{below}
+use Rattle.search.proofs.Radix.{digit-le, sharing}
 use Rattle.search.proofs.Digits.{place-same, digit-wide}
 use Rattle.sheet.specs.Sheet.{Sheet, rising}
 use Rattle.sheet.proofs.Accepted.{Sound}

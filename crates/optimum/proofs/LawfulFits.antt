@@ -20,7 +20,9 @@ use Rattle.labelling.proofs.Members.{rise-at, all-at, used-at, noSite}
 use Rattle.labelling.proofs.Best.{Obeys}
 use Rattle.labelling.proofs.Rules.{Rules, Bounded, siteAt, obeys-rules}
 use Rattle.labelling.proofs.Counted.{slots-at}
-use Rattle.optimum.specs.Sums.{tally, tally-mono, sumTo, sum-head}
+use Rattle.search.specs.Sums.{tally, sumTo}
+use Rattle.search.proofs.Sums.{tally-mono}
+use Rattle.search.proofs.CappedSums.{sum-head}
 use Rattle.optimum.specs.UsedSlots.{Instance, farUp, value}
 use Rattle.optimum.specs.TwoSided.{radicesOf, countUnit, lengthUnit, instanceOf}
 use Rattle.optimum.specs.Budgets.{fullBudget}

@@ -8,11 +8,15 @@ use native.Mathlib.Omega.{arith}
 use lib.Dec.{ltb}
 use lib.ListN.{length, getD}
 use Rattle.lists.proofs.Tests.{by-test}
-use Rattle.search.specs.Cost.{plus, plus-mono, plus-below}
+use Rattle.search.specs.Cost.{plus}
+use Rattle.search.proofs.Cost.{plus-mono, plus-below}
 use Rattle.search.specs.Radix.{digitOf}
-use Rattle.search.specs.Walk.{best, costOf, walk, best-least, walk-cost}
+use Rattle.search.specs.Walk.{best, costOf, walk}
+use Rattle.search.proofs.Walk.{best-least, walk-cost}
 use Rattle.search.proofs.Digits.{Drawn}
-use Rattle.optimum.specs.Sums.{listing, listing-of, listing-cong, tally, sumTo, sum-cong, sum-mono, sum-below}
+use Rattle.search.specs.Sums.{listing, tally, sumTo}
+use Rattle.search.proofs.Sums.{listing-of, listing-cong}
+use Rattle.search.proofs.CappedSums.{sum-cong, sum-mono, sum-below}
 use Rattle.optimum.specs.UsedSlots.{Instance, over, labels, below, T, value}
 use Rattle.optimum.proofs.Chain.{is-label, fits, tie, sites, whole, chain-cost}
 use Rattle.optimum.proofs.Fits.{Fitting, fits-to}

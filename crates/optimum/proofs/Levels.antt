@@ -10,30 +10,26 @@ use lib.Dec.{eqb, ltb}
 use lib.ListN.{length, getD, set, replicate}
 use lib.Arith.{digits-div, digits-mod}
 use Rattle.lists.proofs.Tests.{by-test, by-order, by-equal, by-either}
-use Rattle.search.specs.Cost.{plus, least, least-cong, first-cong, top-plus}
-use Rattle.search.specs.Semi.{fold, fold-prod, one-prod}
-use Rattle.search.specs.Share.{conv, just, semiring}
-use Rattle.search.specs.Radix.{below, sharing}
-use Rattle.search.specs.Plan.{T, Rest, T-nil, T-in, T-out, Rest-one, Rest-two}
+use Rattle.search.specs.Cost.{plus, least}
+use Rattle.search.proofs.Cost.{least-cong, first-cong, top-plus}
+use Rattle.search.specs.Semi.{fold}
+use Rattle.search.proofs.Semi.{fold-prod, one-prod}
+use Rattle.search.specs.Share.{conv, just}
+use Rattle.search.proofs.Share.{semiring}
+use Rattle.search.specs.Radix.{below, maskOf, convMasked}
+use Rattle.search.proofs.Radix.{sharing, conv-masked}
+use Rattle.search.proofs.Sums.{listing-first}
+use Rattle.search.specs.Plan.{T, Rest}
+use Rattle.search.proofs.Plan.{T-nil, T-in, T-out, Rest-one, Rest-two}
 use Rattle.search.specs.Walk.{answerBy, walkBy, chooseBy}
 use Rattle.optimum.specs.Strips.{Point, Strip, Instance, inside, marked, opens, joinsUp, joinsDown, cost, draw, children, rulesOf, stripsFrom, strips, State, next, labels, value}
 use Rattle.optimum.specs.Reached.{In, steps, Asks}
-use Rattle.optimum.specs.Cells.{build, cells, cellOf, stripAt, shareAt, shareCells, stepCell, entryOf, level, joinCells, foldCells, startCells, valueCells}
+use Rattle.optimum.specs.Cells.{cells, cellOf, stripAt, shareAt, shareCells, stepCell, entryOf, level, joinCells, foldCells, startCells, valueCells}
 use Rattle.optimum.proofs.StripsHeld.{Rising, laws, set-other, set-same}
 use Rattle.optimum.proofs.Pairs.{zeros}
 
-pub build-at : (n : ℕ) (f : ℕ → ℕ) (i : ℕ) → i < n → getD (build n f) i 0 ≡ f i
-unfolding build
-build-at zero f i h = absurd (omega arith)
-build-at (suc n) f zero h = refl
-build-at (suc n) f (suc i) h = build-at n (λ k. f (suc k)) i (omega arith)
-
-pub build-long : (n : ℕ) (f : ℕ → ℕ) → length (build n f) ≡ n
-unfolding build
-build-long zero f = refl
-build-long (suc n) f = ap suc (build-long n (λ k. f (suc k)))
-
-pack-lt : (x y X B : ℕ) → x < X → y < B → x * B + y < X * B
+-- a place of a table of X rows of B
+pub pack-lt : (x y X B : ℕ) → x < X → y < B → x * B + y < X * B
 pack-lt x y X B h k =
     let e : X ≡ suc x + (X - suc x) = omega arith in
     omega (arith, ap (λ (z : ℕ). z * B) e)
@@ -88,6 +84,12 @@ module _ (P : Instance) (C R : ℕ) where
 
   abbrev pub Level : List ℕ → List Point → Type 0
   Level low ss = (p : Strip) (v : ℕ) → InRange p → v < R → getD low (cellOf P C R p v) 0 ≡ T (rulesOf P) ss p v
+
+  -- what two strips cost that share the budget u, by the mask of what may be taken from u: an end in itself, for code that goes by bits
+  pub share-masked : (low : List ℕ) (p q : Strip) (u : ℕ)
+      → shareCells P C R low p q u ≡ convMasked top (maskOf radices u) (λ w. getD low (cellOf P C R p w) 0) (λ w. getD low (cellOf P C R q w) 0) u
+  unfolding shareCells conv
+  share-masked low p q u = sym (conv-masked top radices (λ w. getD low (cellOf P C R p w) 0) (λ w. getD low (cellOf P C R q w) 0) u)
 
   module _ (rising : Rising P) where
     pub share-two : (low : List ℕ) (ss : List Point) (p q : Strip) (u : ℕ) → Row low ss p → Row low ss q → u < R
@@ -165,7 +167,7 @@ module _ (P : Instance) (C R : ℕ) where
     pub level-holds : (ss : List Point) → Coloured C ss → Level (level P C R ss) ss
     unfolding level Coloured
     level-holds [] h = level-nil
-    level-holds (s ∷ ss) h = level-cons (level P C R ss) (level P C R (s ∷ ss)) s ss (h .0) (level-holds ss (h .1)) (λ i l. build-at (cells P C R) (entryOf P C R (level P C R ss) s) i l)
+    level-holds (s ∷ ss) h = level-cons (level P C R ss) (level P C R (s ∷ ss)) s ss (h .0) (level-holds ss (h .1)) (listing-first (entryOf P C R (level P C R ss) s) (cells P C R))
 
     -- ---- the sharing over the open labels
 
@@ -176,7 +178,7 @@ module _ (P : Instance) (C R : ℕ) where
         → Holds (joinCells P C R low acc p) (conv top (below radices) f (T (rulesOf P) ss p))
     unfolding joinCells conv
     join-cells low ss acc f a p h v l =
-        build-at R _ v l
+        listing-first _ R v l
         ∙ least-cong top (suc v) _ _ (λ w lw. ap₂ (λ (x y : ℕ). cond (below radices w v) (plus top x y) top) (a w (omega arith)) (h (v - w) (omega arith)))
 
     pub fold-cells : (low : List ℕ) (ss : List Point) (L M : List ℕ) (r i a ca : ℕ) (acc : List ℕ) (f : ℕ → ℕ)
@@ -215,7 +217,7 @@ module _ (P : Instance) (C R : ℕ) where
         → getD (foldCells P C R low m 0 0 0 (x .0) (x .2) (startCells P C R)) (x .1) 0 ≡ value P x ss
     unfolding value startCells strips
     value-rows low ss x l rows =
-        fold-cells low ss (x .0) (x .2) m 0 0 0 _ (just top 0 0) rows (λ v lv. build-at R (just top 0 0) v lv) (x .1) l
+        fold-cells low ss (x .0) (x .2) m 0 0 0 _ (just top 0 0) rows (listing-first (just top 0 0) R) (x .1) l
         ∙ ap (λ (f : ℕ → ℕ). f (x .1)) (sym (rest-fold ss (stripsFrom P m 0 0 0 (x .0) (x .2))))
 
     pub value-cells : (ss : List Point) → Coloured C ss → (x : State P) → ((j : ℕ) → getD (x .0) j 0 < C + 1) → x .1 < R → ((j : ℕ) → getD (x .2) j 0 < kinds) → valueCells P C R x ss ≡ value P x ss

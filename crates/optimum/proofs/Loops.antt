@@ -3,12 +3,13 @@ use mathlib.Core.Path.{_≡_, refl, sym, ap, _∙_}
 use mathlib.Core.Logic.{_⊎_, inl, inr}
 use mathlib.Core.Bool.{Bool, true, false}
 use mathlib.Core.List.{List, [], _∷_}
-use Prim.Native.Nat.{ℕ, zero, suc, _+_, _≤_, _<_}
+use Prim.Native.Nat.{ℕ, zero, suc, _+_, _<_}
 use native.Mathlib.Omega.{arith}
 use lib.Dec.{eqb}
 use lib.ListN.{drop, getD}
-use borrow.Author.Tests.{eqb-true, eq-eqb, ne-eqb}
-use Rattle.search.specs.Cost.{plus, least, first, plus-below, least-is, first-le, first-is}
+use borrow.Author.Tests.{eqb-true, eq-eqb}
+use Rattle.search.specs.Cost.{plus, least, first}
+use Rattle.search.proofs.Cost.{plus-below, least-is, first-le, first-is}
 use Rattle.search.specs.Walk.{best, chooseBy}
 use Rattle.optimum.specs.Strips.{Point, Instance, State, price, next, labels, value}
 use Rattle.optimum.proofs.StripsHeld.{Rising, Fit, value-best, next-fit}
@@ -73,8 +74,3 @@ module _ (P : Instance) (C R : ℕ) where
         go : (least top m f ≡ top) ⊎ ((k : ℕ) × (k < m) × (f k ≡ least top m f)) → (first m t < m) × (price P x s (first m t) < top) × (value P (next P x s (first m t)) ss < top)
         go (inl e) = absurd (omega (arith, here))
         go (inr (k, lk, e)) = found k lk e
-
-  -- a slot whose step is not lawful is not taken: the loop need not look at its value
-  pub skip-step : (c z here : ℕ) → top ≤ c → here < top → eqb (plus top c z) here ≡ false
-  unfolding plus
-  skip-step c z here h l = ne-eqb _ _ (λ (e : plus top c z ≡ here). omega arith)

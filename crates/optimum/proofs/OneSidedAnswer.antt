@@ -8,14 +8,15 @@ use native.Mathlib.Omega.{arith}
 use native.Mathlib.Nat.{pow-suc, pow-zero}
 use lib.ListN.{length, getD, replicate, drop}
 use borrow.Author.Tests.{ltb-true, lt-ltb, le-ltb, eq-eqb}
-use Rattle.search.specs.Plan.{T, Rest, Rest-one}
+use Rattle.search.specs.Plan.{T, Rest}
+use Rattle.search.proofs.Plan.{Rest-one}
 use Rattle.search.specs.Walk.{answerBy, walkBy}
 use Rattle.sheet.specs.Sheet.{all, Sheet, sheetIn, productOf, workFor}
 use Rattle.sheet.proofs.Accepted.{Sound, sound, colourLow, sites-coloured}
-use Rattle.labelling.specs.Layout.{countOf, lengthOf, layoutWords, best, answer, answerBy as wordsBy, isUsed}
+use Rattle.labelling.specs.Layout.{countOf, lengthOf, layoutWords, best, isUsed}
 use Rattle.labelling.specs.Promise.{takesSheet}
 use Rattle.labelling.proofs.Members.{noSite, all-at, used-head, used-tail}
-use Rattle.labelling.proofs.Maker.{First, best-some-iff, best-none-iff, Result, made, unmade, cleared}
+use Rattle.labelling.proofs.Maker.{First, best-none-iff, Result, made, unmade, cleared}
 use Rattle.optimum.specs.Strips.{Strip, Instance, rulesOf, stripsFrom, strips, labels, value, walked}
 use Rattle.optimum.specs.CostWord.{layoutCost}
 use Rattle.optimum.specs.OneSided.{topWord, instanceOf, order, pointsAt, tiesOf, oneSided}
@@ -69,7 +70,7 @@ module _ (s : Sheet) (o : Sound s) (one : s .isTwoSided ≡ false) (low : all (c
   start-kept : Kept (instanceOf s) (length (s .colours)) (productOf (s .colours)) (good s o .rising) (turn-low s) (replicate (length (s .slots)) 0, fullBudget s, replicate (suc (length (s .slots))) 0)
   start-kept = (λ j. omega (arith, zeros (length (s .slots)) j), full-low s, λ j. omega (arith, zeros (suc (length (s .slots))) j))
 
-  -- THE BEST, by cells
+  -- THE BEST, by a table of words filled level by level: an end in itself
   pub one-sided-cells : best s ≡ oneSidedCells s
   unfolding oneSidedCells
   one-sided-cells =
@@ -128,12 +129,6 @@ module _ (s : Sheet) (o : Sound s) (one : s .isTwoSided ≡ false) (low : all (c
 
   pub walk-length : firstCell s < topWord → lengthIn s (firstCell s) ≡ lengthOf s (tiesWalked s)
   walk-length h = ap (lengthIn s) (cell-word h) ∙ layout-length s o (tiesWalked s)
-
-  pub walk-best : firstCell s < topWord → best s ≡ some (tiesWalked s)
-  walk-best h = best-some-iff s o (tiesWalked s) .1 (walk-first h)
-
-  pub walk-answer : firstCell s < topWord → answer s ≡ layoutWords (countIn s (firstCell s)) (lengthIn s (firstCell s)) (tiesWalked s)
-  walk-answer h = ap (wordsBy s) (walk-best h) ∙ ap₂ (λ (c l : ℕ). layoutWords c l (tiesWalked s)) (sym (walk-count h)) (sym (walk-length h))
 
   -- NONE: where it is the sentinel, there is none
   pub walk-none : topWord ≤ firstCell s → best s ≡ none

@@ -167,7 +167,7 @@ steps-long P [] L (k ∷ ks) h = absurd h
 steps-long P (s ∷ ss) L [] h = absurd h
 steps-long P (s ∷ ss) L (k ∷ ks) h = ap suc (steps-long P ss (set L k (suc (s .c))) ks (h .1))
 
-points-long : (s : Sheet) (is : List ℕ) → length (pointsAt s is) ≡ length is
+pub points-long : (s : Sheet) (is : List ℕ) → length (pointsAt s is) ≡ length is
 unfolding pointsAt
 points-long s [] = refl
 points-long s (i ∷ is) = ap suc (points-long s is)

@@ -1,9 +1,10 @@
--- THE OPTIMUM: for every accepted sheet the best layout of all is what the model finds. What stands behind it, one-sided:
+-- THE OPTIMUM, an end in itself: for every accepted sheet the best layout of all is what the model finds. What stands behind it,
+-- one-sided:
 --   0 rules are about pairs       labelling/proofs/Pairs rules-pairs, pairs-rules; by rank: RankedPairs pairs-rising, rising-pairs
 --   1 steps are rules             Pairs steps-e, steps-i; Steps run-e, run-i; Pays pays-e, pays-i; Counts; OneSidedBest obeys-steps, steps-obey
 --   2 neighbours are enough       Neighbours open-step, up-step, down-step and back step-open, step-join
---   3 strips are independent      search/specs/Plan strips-independent (Strips independent); StripsHeld value-best
---   4 the walk gives the first    search/specs/Walk answer-first, answer-none; StripsHeld walked-first, walked-none
+--   3 strips are independent      search/proofs/Plan strips-independent (Strips independent); StripsHeld value-best
+--   4 the walk gives the first    search/proofs/Walk answer-first, answer-none; StripsHeld walked-first, walked-none
 -- and two-sided: Least value-low, value-attained; LawfulFits lawful-low; FitsLawful lawful-attained; Caps keeps, exact, none-ahead.
 use mathlib.Core.Path.{_≡_, refl}
 use mathlib.Core.Bool.{Bool, true, false, cond}

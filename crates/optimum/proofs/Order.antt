@@ -9,7 +9,8 @@ use lib.Dec.{eqb, leb}
 use lib.ListN.{length, getD, set, length-set}
 use borrow.Author.Tests.{leb-true, ltb-true, le-leb, lt-leb, eqb-true, eqb-false, eq-eqb, ne-eqb}
 use Rattle.lists.proofs.Tests.{by-test, by-order, by-equal, by-either, clash, or-e, or-l, or-r, and-l, and-r, not-f, is-false, eqb-self}
-use Rattle.search.specs.Cost.{least, least-le, least-is, first-le, first-is}
+use Rattle.search.specs.Cost.{least}
+use Rattle.search.proofs.Cost.{least-le, least-is, first-le, first-is}
 use Rattle.search.specs.Sums.{sum}
 use Rattle.search.proofs.Sums.{sum-cong, sum-add, sum-zero, sum-point, sum-pos, sum-ones}
 use Rattle.sheet.specs.Sheet.{numberTop, Site, Sheet, rankOf, rankTop, hasRank, ranksDiffer}

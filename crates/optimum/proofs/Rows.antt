@@ -5,24 +5,19 @@ use mathlib.Core.List.{List}
 use Prim.Native.Nat.{ℕ, zero, suc, _+_, _*_, _-_, _≤_, _<_, min}
 use native.Mathlib.Nat.{mul-le-mul-right}
 use native.Mathlib.Omega.{arith}
-use lib.Dec.{leb, eqb}
+use lib.Dec.{eqb}
 use lib.Seq.{getD-set-same, getD-set-other}
 use lib.ListN.{length, getD, set}
-use borrow.Author.Tests.{le-leb, lt-leb, eq-eqb, ne-eqb}
-use Rattle.lists.proofs.Tests.{by-test, by-order, by-equal}
-use Rattle.search.specs.Cost.{plus, least, plus-zero, plus-top, top-plus, least-le-top, least-cong}
+use borrow.Author.Tests.{eq-eqb, ne-eqb}
+use Rattle.lists.proofs.Tests.{by-test, by-equal}
+use Rattle.search.specs.Cost.{plus, least}
+use Rattle.search.proofs.Cost.{plus-zero, plus-top, top-plus, least-le-top, least-cong}
 use Rattle.search.specs.Walk.{best}
-use Rattle.optimum.specs.Sums.{listing, sum-le}
-use Rattle.optimum.specs.UsedSlots.{Instance, put, farUp, may, draw, strip, price, next, final, labels, below, T, value}
+use Rattle.search.specs.Sums.{listing}
+use Rattle.search.proofs.CappedSums.{sum-le}
+use Rattle.optimum.specs.UsedSlots.{Instance, put, farUp, may, draw, strip, price, next, final, labels, below, T}
+use Rattle.optimum.specs.Rows.{link, acc, cell}
 pub use Rattle.search.proofs.Digits.{digit-flat}
-
--- a sum that saturates, without a number above top
-pub plus-code : (top a b : ℕ) → a ≤ top → plus top a b ≡ cond (leb (top - a) b) top (a + b)
-unfolding plus
-plus-code top a b h =
-    by-order (top - a) b
-    (λ l. rw (le-leb (top - a) b l) (omega arith))
-    (λ l. rw (lt-leb (top - a) b l) (omega arith))
 
 -- the least of several, its first taken apart
 least-head : (top n : ℕ) (f : ℕ → ℕ) → least top (suc n) f ≡ min (f 0) (least top n (λ k. f (suc k)))
@@ -31,7 +26,7 @@ least-head top zero f = omega arith
 least-head top (suc n) f = let ih = least-head top n f in omega arith
 
 module _ (G : Instance) (caps : ℕ → ℕ) where
-  open Instance G using (top, m, n, colours, each, budget)
+  open Instance G using (top, m, n, colours, each)
 
   pub strip-le : (a ca b cb : ℕ) → strip G caps a ca b cb ≤ top
   unfolding strip
@@ -47,19 +42,13 @@ module _ (G : Instance) (caps : ℕ → ℕ) where
   unfolding below best listing final
   below-end k a ca v = let h = strip-le a ca (suc m) 0 in omega arith
 
-  -- a label of colour d at slot k, the next below the label a, and all that follows it
-  unfoldable pub link : (a ca v k d : ℕ) → ℕ
-  link a ca v k d =
-      cond (farUp G a ca k (suc d) && may G (suc d) v)
-      (plus top (plus top each (strip G caps a ca (suc k) (suc d))) (T G caps (suc k) (suc d) (v - draw G (suc d)))) top
-
   T-row : (c k ca v : ℕ) → k + c ≡ m → below G caps k c k ca v ≡ T G caps k ca v
   unfolding T
   T-row c k ca v e = let q : m - k ≡ c = omega arith in rw q
 
   -- slot k and those after it
   pub below-step : (c k a ca v : ℕ) → k + suc c ≡ m →
-      below G caps k (suc c) a ca v ≡ min (below G caps (suc k) c a ca v) (least top colours (λ d. link a ca v k d))
+      below G caps k (suc c) a ca v ≡ min (below G caps (suc k) c a ca v) (least top colours (λ d. link G caps a ca v k d))
   unfolding below best listing
   below-step c k a ca v e =
       least-head top colours (λ d. plus top (price G caps (a, ca, v) k d) (best (labels G caps) (next G caps (a, ca, v) k d) (listing (λ j. j) (suc k) c))) ∙
@@ -72,7 +61,7 @@ module _ (G : Instance) (caps : ℕ → ℕ) where
       after d w = T-row c (suc k) (suc d) w (omega arith)
 
       each-link : (d : ℕ) →
-          plus top (price G caps (a, ca, v) k (suc d)) (best (labels G caps) (next G caps (a, ca, v) k (suc d)) (listing (λ j. j) (suc k) c)) ≡ link a ca v k d
+          plus top (price G caps (a, ca, v) k (suc d)) (best (labels G caps) (next G caps (a, ca, v) k (suc d)) (listing (λ j. j) (suc k) c)) ≡ link G caps a ca v k d
       each-link d =
           unfold price next link in by-test (farUp G a ca k (suc d) && may G (suc d) v)
           (λ h. rw h (ap (plus top (plus top each (strip G caps a ca (suc k) (suc d)))) (after d (v - draw G (suc d)))))
@@ -80,14 +69,14 @@ module _ (G : Instance) (caps : ℕ → ℕ) where
 
   -- THE ROW: T(a, ca, v) from the rows below it, in a loop that goes downwards over k or upwards
   pub below-is : (c k a ca v : ℕ) → k + c ≡ m →
-      below G caps k c a ca v ≡ min (strip G caps a ca (suc m) 0) (least top c (λ j. least top colours (λ d. link a ca v (k + j) d)))
+      below G caps k c a ca v ≡ min (strip G caps a ca (suc m) 0) (least top c (λ j. least top colours (λ d. link G caps a ca v (k + j) d)))
   below-is zero k a ca v e = below-end k a ca v ∙ (let h = strip-le a ca (suc m) 0 in unfold least in omega arith)
   below-is (suc c) k a ca v e =
-      below-step c k a ca v e ∙ ap (λ (z : ℕ). min z (least top colours (λ d. link a ca v k d))) (below-is c (suc k) a ca v (omega arith)) ∙
-      turn (strip G caps a ca (suc m) 0) (least top c (λ j. least top colours (λ d. link a ca v (suc k + j) d))) (least top colours (λ d. link a ca v k d)) ∙
+      below-step c k a ca v e ∙ ap (λ (z : ℕ). min z (least top colours (λ d. link G caps a ca v k d))) (below-is c (suc k) a ca v (omega arith)) ∙
+      turn (strip G caps a ca (suc m) 0) (least top c (λ j. least top colours (λ d. link G caps a ca v (suc k + j) d))) (least top colours (λ d. link G caps a ca v k d)) ∙
       ap (min (strip G caps a ca (suc m) 0))
-      (ap₂ min (ap (λ (z : ℕ). least top colours (λ d. link a ca v z d)) (plus-nought k)) (least-cong top c _ _ (λ j l. ap (λ (z : ℕ). least top colours (λ d. link a ca v z d)) (shift k j))) ∙
-      sym (least-head top c (λ j. least top colours (λ d. link a ca v (k + j) d))))
+      (ap₂ min (ap (λ (z : ℕ). least top colours (λ d. link G caps a ca v z d)) (plus-nought k)) (least-cong top c _ _ (λ j l. ap (λ (z : ℕ). least top colours (λ d. link G caps a ca v z d)) (shift k j))) ∙
+      sym (least-head top c (λ j. least top colours (λ d. link G caps a ca v (k + j) d))))
     where
       turn : (a b c : ℕ) → min (min a b) c ≡ min a (min c b)
       turn a b c = omega arith
@@ -99,78 +88,60 @@ module _ (G : Instance) (caps : ℕ → ℕ) where
       shift k j = omega arith
 
   pub T-is : (a ca v : ℕ) → a ≤ m →
-      T G caps a ca v ≡ min (strip G caps a ca (suc m) 0) (least top (m - a) (λ j. least top colours (λ d. link a ca v (a + j) d)))
+      T G caps a ca v ≡ min (strip G caps a ca (suc m) 0) (least top (m - a) (λ j. least top colours (λ d. link G caps a ca v (a + j) d)))
   unfolding T
   T-is a ca v h = below-is (m - a) a a ca v (omega arith)
 
   -- ---- A ROW IN A LOOP: over the slots a + j, and over the colours d at each; v is the innermost loop
 
-  -- what the cell holds when the slots before a + j are done, and there the colours before d
-  unfoldable pub acc : (a ca v j d : ℕ) → ℕ
-  acc a ca v j d =
-      min (min (strip G caps a ca (suc m) 0) (least top j (λ i. least top colours (λ e. link a ca v (a + i) e)))) (least top d (λ e. link a ca v (a + j) e))
-
-  pub acc-le : (a ca v j d : ℕ) → acc a ca v j d ≤ top
+  pub acc-le : (a ca v j d : ℕ) → acc G caps a ca v j d ≤ top
   unfolding acc
   acc-le a ca v j d = let h = strip-le a ca (suc m) 0 in omega arith
 
-  pub acc-start : (a ca v : ℕ) → acc a ca v 0 0 ≡ strip G caps a ca (suc m) 0
+  pub acc-start : (a ca v : ℕ) → acc G caps a ca v 0 0 ≡ strip G caps a ca (suc m) 0
   unfolding acc least
   acc-start a ca v = let h = strip-le a ca (suc m) 0 in omega arith
 
   -- one colour more
-  pub acc-link : (a ca v j d : ℕ) → acc a ca v j (suc d) ≡ min (acc a ca v j d) (link a ca v (a + j) d)
+  pub acc-link : (a ca v j d : ℕ) → acc G caps a ca v j (suc d) ≡ min (acc G caps a ca v j d) (link G caps a ca v (a + j) d)
   unfolding acc least
   acc-link a ca v j d = omega arith
 
   -- all colours done: the next slot
-  pub acc-next : (a ca v j : ℕ) → acc a ca v (suc j) 0 ≡ acc a ca v j colours
+  pub acc-next : (a ca v j : ℕ) → acc G caps a ca v (suc j) 0 ≡ acc G caps a ca v j colours
   unfolding acc least
   acc-next a ca v j = let h = strip-le a ca (suc m) 0 in omega arith
 
   -- what cannot be changes nothing: a slot too near, a colour used up, a strip with a site that has no tie
-  pub link-near : (a ca v k d : ℕ) → farUp G a ca k (suc d) ≡ false → link a ca v k d ≡ top
+  pub link-near : (a ca v k d : ℕ) → farUp G a ca k (suc d) ≡ false → link G caps a ca v k d ≡ top
   unfolding link
   link-near a ca v k d h = rw h
 
-  pub link-spent : (a ca v k d : ℕ) → may G (suc d) v ≡ false → link a ca v k d ≡ top
+  pub link-spent : (a ca v k d : ℕ) → may G (suc d) v ≡ false → link G caps a ca v k d ≡ top
   unfolding link
   link-spent a ca v k d h = by-test (farUp G a ca k (suc d)) (λ e. rw (e, h)) (λ e. rw e)
 
-  pub link-lost : (a ca v k d : ℕ) → strip G caps a ca (suc k) (suc d) ≡ top → link a ca v k d ≡ top
+  pub link-lost : (a ca v k d : ℕ) → strip G caps a ca (suc k) (suc d) ≡ top → link G caps a ca v k d ≡ top
   unfolding link
   link-lost a ca v k d h = by-test (farUp G a ca k (suc d) && may G (suc d) v) (λ e. rw (e, h) (rw (plus-top top each, top-plus top _))) (λ e. rw e)
 
   pub link-is : (a ca v k d : ℕ) → farUp G a ca k (suc d) ≡ true → may G (suc d) v ≡ true →
-      link a ca v k d ≡ plus top (plus top each (strip G caps a ca (suc k) (suc d))) (T G caps (suc k) (suc d) (v - draw G (suc d)))
+      link G caps a ca v k d ≡ plus top (plus top each (strip G caps a ca (suc k) (suc d))) (T G caps (suc k) (suc d) (v - draw G (suc d)))
   unfolding link
   link-is a ca v k d h l = rw (h, l)
 
-  pub acc-same : (a ca v j d : ℕ) → link a ca v (a + j) d ≡ top → acc a ca v j (suc d) ≡ acc a ca v j d
+  pub acc-same : (a ca v j d : ℕ) → link G caps a ca v (a + j) d ≡ top → acc G caps a ca v j (suc d) ≡ acc G caps a ca v j d
   acc-same a ca v j d h = acc-link a ca v j d ∙ (let l = acc-le a ca v j d in omega arith)
 
-  pub acc-skip : (a ca v j : ℕ) → ((d : ℕ) → farUp G a ca (a + j) (suc d) ≡ false) → acc a ca v (suc j) 0 ≡ acc a ca v j 0
-  acc-skip a ca v j h = acc-next a ca v j ∙ all colours
-    where
-      all : (d : ℕ) → acc a ca v j d ≡ acc a ca v j 0
-      all zero = refl
-      all (suc d) = acc-same a ca v j d (link-near a ca v (a + j) d (h d)) ∙ all d
-
   -- all slots done: the entry
-  pub acc-end : (a ca v : ℕ) → a ≤ m → acc a ca v (m - a) 0 ≡ T G caps a ca v
+  pub acc-end : (a ca v : ℕ) → a ≤ m → acc G caps a ca v (m - a) 0 ≡ T G caps a ca v
   unfolding acc least
   acc-end a ca v h =
       let l = strip-le a ca (suc m) 0 in
       let e = T-is a ca v h in
       omega arith
 
-  pub value-T : value G caps ≡ T G caps 0 0 budget
-  unfolding value
-  value-T = refl
-
--- THE TABLE'S CELLS, C + 1 codes and P budgets to a place
-abbrev pub cell : (C P a ca v : ℕ) → ℕ
-cell C P a ca v = (a * suc C + ca) * P + v
+-- ---- THE TABLE'S CELLS
 
 pub cell-low : (C P m a ca v : ℕ) → a ≤ suc m → ca ≤ C → v < P → cell C P a ca v < (m + 2) * (C + 1) * P
 cell-low C P m a ca v h k l =

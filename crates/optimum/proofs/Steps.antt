@@ -10,8 +10,10 @@ use lib.Dec.{eqb, ltb}
 use lib.ListN.{length, getD, set, length-set}
 use borrow.Author.Tests.{lt-ltb, eqb-true, eq-eqb, ne-eqb}
 use Rattle.lists.proofs.Tests.{by-test, by-equal, by-either, clash, or-e, is-false}
-use Rattle.search.specs.Cost.{plus, plus-below}
-use Rattle.search.specs.Radix.{below, sharing}
+use Rattle.search.specs.Cost.{plus}
+use Rattle.search.proofs.Cost.{plus-below}
+use Rattle.search.specs.Radix.{below}
+use Rattle.search.proofs.Radix.{sharing}
 use Rattle.search.specs.Walk.{costOf}
 use Rattle.optimum.specs.Strips.{Point, Strip, Instance, State, opens, clearFrom, joinsUp, joinsDown, cost, draw, hold, marked, price, next, labels}
 use Rattle.optimum.proofs.StripsHeld.{Lower, holds, up-not-held, down-e, price-joins, set-same, set-other}

@@ -12,11 +12,15 @@ use lib.Seq.{getD-set-same, getD-set-other}
 use lib.ListN.{length, getD, set, replicate, length-set, length-replicate}
 use borrow.Author.Tests.{ltb-true, ltb-false, le-leb, lt-leb, lt-ltb, le-ltb, eqb-true, eqb-false, eq-eqb, ne-eqb}
 use Rattle.lists.proofs.Tests.{by-test, by-order, by-equal, by-either, and-both, or-e, not-f}
-use Rattle.search.specs.Cost.{plus, least-cong}
+use Rattle.search.specs.Cost.{plus}
+use Rattle.search.proofs.Cost.{least-cong, plus-past}
 use Rattle.search.specs.Strips.{holders, oneIf, weigh, after}
-use Rattle.search.specs.Radix.{below, sharing}
-use Rattle.search.specs.Plan.{Filled, Laws, Run, process, price as stripPrice, next as stripNext, strips-independent}
-use Rattle.search.specs.Walk.{best, answer, answer-by, answer-first, answer-none, First, costOf, walk, walk-cost}
+use Rattle.search.specs.Radix.{below}
+use Rattle.search.proofs.Radix.{sharing}
+use Rattle.search.specs.Plan.{Filled, Laws, Run, process, price as stripPrice, next as stripNext}
+use Rattle.search.proofs.Plan.{strips-independent}
+use Rattle.search.specs.Walk.{best, answer, First, costOf, walk}
+use Rattle.search.proofs.Walk.{answer-by, answer-first, answer-none, walk-cost}
 use Rattle.optimum.specs.Strips.{Point, Strip, Instance, over, under, inside, opens, joinsUp, joinsDown, clearFrom, cost, draw, children, rulesOf, stripsFrom, strips, holdFrom, hold, marked, State, price, next, labels, value, walked}
 
 -- a list with one place changed
@@ -30,10 +34,6 @@ pub set-id : (L : List ℕ) (k c : ℕ) → getD L k 0 ≡ c → 0 < c → set L
 set-id [] k c e h = refl
 set-id (u ∷ L) zero c e h = ap (λ (z : ℕ). z ∷ L) (sym e)
 set-id (u ∷ L) (suc k) c e h = ap (λ (z : List ℕ). u ∷ z) (set-id L k c e h)
-
-past : (top a b : ℕ) → top ≤ a → plus top a b ≡ top
-unfolding plus
-past top a b h = omega arith
 
 module _ (P : Instance) where
   open Instance P using (m, top, height, turn, held, radices)
@@ -405,7 +405,7 @@ module _ (P : Instance) where
     best-read (s ∷ ss) x l =
         least-cong top m _ _ (λ k _.
         by-order top (price P x s k)
-        (λ h. past top (price P x s k) _ h ∙ sym (past top (stripPrice (rulesOf P) (read x) s k) _ (rw (← (price-read x s k)) h)))
+        (λ h. plus-past top (price P x s k) _ h ∙ sym (plus-past top (stripPrice (rulesOf P) (read x) s k) _ (rw (← (price-read x s k)) h)))
         (λ h. ap₂ (plus top) (price-read x s k) (best-read ss (next P x s k) (next-fit x s k l) ∙ ap (λ (z : List Strip × ℕ). best (process (rulesOf P)) z ss) (next-read x s k l h))))
 
     pub value-best : (x : State P) (ss : List Point) → Fit x → value P x ss ≡ best (labels P) x ss

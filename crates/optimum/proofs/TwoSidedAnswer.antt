@@ -19,13 +19,15 @@ use Rattle.labelling.proofs.Best.{Obeys}
 use Rattle.labelling.proofs.Rules.{siteAt}
 use Rattle.labelling.proofs.Earlier.{Earlier, Better, better-e, slot-at}
 use Rattle.labelling.proofs.Maker.{First, best-some-iff, best-none-iff}
-use Rattle.optimum.specs.Sums.{listing, listing-of, listing-same, listing-at, length-listing, tally-le}
+use Rattle.search.specs.Sums.{listing}
+use Rattle.search.proofs.Sums.{listing-of, listing-same, listing-at, length-listing, tally-le}
 use Rattle.optimum.specs.UsedSlots.{put, value, choose, capAll, ties, answer}
 use Rattle.optimum.specs.CostWord.{topWord, countIn, lengthIn, layoutCost}
 use Rattle.optimum.specs.TwoSided.{instanceOf, twoSided}
 use Rattle.optimum.proofs.CostWord.{better-costs, layout-count, layout-length}
 use Rattle.optimum.proofs.Caps.{Respects, allows-uncapped, keeps, exact, none-ahead, passes-on, passes-last, chosen}
-use Rattle.optimum.proofs.Halve.{halve, halve-first}
+use Rattle.optimum.specs.Halve.{halve}
+use Rattle.optimum.proofs.Halve.{halve-first}
 use Rattle.optimum.proofs.LawfulFits.{cost, cost-is, cost-top, lawful-low, low-slot}
 use Rattle.optimum.proofs.FitsLawful.{lawful-attained}
 

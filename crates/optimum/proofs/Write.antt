@@ -14,6 +14,7 @@ use Rattle.labelling.specs.Promise.{takesSheet}
 use Rattle.labelling.proofs.Maker.{Result, cleared}
 use Rattle.labelling.specs.Layout.{isUsed, tieWords, layoutWords}
 use Rattle.labelling.proofs.Members.{used-head, used-tail}
+use Rattle.labelling.proofs.Words.{length-tieWords}
 use Rattle.optimum.specs.OneSided.{headWord, tieWord, writeTies, topWord, order, scatter}
 use Rattle.optimum.proofs.StripsHeld.{set-same, set-other}
 use Rattle.optimum.proofs.OneSidedAnswer.{countIn, lengthIn, firstCell, slotsWalked, walk-long, call-made}
@@ -51,11 +52,6 @@ words-long : (ks : List ℕ) → length (words ks) ≡ length ks
 unfolding words
 words-long [] = refl
 words-long (k ∷ ks) = ap suc (words-long ks)
-
-tie-long : (ks : List ℕ) → length (tieWords ks) ≡ length ks
-unfolding tieWords
-tie-long [] = refl
-tie-long (k ∷ ks) = ap suc (tie-long ks)
 
 -- writing, by scattering the words over what follows the first
 write-scatter : (is ks : List ℕ) (w : ℕ) (l r : List ℕ) → ((i : ℕ) → isUsed i is ≡ true → i < length l) → writeTies (w ∷ l ++ r) is ks ≡ w ∷ scatter l is (words ks) ++ r
@@ -97,7 +93,7 @@ write-all s o ks lk c l (w ∷ out) h =
     body : scatter (take n out) (order s) (words ks) ≡ tieWords (putBack s ks)
     body =
         scatter-any (order s) (words ks) (take n out) (tieWords (replicate n 0)) (words-long ks ∙ lk ∙ sym (ordered s o .long))
-        (taken ∙ sym (tie-long (replicate n 0) ∙ length-replicate n 0))
+        (taken ∙ sym (length-tieWords (replicate n 0) ∙ length-replicate n 0))
         (λ i u f. clash (ordered s o .whole i (omega (arith, taken)) (omega arith)) f)
         ∙ scatter-words (order s) ks (replicate n 0)
 

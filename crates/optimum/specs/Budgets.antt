@@ -7,7 +7,7 @@ use lib.ListN.{getD}
 use Rattle.search.specs.Radix.{digitOf, place}
 use Rattle.sheet.specs.Sheet.{Colour, Sheet, productOf}
 
--- a colour's label bound; a colour that the sheet does not have counts as unbounded
+-- a colour's label bound; a colour that the sheet does not have counts as unbounded, so that it has no digit
 abbrev pub unboundedColour : Colour
 unboundedColour = record { bound = 255; sites = 0 }
 

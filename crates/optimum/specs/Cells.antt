@@ -8,16 +8,12 @@ use lib.Dec.{eqb}
 use lib.ListN.{length, getD, replicate}
 use Rattle.search.specs.Cost.{plus, least}
 use Rattle.search.specs.Radix.{below}
-use Rattle.search.specs.Share.{just}
+use Rattle.search.specs.Share.{conv, just}
+use Rattle.search.specs.Sums.{listing}
 use Rattle.search.specs.Walk.{answerBy}
 use Rattle.sheet.specs.Sheet.{Sheet, productOf}
 use Rattle.optimum.specs.Strips.{Point, Strip, Instance, inside, opens, joinsUp, joinsDown, State, labels}
 use Rattle.optimum.specs.OneSided.{instanceOf, order, pointsAt, tiesOf}
-
--- f 0, f 1, .. f (n - 1)
-unfoldable pub build : ℕ → (ℕ → ℕ) → List ℕ
-build zero f = []
-build (suc n) f = f 0 ∷ build n (λ k. f (suc k))
 
 -- C colours, and budgets below R
 module _ (P : Instance) (C R : ℕ) where
@@ -38,8 +34,7 @@ module _ (P : Instance) (C R : ℕ) where
 
   -- what two strips cost that share the budget u, by the level below
   unfoldable pub shareCells : (low : List ℕ) → Strip → Strip → ℕ → ℕ
-  shareCells low p q u =
-      least top (suc u) (λ w. cond (below radices w u) (plus top (getD low (cellOf p w) 0) (getD low (cellOf q (u - w)) 0)) top)
+  shareCells low p q u = conv top (below radices) (λ w. getD low (cellOf p w) 0) (λ w. getD low (cellOf q w) 0) u
 
   -- the cost of tying the site s to slot k in the strip p, and the rest, with the budget v
   unfoldable pub stepCell : (low : List ℕ) → Strip → Point → ℕ → ℕ → ℕ
@@ -57,11 +52,11 @@ module _ (P : Instance) (C R : ℕ) where
   -- the levels, the one for no sites first
   unfoldable pub level : List Point → List ℕ
   level [] = replicate cells 0
-  level (s ∷ ss) = build cells (entryOf (level ss) s)
+  level (s ∷ ss) = listing (entryOf (level ss) s) 0 cells
 
   -- one strip more takes its share, at each budget below R
   unfoldable pub joinCells : (low : List ℕ) → (acc : List ℕ) → Strip → List ℕ
-  joinCells low acc p = build R (λ v. least top (suc v) (λ w. cond (below radices w v) (plus top (getD acc w 0) (getD low (cellOf p (v - w)) 0)) top))
+  joinCells low acc p = listing (conv top (below radices) (λ w. getD acc w 0) (λ w. getD low (cellOf p w) 0)) 0 R
 
   -- all strips of the open labels L, from slot i on; r slots are left, and a is the last label passed
   unfoldable pub foldCells : (low : List ℕ) → ℕ → ℕ → ℕ → ℕ → (labels marks acc : List ℕ) → List ℕ
@@ -71,7 +66,7 @@ module _ (P : Instance) (C R : ℕ) where
       (foldCells low r (suc i) (suc i) (getD L i 0) L M (joinCells low acc (record { a = a; ca = ca; b = suc i; cb = getD L i 0; d = getD M a 0 })))
 
   unfoldable pub startCells : List ℕ
-  startCells = build R (just top 0 0)
+  startCells = listing (just top 0 0) 0 R
 
   -- the least cost of tying the sites ss from a state, by their level
   unfoldable pub valueCells : State P → List Point → ℕ

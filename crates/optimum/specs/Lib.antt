@@ -5,7 +5,8 @@ pub mod OneSided
 pub mod Cells
 pub mod Reached
 pub mod UsedSlots
+pub mod Rows
+pub mod Halve
 pub mod TwoSided
-pub mod Sums
 pub mod Examples
 pub mod Optimum

@@ -7,7 +7,7 @@ use lib.Dec.{ltb, leb, eqb}
 use Rattle.search.specs.Cost.{plus, first}
 use Rattle.search.specs.Walk.{Process, best}
 use Rattle.search.specs.Radix.{digitOf, place}
-use Rattle.optimum.specs.Sums.{listing, sumTo}
+use Rattle.search.specs.Sums.{listing, sumTo}
 
 -- what the table and the walk ask of a sheet
 pub record Instance : Type 0 where

@@ -9,14 +9,15 @@ use lib.ListN.{length, take, drop, length-append, length-drop}
 use lib.Seq.{take-at}
 use borrow.Author.Tests.{ltb-false, le-ltb, eqb-true, eq-eqb, ne-eqb}
 use Rattle.lists.proofs.Tests.{by-test, or-l}
-use Rattle.sheet.specs.Sheet.{all, kindOf, inOrder, sitesIn, sheetIn, productOf, rising, ranksDiffer, isHead, countsFit, insideBy, sheetFault, workFor}
+use Rattle.sheet.specs.Sheet.{kindOf, sitesIn, sheetIn, sheetFault, workFor}
 use Rattle.sheet.proofs.Accepted.{sound}
 use Rattle.labelling.specs.Layout.{best, statedCount, statedLength}
 use Rattle.labelling.specs.Entry.{isNone, makeFault, makeAnswer}
+use Rattle.labelling.proofs.Maker.{fault-seven}
 use Rattle.text.specs.Text.{decimal, written, pastOf}
 use Rattle.text.proofs.Decimal.{decimal-length}
 use Rattle.text.proofs.Written.{written-front}
-use Rattle.report.specs.Report.{wordsIn, isUnfit, refusedLine, siteLine, slotAt, siteLines, layoutText, sheetText, programSheetText, programText, longest, reportSize, reportArea}
+use Rattle.report.specs.Report.{wordsIn, isUnfit, refusedLine, slotAt, siteLines, layoutText, sheetText, programSheetText, programText, longest, reportSize, reportArea}
 use Rattle.report.proofs.Words.{words-fit}
 
 -- a refusal by its number
@@ -56,9 +57,6 @@ front l s h p q =
 few : (n : ℕ) → n < 10000000000 → length (decimal n) ≤ 10
 few n h = decimal-length 9 n h
 
-line-few : (i c k : ℕ) → i < 10000000000 → c < 10000000000 → k < 10000000000 → length (siteLine i c k) ≤ 50
-line-few i c k p q r = simp length-append (omega (arith, few i p, few c q, few k r))
-
 lines-few : (ls : List ℕ) (i c : ℕ) (ws : List ℕ) → i + length ws ≤ 1000 → c + length ws ≤ 1000 →
     length (siteLines ls i (sitesIn c ws)) ≤ 50 * length (sitesIn c ws)
 unfolding siteLines sitesIn
@@ -72,25 +70,10 @@ lines-few ls i c (w ∷ ws) p q =
     λ f. rw (e, f) (lines-few ls i c ws (omega arith) (omega arith))
 
 -- a refusal's number is small
-sheet-fault-few : (ws : List ℕ) → sheetFault ws ≤ 7
-sheet-fault-few ws =
-    chain (not (isHead ws)) (not (inOrder 0 (drop 1 ws))) (not (countsFit (sheetIn ws))) (not (rising (sheetIn ws .slots)))
-    (not (all (insideBy (sheetIn ws .width)) (sheetIn ws .sites))) (not (ranksDiffer (sheetIn ws .sites))) (ltb 64 (productOf (sheetIn ws .colours)))
-  where
-    chain : (a b c d e f g : Bool) → cond a 1 (cond b 2 (cond c 3 (cond d 4 (cond e 5 (cond f 6 (cond g 7 0)))))) ≤ 7
-    chain true b c d e f g = omega arith
-    chain false true c d e f g = omega arith
-    chain false false true d e f g = omega arith
-    chain false false false true e f g = omega arith
-    chain false false false false true f g = omega arith
-    chain false false false false false true g = omega arith
-    chain false false false false false false true = omega arith
-    chain false false false false false false false = omega arith
-
 fault-few : (ws k o : List ℕ) → makeFault ws k o ≤ 10
 fault-few ws k o =
     chain (sheetFault ws) (not (eqb (sheetFault ws) 0)) (ltb (length k) (workFor (sheetIn ws))) (ltb (length o) (length (sheetIn ws .sites) + 1))
-    (isNone (best (sheetIn ws))) (sheet-fault-few ws)
+    (isNone (best (sheetIn ws))) (fault-seven ws)
   where
     chain : (n : ℕ) (a b c d : Bool) → n ≤ 7 → cond a n (cond b 8 (cond c 9 (cond d 10 0))) ≤ 10
     chain n true b c d h = omega arith

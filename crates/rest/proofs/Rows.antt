@@ -1,20 +1,21 @@
 -- One step of the loops that share a budget. Assumes nothing.
-use mathlib.Core.Path.{_≡_, refl, sym, ap, ap₂, _∙_}
+use mathlib.Core.Path.{_≡_, refl, sym, ap, _∙_}
 use mathlib.Core.Bool.{Bool, true, false, cond}
-use mathlib.Core.List.{List, [], _∷_}
-use Prim.Native.Nat.{ℕ, zero, suc, _+_, _-_, _*_, _/_, _%_, _^_, _≤_, _<_, min}
-use native.Mathlib.Nat.{div-div-eq-div-mul, pow-suc, pow-zero, div-one}
+use mathlib.Core.List.{List}
+use Prim.Native.Nat.{ℕ, suc, _+_, _-_, _*_, _≤_, _<_}
 use native.Mathlib.Numerals.{add-one}
 use native.Mathlib.Omega.{arith}
 use lib.Dec.{eqb}
 use lib.ListN.{length, getD, set, length-set}
 use lib.Seq.{ext-getD, getD-set-same, getD-set-other}
-use Rattle.lists.proofs.Tests.{by-test, by-equal}
-use Rattle.search.specs.Cost.{plus, least, least-cong}
+use Rattle.lists.proofs.Tests.{by-equal}
+use Rattle.search.specs.Cost.{plus}
+use Rattle.search.proofs.Cost.{least-cong}
 use Rattle.optimum.specs.OneSided.{topWord}
-use Rattle.optimum.specs.Cells.{build}
-use Rattle.optimum.proofs.Levels.{build-at, build-long}
-use native.Mathlib.Nat.{mul-le-mul, mul-le-mul-right}
+use Rattle.search.specs.Sums.{listing}
+use Rattle.optimum.proofs.Levels.{pack-lt}
+use Rattle.search.proofs.Sums.{listing-first, length-listing}
+use native.Mathlib.Nat.{mul-le-mul}
 use Rattle.budgets.specs.Budgets.{Within, partAt, shareBy}
 use Rattle.rest.specs.Rest.{shareRow, rowOf, levelSize, StripIn, LevelIn, joinRow, foldRows}
 
@@ -52,18 +53,13 @@ joined-more parts counts old work row acc v u x j e i h =
 pub joined-all : (parts counts old work : List ℕ) (row : ℕ) (acc : List ℕ) → Joined parts counts old work row acc 0 → acc ≡ joinRow parts counts old work row
 unfolding joinRow
 joined-all parts counts old work row acc j =
-    ext-getD 0 acc _ (j .long ∙ sym (build-long (length old) _)) (λ i l. let b : i < length old = omega (arith, j .long) in j .done i (omega arith) b ∙ sym (build-at (length old) _ i b))
+    ext-getD 0 acc _ (j .long ∙ sym (length-listing _ 0 (length old))) (λ i l. let b : i < length old = omega (arith, j .long) in j .done i (omega arith) b ∙ sym (listing-first _ (length old) i b))
 
 -- ---- where a strip's entries lie
 
 pub join-long : (parts counts acc work : List ℕ) (row : ℕ) → length (joinRow parts counts acc work row) ≡ length acc
 unfolding joinRow
-join-long parts counts acc work row = build-long (length acc) _
-
-packed : (x y X B : ℕ) → x < X → y < B → x * B + y < X * B
-packed x y X B h k =
-    let e : X ≡ suc x + (X - suc x) = omega arith in
-    omega (arith, ap (λ (z : ℕ). z * B) e)
+join-long parts counts acc work row = length-listing _ 0 (length acc)
 
 pub record Row (m C R a ca b cb : ℕ) : Type 0 where
   pub first : a * (C + 1) ≤ 441
@@ -84,9 +80,9 @@ row m C R a ca b cb i =
     let f₃ = mul-le-mul {n₂ = 22499} {m₂ = 9} g₂ e₂ in
     let g₃ : ((a * (C + 1) + ca) * (m + 2) + b) * (C + 1) + cb ≤ 202499 = omega (arith, i .cbLow) in
     let f₄ = mul-le-mul {n₂ = 202499} {m₂ = 64} g₃ (i .fewBudgets) in
-    let h₁ = packed a ca (m + 2) (C + 1) (omega (arith, i .aLow)) (omega (arith, i .caLow)) in
-    let h₂ = packed _ b _ (m + 2) h₁ (omega (arith, i .bLow)) in
-    let h₃ = packed _ cb _ (C + 1) h₂ (omega (arith, i .cbLow)) in
+    let h₁ = pack-lt a ca (m + 2) (C + 1) (omega (arith, i .aLow)) (omega (arith, i .caLow)) in
+    let h₂ = pack-lt _ b _ (m + 2) h₁ (omega (arith, i .bLow)) in
+    let h₃ = pack-lt _ cb _ (C + 1) h₂ (omega (arith, i .cbLow)) in
     record { first = f₁; second = f₂; third = f₃; fourth = f₄; inside = whole _ _ R h₃ }
   where
     whole : (x X B : ℕ) → x < X → x * B + B ≤ X * B
@@ -180,6 +176,6 @@ filled-more f old acc i x j l e =
       done = λ k h. by-equal k i (λ q. rw q (getD-set-same acc i x 0 l ∙ e)) (λ q. getD-set-other acc i k x 0 q ∙ j .done k (omega arith));
     }
 
-pub filled-all : (f : ℕ → ℕ) (old acc : List ℕ) (i : ℕ) → Filled f old acc i → length acc ≤ i → acc ≡ build (length old) f
+pub filled-all : (f : ℕ → ℕ) (old acc : List ℕ) (i : ℕ) → Filled f old acc i → length acc ≤ i → acc ≡ listing f 0 (length old)
 filled-all f old acc i j l =
-    ext-getD 0 acc _ (j .long ∙ sym (build-long (length old) f)) (λ k h. j .done k (omega arith) ∙ sym (build-at (length old) f k (omega (arith, j .long))))
+    ext-getD 0 acc _ (j .long ∙ sym (length-listing f 0 (length old))) (λ k h. j .done k (omega arith) ∙ sym (listing-first f (length old) k (omega (arith, j .long))))

@@ -1,13 +1,13 @@
 -- REST, as code folds it: the strips of the open labels take their shares one after the other, by rising slot. The table's
 -- entries are words of the work area, and lists say which shares may be taken from each budget. Definitions.
-use mathlib.Core.Bool.{Bool, true, false, cond}
-use mathlib.Core.List.{List, [], _∷_}
+use mathlib.Core.Bool.{cond}
+use mathlib.Core.List.{List}
 use Prim.Native.Nat.{ℕ, zero, suc, _+_, _*_, _≤_, _<_}
 use lib.Dec.{eqb}
 use lib.ListN.{length, getD}
 use Rattle.search.specs.Share.{just}
+use Rattle.search.specs.Sums.{listing}
 use Rattle.optimum.specs.OneSided.{topWord}
-use Rattle.optimum.specs.Cells.{build}
 use Rattle.budgets.specs.Budgets.{Within, shareBy}
 
 -- where the entries of a strip begin in its level: m slots, C colours, R budgets
@@ -41,7 +41,7 @@ abbrev pub shareRow : (parts counts acc work : List ℕ) → (row v : ℕ) → �
 shareRow parts counts acc work row v = shareBy parts counts (λ w. getD acc w 0) (λ w. getD work (row + w) 0) v
 
 unfoldable pub joinRow : (parts counts acc work : List ℕ) → (row : ℕ) → List ℕ
-joinRow parts counts acc work row = build (length acc) (shareRow parts counts acc work row)
+joinRow parts counts acc work row = listing (shareRow parts counts acc work row) 0 (length acc)
 
 module _ (parts counts work : List ℕ) (base m C R : ℕ) where
   -- all strips of the open labels L, from slot i on; r slots are left, and a is the last label passed, of colour ca
@@ -53,4 +53,4 @@ module _ (parts counts work : List ℕ) (base m C R : ℕ) where
 
   -- REST at the budget v, of the level that begins at the word `base`
   unfoldable pub restRows : (labels : List ℕ) → (v : ℕ) → ℕ
-  restRows L v = getD (foldRows m 0 0 0 L (build R (just topWord 0 0))) v 0
+  restRows L v = getD (foldRows m 0 0 0 L (listing (just topWord 0 0) 0 R)) v 0

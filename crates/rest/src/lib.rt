@@ -6,7 +6,7 @@ ghost use lib.Dec.{eqb};
 ghost use lib.ListN.{length, getD};
 ghost use Rattle.search.specs.Share.{just};
 ghost use Rattle.optimum.specs.OneSided.{topWord};
-ghost use Rattle.optimum.specs.Cells.{build};
+ghost use Rattle.search.specs.Sums.{listing};
 ghost use Rattle.budgets.specs.Budgets.{Within};
 ghost use Rattle.rest.specs.Rest.{rowOf, levelSize, StripIn, LevelIn, joinRow, foldRows, restRows};
 use arrays::Measures;
@@ -106,7 +106,7 @@ fn fold_rows(
 
 // A row that takes nothing and costs nothing.
 fn start_row(acc: &mut [u32])
-    ensures { λ _. ⌜ now (acc .exit) ≡ build (length (now (acc .entry))) (just topWord 0 0) ⌝ }
+    ensures { λ _. ⌜ now (acc .exit) ≡ listing (just topWord 0 0) 0 (length (now (acc .entry))) ⌝ }
 {
     let mut i: usize = 0;
     while i < acc.len() {

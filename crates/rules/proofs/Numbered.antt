@@ -14,7 +14,7 @@ use Rattle.sheet.specs.Sheet.{all, kindOf, bits, inOrder, Site, Sheet, slotsIn,
 use Rattle.sheet.proofs.Accepted.{unrefused, Step, step}
 use Rattle.labelling.specs.Layout.{noSite, siteAt, Tied, tieAt, tied, heightOf, tiesIn, isLayout}
 use Rattle.labelling.specs.Counted.{allBefore, sumBefore}
-use Rattle.labelling.proofs.Counted.{all-is, tied-is}
+use Rattle.labelling.proofs.Counted.{all-is, tied-is, sum-front}
 use Rattle.labelling.proofs.Members.{all-at}
 use Rattle.labelling.proofs.Best.{below}
 use Rattle.labelling.proofs.Words.{formed, length-tiesIn, ties-low}
@@ -135,11 +135,6 @@ pub sum-same : (f g : ℕ → ℕ) (n : ℕ) → ((i : ℕ) → i < n → f i �
 unfolding sumBefore
 sum-same f g zero h = refl
 sum-same f g (suc n) h = ap₂ _+_ (sum-same f g n λ i l. h i (omega arith)) (h n (omega arith))
-
-sum-front : (f : ℕ → ℕ) (n : ℕ) → sumBefore f (suc n) ≡ f 0 + sumBefore (λ i. f (suc i)) n
-unfolding sumBefore
-sum-front f zero = omega arith
-sum-front f (suc n) = omega (arith, sum-front f n)
 
 sum-is : {A : Type 0} (f : A → ℕ) (d : A) (xs : List A) → sumOver f xs ≡ sumBefore (λ i. f (getD xs i d)) (length xs)
 unfolding sumOver

@@ -11,7 +11,8 @@ use lib.Arith.{digits-div, digits-mod}
 use lib.ListN.{length, getD}
 use borrow.Author.Tests.{le-leb}
 use Rattle.lists.proofs.Tests.{and-of}
-use Rattle.search.specs.Radix.{below, digitOf, place, digit-sub, sharing}
+use Rattle.search.specs.Radix.{below, digitOf, place}
+use Rattle.search.proofs.Radix.{digit-sub, sharing}
 
 -- every radix is 1 at least
 unfoldable pub Positive : List ℕ → Type 0

@@ -6,9 +6,12 @@ use Prim.Native.Nat.{ℕ, _-_, _≤_, _<_}
 use native.Mathlib.Nat.{le-refl}
 use native.Mathlib.Omega.{arith}
 use Rattle.lists.proofs.Tests.{by-test}
-use Rattle.search.specs.Cost.{plus, least, least-le-top, least-le, least-most, plus-le, plus-mono, plus-comm}
-use Rattle.search.specs.Share.{Sharing, conv, conv-le-top, conv-low, conv-most}
-use Rattle.search.specs.Plan.{Filled, Rules, Laws, T, Rest, T-nil, T-in, T-out, T-le-top, Rest-cons}
+use Rattle.search.specs.Cost.{plus, least}
+use Rattle.search.proofs.Cost.{least-le-top, least-le, least-most, plus-le, plus-mono, plus-comm}
+use Rattle.search.specs.Share.{Sharing, conv}
+use Rattle.search.proofs.Share.{conv-le-top, conv-low, conv-most}
+use Rattle.search.specs.Plan.{Filled, Rules, Laws, T, Rest}
+use Rattle.search.proofs.Plan.{T-nil, T-in, T-out, T-le-top, Rest-cons}
 
 -- costs that do not rise with the budget
 abbrev pub Falls : (below : ℕ → ℕ → Bool) → (ℕ → ℕ) → Type 0

@@ -1,3 +1,10 @@
+pub mod Cost
+pub mod Semi
+pub mod Share
+pub mod Strips
+pub mod Radix
+pub mod Walk
+pub mod Plan
 pub mod Falls
 pub mod Digits
 pub mod Sums

@@ -100,6 +100,15 @@ listing-at f k zero i h = absurd (omega arith)
 listing-at f k (suc c) zero h = ap f (omega arith)
 listing-at f k (suc c) (suc i) h = listing-at f (suc k) c i (omega arith) ∙ ap f (omega arith)
 
+pub listing-first : (f : ℕ → ℕ) (c i : ℕ) → i < c → getD (listing f 0 c) i 0 ≡ f i
+listing-first f c i h = listing-at f 0 c i h ∙ ap f (omega arith)
+
+pub listing-past : (f : ℕ → ℕ) (k c i : ℕ) → c ≤ i → getD (listing f k c) i 0 ≡ 0
+unfolding listing
+listing-past f k zero i h = refl
+listing-past f k (suc c) zero h = absurd (omega arith)
+listing-past f k (suc c) (suc i) h = listing-past f (suc k) c i (omega arith)
+
 pub length-listing : (f : ℕ → ℕ) (k c : ℕ) → length (listing f k c) ≡ c
 unfolding listing
 length-listing f k zero = refl

@@ -1,14 +1,14 @@
 -- The numbers of slots, colours and sites are the counts of the words' kinds. Assumes nothing.
-use mathlib.Core.Path.{_≡_, refl, sym, ap, _∙_}
-use mathlib.Core.Bool.{Bool, true, false, cond}
+use mathlib.Core.Path.{_≡_, refl}
+use mathlib.Core.Bool.{true, false}
 use mathlib.Core.List.{List, [], _∷_}
-use Prim.Native.Nat.{ℕ, zero, suc, _+_, _-_, _<_, _≤_}
+use Prim.Native.Nat.{ℕ, zero, suc, _≤_}
 use native.Mathlib.Omega.{arith}
 use lib.Dec.{eqb}
 use lib.ListN.{length, drop}
 use borrow.Author.Tests.{ne-eqb, eqb-true}
 use Rattle.lists.proofs.Tests.{by-test}
-use Rattle.sheet.specs.Sheet.{kindOf, bits, Site, slotsIn, coloursIn, siteIn, sitesIn, sitesRun}
+use Rattle.sheet.specs.Sheet.{kindOf, slotsIn, coloursIn, sitesIn, sitesRun}
 use Rattle.sheet.specs.Words.{countKind}
 
 pub slots-count : (ws : List ℕ) → length (slotsIn ws) ≡ countKind 2 ws

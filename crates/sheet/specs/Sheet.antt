@@ -1,10 +1,10 @@
 -- Sheets as words, and what the reader says of them: document 01, "The sheet" and "Reader".
 -- Assumes nothing: these are definitions, each for every list of words.
 use mathlib.Core.Bool.{Bool, true, false, _&&_, _||_, not, cond}
-use mathlib.Core.List.{List, [], _∷_, _++_}
-use Prim.Native.Nat.{ℕ, zero, suc, _+_, _*_, _-_, _/_, _%_, _^_}
+use mathlib.Core.List.{List, [], _∷_}
+use Prim.Native.Nat.{ℕ, suc, _+_, _*_, _-_, _/_, _%_, _^_}
 use lib.Dec.{ltb, leb, eqb}
-use lib.ListN.{length, getD, take, drop}
+use lib.ListN.{length, getD, drop}
 
 -- a test holds of all items of a list
 unfoldable pub all : {A : Type 0} → (A → Bool) → List A → Bool

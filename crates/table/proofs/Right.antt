@@ -9,7 +9,8 @@ use native.Mathlib.Numerals.{add-one}
 use lib.ListN.{length, getD, drop, drop-of-length-le, length-drop}
 use lib.Seq.{ext-getD}
 use Rattle.lists.proofs.Tests.{by-order}
-use Rattle.search.specs.Plan.{T, T-nil}
+use Rattle.search.specs.Plan.{T}
+use Rattle.search.proofs.Plan.{T-nil}
 use Rattle.optimum.specs.Strips.{Point, Strip, Instance, inside, opens, rulesOf}
 use Rattle.optimum.specs.Cells.{cells}
 use Rattle.optimum.specs.Reached.{noPoint, Asks, Reached, TableOf}

@@ -19,11 +19,11 @@ use Rattle.labelling.specs.Entry.{makeFault, makeWork, makeAnswer}
 use Rattle.labelling.specs.Promise.{takesSheet}
 use Rattle.labelling.proofs.Rules.{siteAt}
 use Rattle.labelling.proofs.Maker.{Result, cleared}
-use Rattle.optimum.specs.Sums.{listing}
+use Rattle.search.specs.Sums.{listing}
 use Rattle.optimum.specs.UsedSlots.{Instance, put, value, leftmost, choose, capAll, ties}
 use Rattle.optimum.specs.TwoSided.{radicesOf, instanceOf}
 use Rattle.optimum.specs.CostWord.{countIn, lengthIn}
-use Rattle.optimum.proofs.Halve.{halve}
+use Rattle.optimum.specs.Halve.{halve}
 use Rattle.optimum.proofs.TwoSidedAnswer.{choose-halved, step-keeps}
 use Rattle.optimum.proofs.TwoSidedCall.{leastOf, capsOf, two-sided-call, two-sided-none}
 use Rattle.arrays.specs.declared.Measures.{Measures}

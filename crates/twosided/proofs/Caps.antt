@@ -13,9 +13,10 @@ use borrow.Author.Tests.{lt-ltb, le-ltb}
 use Rattle.lists.proofs.Tests.{by-test, by-order, by-equal}
 use Rattle.lists.proofs.Front.{front, front-more, front-all}
 use Rattle.labelling.specs.Layout.{tieWords}
-use Rattle.optimum.specs.Sums.{listing, listing-at, length-listing}
+use Rattle.search.specs.Sums.{listing}
+use Rattle.search.proofs.Sums.{listing-at, length-listing}
 use Rattle.optimum.specs.UsedSlots.{Instance, put, value, leftmost}
-use Rattle.optimum.proofs.Halve.{halve}
+use Rattle.optimum.specs.Halve.{halve}
 use Rattle.optimum.proofs.Rows.{put-set}
 use Rattle.arrays.specs.declared.Measures.{Measures}
 use Rattle.usedslots.specs.Table.{instanceBy, tableBy, capsIn, Fits}

@@ -6,9 +6,9 @@ use lib.Dec.{ltb, leb, eqb}
 use mathlib.Core.Path.{_≡_}
 use lib.ListN.{length, getD, set, drop, replicate}
 use Rattle.labelling.specs.Layout.{tieWords, layoutWords}
-use Rattle.optimum.specs.Sums.{listing}
+use Rattle.search.specs.Sums.{listing}
 use Rattle.optimum.specs.UsedSlots.{Instance, put, value, leftmost, ties}
-use Rattle.optimum.proofs.Halve.{halve}
+use Rattle.optimum.specs.Halve.{halve}
 use Rattle.arrays.specs.declared.Measures.{Measures}
 use Rattle.usedslots.specs.Table.{none, tableBy, capsIn}
 use Rattle.twosided.specs.declared.Range.{Range}

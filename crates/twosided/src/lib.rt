@@ -9,7 +9,7 @@ ghost use Rattle.sheet.specs.Sheet.{sheetIn, productOf};
 ghost use Rattle.labelling.specs.Entry.{makeFault, makeWork, makeAnswer};
 ghost use Rattle.labelling.specs.Promise.{takesSheet};
 ghost use Rattle.optimum.specs.UsedSlots.{value};
-ghost use Rattle.optimum.proofs.Halve.{halve};
+ghost use Rattle.optimum.specs.Halve.{halve};
 ghost use Rattle.usedslots.specs.Table.{instanceBy, tableBy, capsIn, Fits, tableWords};
 ghost use Rattle.twosided.specs.Caps.{leftmostBy, keepsCost, halfOf, capHalved, countBy, lengthBy, wordsBy, Low, Laid};
 use arrays::Measures;

@@ -9,7 +9,8 @@ use lib.ListN.{length, getD, set, drop}
 use lib.Seq.{getD-set-same, getD-set-other, drop-set-lt}
 use Rattle.lists.proofs.Tests.{by-order, by-equal}
 use Rattle.optimum.specs.UsedSlots.{Instance, T}
-use Rattle.optimum.proofs.Rows.{cell, cell-apart}
+use Rattle.optimum.specs.Rows.{cell}
+use Rattle.optimum.proofs.Rows.{cell-apart}
 use Rattle.usedslots.specs.Table.{Stored, RightFrom, RowOf}
 
 -- ---- a row stored, number by number

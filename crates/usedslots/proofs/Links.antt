@@ -14,7 +14,8 @@ use Rattle.lists.proofs.Tests.{by-test, by-order, by-equal}
 use Rattle.search.specs.Cost.{plus}
 use Rattle.search.specs.Radix.{digitOf, place}
 use Rattle.optimum.specs.UsedSlots.{Instance, farUp, may, draw, strip, T}
-use Rattle.optimum.proofs.Rows.{link, link-near, link-spent, link-lost, link-is, acc, acc-le, acc-start, acc-link, acc-same, acc-end, cell, cell-low, digit-flat}
+use Rattle.optimum.specs.Rows.{link, acc, cell}
+use Rattle.optimum.proofs.Rows.{link-near, link-spent, link-lost, link-is, acc-le, acc-start, acc-link, acc-same, acc-end, cell-low, digit-flat}
 use Rattle.arrays.specs.declared.Measures.{Measures}
 use Rattle.usedslots.specs.Table.{none, labelCost, tableBy, capsIn, farAt, upperAt, lowerAt, stripOf, linked, Blocks, sizeOf, Fits, tableWords, RightFrom, RowTo, RowOf}
 use Rattle.usedslots.proofs.Strips.{strip-is}

@@ -9,7 +9,8 @@ use lib.Dec.{ltb, leb, eqb}
 use lib.ListN.{length, getD}
 use Rattle.lists.proofs.Tests.{by-test}
 use Rattle.search.specs.Cost.{plus}
-use Rattle.optimum.specs.Sums.{sumTo, sum-cong, sum-le, sum-top}
+use Rattle.search.specs.Sums.{sumTo}
+use Rattle.search.proofs.CappedSums.{sum-cong, sum-le, sum-top}
 use Rattle.optimum.specs.UsedSlots.{Instance, at, over, under, clearUp, clearDown, farUp, may, draw, allows, upCost, downCost, siteCost, inside, strip, price, next, final, below, T, value}
 use Rattle.arrays.specs.declared.Measures.{Measures}
 use Rattle.usedslots.specs.Table.{none, unitOf, labelCost, instanceBy, capsIn, farAt, upperAt, lowerAt, insideOf, upFits, downFits, siteOf, stripOf}

@@ -8,9 +8,9 @@ use lib.ListN.{length, getD, drop}
 use Rattle.labelling.specs.Layout.{apart}
 use Rattle.search.specs.Cost.{plus}
 use Rattle.search.specs.Radix.{place}
-use Rattle.optimum.specs.Sums.{sumTo}
+use Rattle.search.specs.Sums.{sumTo}
 use Rattle.optimum.specs.UsedSlots.{Instance, T}
-use Rattle.optimum.proofs.Rows.{cell, acc}
+use Rattle.optimum.specs.Rows.{cell, acc}
 use Rattle.arrays.specs.declared.Measures.{Measures}
 use Rattle.usedslots.specs.declared.Label.{Label}
 

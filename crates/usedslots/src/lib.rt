@@ -7,7 +7,7 @@ ghost use lib.ListN.{length, getD, drop};
 ghost use Rattle.labelling.specs.Layout.{apart};
 ghost use Rattle.search.specs.Cost.{plus};
 ghost use Rattle.optimum.specs.UsedSlots.{value};
-ghost use Rattle.optimum.proofs.Rows.{cell};
+ghost use Rattle.optimum.specs.Rows.{cell};
 ghost use Rattle.usedslots.specs.Table.{none, unitOf, labelCost, upperAt, lowerAt, farAt, insideOf, upFits, downFits, tieCost, siteOf, stripOf, relaxed, linked, Blocks, sizeOf, Fits, tableWords, tableBy, capsIn, RightFrom, RowTo, RowOf, Stored};
 use arrays::Measures;
 use words::NONE;

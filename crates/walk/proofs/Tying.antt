@@ -1,6 +1,6 @@
 -- One step of the walk: the slot that the loop finds is the walk's, and where the walk stands after it. Assumes nothing.
 use mathlib.Core.Path.{_≡_, refl, sym, ap, ap₂, _∙_, subst, subst⁻¹}
-use mathlib.Core.Bool.{Bool, true, false, cond}
+use mathlib.Core.Bool.{true}
 use mathlib.Core.List.{List, [], _∷_}
 use Prim.Native.Nat.{ℕ, zero, suc, _+_, _-_, _*_, _≤_, _<_}
 use native.Mathlib.Nat.{mul-le-mul, mul-le-mul-right}
@@ -11,16 +11,17 @@ use lib.ListN.{length, getD, set, drop, replicate, length-set, length-drop, drop
 use lib.Seq.{drop-cons, getD-set-same, getD-set-other}
 use borrow.Author.Tests.{eqb-true}
 use Rattle.lists.proofs.Tests.{by-equal}
-use Rattle.search.specs.Cost.{plus, first, first-is}
-use Rattle.search.specs.Walk.{Process, chooseBy, walkBy}
+use Rattle.search.specs.Cost.{plus, first}
+use Rattle.search.proofs.Cost.{first-is}
+use Rattle.search.specs.Walk.{chooseBy, walkBy}
 use Rattle.arrays.specs.declared.Measures.{Measures}
 use Rattle.arrays.specs.Arrays.{instanceBy, pointsBy}
-use Rattle.optimum.specs.Strips.{Point, Strip, Instance, State, hold, draw, price, next, labels}
-use Rattle.optimum.specs.OneSided.{topWord, tieWord, writeTies}
+use Rattle.optimum.specs.Strips.{Point, Strip, Instance, State, hold, price, next, labels}
+use Rattle.optimum.specs.OneSided.{topWord, writeTies}
 use Rattle.optimum.specs.Reached.{noPoint}
 use Rattle.rest.specs.Rest.{LevelIn, levelSize, restRows}
-use Rattle.walk.specs.Walk.{Found, valueIn, priceIn, labelled, budgetLeft, keepsCost, SheetArrays, SiteIn, WalkArrays, Standing, tiedFrom}
-use Rattle.rest.proofs.Rows.{size, Size}
+use Rattle.walk.specs.Walk.{Found, valueIn, priceIn, labelled, budgetLeft, keepsCost, WalkArrays, Standing, tiedFrom}
+use Rattle.rest.proofs.Rows.{size}
 use Rattle.walk.proofs.Value.{first-under, next-is}
 
 -- ---- the sites by their numbers

@@ -1,28 +1,31 @@
 -- REST over the words is the value of the state, where the rows of its strips hold the table; so the walk over the words is the
 -- walk by the table. Assumes nothing but that the heights rise, the parts counts are right, and the table is, wherever it is asked.
 use mathlib.Core.Path.{_≡_, refl, sym, ap, ap₂, _∙_, subst}
-use mathlib.Core.Bool.{Bool, true, false, cond}
+use mathlib.Core.Bool.{Bool, cond}
 use mathlib.Core.List.{List, [], _∷_}
-use Prim.Native.Nat.{ℕ, zero, suc, _+_, _-_, _*_, _/_, _%_, _≤_, _<_, min}
+use Prim.Native.Nat.{ℕ, zero, suc, _+_, _-_, _*_, _<_}
 use native.Mathlib.Omega.{arith}
 use lib.Dec.{eqb}
-use lib.ListN.{length, getD, set, drop, replicate, length-set, length-replicate, length-drop}
+use lib.ListN.{length, getD, set, drop, replicate, length-set, length-replicate}
 use lib.Seq.{getD-drop, drop-drop}
 use Rattle.lists.proofs.Tests.{by-test, by-order}
-use Rattle.search.specs.Cost.{plus, least, first, least-cong}
+use Rattle.search.specs.Cost.{plus, first}
+use Rattle.search.proofs.Cost.{least-cong, plus-past}
 use Rattle.search.specs.Radix.{below}
 use Rattle.search.specs.Share.{just, conv}
 use Rattle.search.specs.Plan.{T}
-use Rattle.search.specs.Walk.{Process, chooseBy, walkBy}
+use Rattle.search.specs.Walk.{chooseBy, walkBy}
 use Rattle.arrays.specs.declared.Measures.{Measures}
 use Rattle.arrays.specs.Arrays.{instanceBy}
-use Rattle.optimum.specs.Strips.{Point, Strip, Instance, rulesOf, hold, draw, stripsFrom, strips, marked, State, price, next, labels, value}
+use Rattle.optimum.specs.Strips.{Point, Strip, Instance, rulesOf, hold, draw, strips, marked, State, price, next, labels, value}
 use Rattle.optimum.specs.OneSided.{topWord}
-use Rattle.optimum.specs.Cells.{build, cells, cellOf, joinCells, foldCells, startCells}
+use Rattle.optimum.specs.Cells.{cells, cellOf, joinCells, foldCells, startCells}
 use Rattle.optimum.specs.Reached.{In, noPoint, Reached, TableOf}
-use Rattle.optimum.proofs.StripsHeld.{Rising, Fit, next-fit}
-use Rattle.optimum.proofs.Levels.{build-at, build-long, Row, value-rows}
-use Rattle.optimum.proofs.Loops.{walk-step, skip-step}
+use Rattle.optimum.proofs.StripsHeld.{Rising}
+use Rattle.optimum.proofs.Levels.{value-rows}
+use Rattle.search.specs.Sums.{listing}
+use Rattle.search.proofs.Sums.{listing-same, length-listing}
+use Rattle.optimum.proofs.Loops.{walk-step}
 use Rattle.optimum.proofs.Reached.{reached-next, reached-rows}
 use Rattle.optimum.proofs.Pairs.{zeros}
 use Rattle.budgets.specs.Budgets.{Splits}
@@ -31,19 +34,10 @@ use Rattle.rest.specs.Rest.{rowOf, levelSize, shareRow, joinRow, foldRows, rest
 use Rattle.walk.specs.Walk.{Found, valueIn}
 use Rattle.rest.proofs.Rows.{join-long}
 
-pub build-cong : (n : ℕ) (f g : ℕ → ℕ) → ((k : ℕ) → k < n → f k ≡ g k) → build n f ≡ build n g
-unfolding build
-build-cong zero f g h = refl
-build-cong (suc n) f g h = ap₂ (λ (x : ℕ) (l : List ℕ). x ∷ l) (h 0 (omega arith)) (build-cong n (λ k. f (suc k)) (λ k. g (suc k)) (λ k l. h (suc k) (omega arith)))
-
 pub first-under : (n : ℕ) (t u : ℕ → Bool) → ((k : ℕ) → k < n → t k ≡ u k) → first n t ≡ first n u
 unfolding first
 first-under zero t u h = refl
 first-under (suc n) t u h = ap₂ (λ (b : Bool) (z : ℕ). cond b 0 (suc z)) (h 0 (omega arith)) (first-under n (λ k. t (suc k)) (λ k. u (suc k)) (λ k l. h (suc k) (omega arith)))
-
-past : (a b : ℕ) → topWord ≤ a → plus topWord a b ≡ topWord
-unfolding plus
-past a b h = omega arith
 
 -- marks that are all 0 stay so
 pub set-zero : (n i : ℕ) → set {A = ℕ} (replicate n 0) i 0 ≡ replicate n 0
@@ -80,9 +74,9 @@ module _ (q : Measures) (hs bs rs ds : List ℕ) where
           → joinRow parts counts acc work (base + rowOf (length hs) C R a ca b cb) ≡ joinCells P C R (drop base work) acc (record { a = a; ca = ca; b = b; cb = cb; d = getD unmarked a 0 })
       unfolding joinRow joinCells conv
       join-same base acc a ca b cb h =
-          ap (λ (n : ℕ). build n (shareRow parts counts acc work (base + rowOf (length hs) C R a ca b cb))) h
-          ∙ build-cong R _ _ (λ v l.
-          share-by rs R parts counts right (λ w. getD acc w 0) (λ w. getD work (base + rowOf (length hs) C R a ca b cb + w) 0) v l
+          ap (listing (shareRow parts counts acc work (base + rowOf (length hs) C R a ca b cb)) 0) h
+          ∙ listing-same _ _ 0 R (λ v z l.
+          share-by rs R parts counts right (λ w. getD acc w 0) (λ w. getD work (base + rowOf (length hs) C R a ca b cb + w) 0) v (omega arith)
           ∙ least-cong topWord (suc v) _ _ (λ w k. ap (λ (z : ℕ). cond (below rs w v) (plus topWord (getD acc w 0) z) topWord) (word v w)))
         where
           word : (v w : ℕ) → getD work (base + rowOf (length hs) C R a ca b cb + (v - w)) 0
@@ -108,7 +102,7 @@ module _ (q : Measures) (hs bs rs ds : List ℕ) where
             → restRows parts counts work base (length hs) C R L v ≡ value P (L, v, unmarked) ss
         unfolding restRows
         rest-value base ss L v l rows =
-            ap (λ (z : List ℕ). getD z v 0) (fold-same base L (length hs) 0 0 0 (build R (just topWord 0 0)) (build-long R (just topWord 0 0)))
+            ap (λ (z : List ℕ). getD z v 0) (fold-same base L (length hs) 0 0 0 (listing (just topWord 0 0) 0 R) (length-listing (just topWord 0 0) 0 R))
             ∙ (unfold startCells in value-rows P C R rising (λ s k. omega arith) (drop base work) ss (L, v, unmarked) l (λ p i u lu. getD-drop base work (cellOf P C R p u) 0 ∙ rows p i u lu))
 
         -- THE WALK over the words is the walk by the table, and finds a slot at each step
@@ -151,7 +145,7 @@ module _ (q : Measures) (hs bs rs ds : List ℕ) where
               → plus topWord (price P (L, v, unmarked) s k) (inWords (next P (L, v, unmarked) s k) ss) ≡ plus topWord (price P (L, v, unmarked) s k) (value P (next P (L, v, unmarked) s k) ss)
           same-step j s ss L v k e n w lk =
               by-order topWord (price P (L, v, unmarked) s k)
-              (λ h. past (price P (L, v, unmarked) s k) _ h ∙ sym (past (price P (L, v, unmarked) s k) _ h))
+              (λ h. plus-past topWord (price P (L, v, unmarked) s k) _ h ∙ sym (plus-past topWord (price P (L, v, unmarked) s k) _ h))
               (λ h. ap (plus topWord (price P (L, v, unmarked) s k)) (rw (next-is L v s k) (met-value (suc j) ss _ _ (later j s ss e) (omega arith) (met-next j s ss L v k e w lk h))))
 
           same-choice : (j : ℕ) (s : Point) (ss : List Point) (L : List ℕ) (v : ℕ) → drop j points ≡ s ∷ ss → j + length (s ∷ ss) ≡ length points → Met j L v

@@ -8,7 +8,6 @@ ghost use lib.ListN.{length, getD};
 ghost use Rattle.search.specs.Cost.{plus, least, first};
 ghost use Rattle.search.specs.Share.{just};
 ghost use Rattle.optimum.specs.OneSided.{topWord};
-ghost use Rattle.optimum.specs.Cells.{build};
 ghost use Rattle.rest.specs.Rest.{LevelIn, restRows};
 ghost use lib.ListN.{replicate, set, drop};
 ghost use Rattle.optimum.specs.Strips as model;

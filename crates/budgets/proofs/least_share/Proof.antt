@@ -1,4 +1,5 @@
-use Rattle.search.specs.Cost.{plus, least, least-le-top}
+use Rattle.search.specs.Cost.{plus, least}
+use Rattle.search.proofs.Cost.{least-le-top}
 use Rattle.optimum.specs.OneSided.{topWord}
 use Rattle.budgets.specs.Budgets.{partAt}
 use Rattle.budgets.proofs.Lists.{least-more, least-none}

@@ -1,5 +1,6 @@
 use mathlib.Core.Bool.{true, false}
-use Rattle.search.specs.Radix.{below, sharing}
+use Rattle.search.specs.Radix.{below}
+use Rattle.search.proofs.Radix.{sharing}
 use mathlib.Core.Path.{_≡_, refl, ap, sym, _∙_}
 use mathlib.Core.List.{List, [], _∷_, _++_}
 use mathlib.Core.Logic.{⊎-elim}

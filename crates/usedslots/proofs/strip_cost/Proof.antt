@@ -1,8 +1,7 @@
 use mathlib.Core.Bool.{cond}
 use Prim.Native.Nat.{min}
 use Rattle.search.specs.Cost.{plus}
-use Rattle.optimum.specs.Sums.{sumTo}
-use Rattle.optimum.proofs.Rows.{plus-code}
+use Rattle.search.specs.Sums.{sumTo}
 use Rattle.usedslots.specs.Table.{none, siteOf, stripOf}
 use Rattle.usedslots.proofs.Strips.{sum-more, sum-ends}
 use mathlib.Core.Path.{_≡_, refl, ap, sym, _∙_}

@@ -1,0 +1,149 @@
+-- Laws of budgets in mixed radix: the digits' order is a way to share; a digit of what is left; the mask of what may be taken.
+use mathlib.Core.Path.{_≡_, refl, ap, _∙_}
+use mathlib.Core.Bool.{Bool, true, false, cond}
+use mathlib.Core.List.{List, [], _∷_}
+use Prim.Native.Nat.{ℕ, zero, suc, _+_, _-_, _*_, _/_, _%_, _^_, _≤_, _<_}
+use native.Mathlib.Nat.{div-add-mod', mul-le-mul-right, mod-lt, mod-zero, div-zero, zero-mod, zero-div, zero-lt-suc, div-div-eq-div-mul, div-one, pow-zero, pow-succ'}
+use native.Mathlib.Omega.{arith}
+use lib.Dec.{eqb, leb}
+use lib.Pow.{pow-mono}
+use lib.Arith.{digits-div, digits-mod}
+use borrow.Author.Tests.{leb-true, le-leb, eq-eqb, ne-eqb}
+use Rattle.lists.proofs.Tests.{and-both, and-of, is-false}
+use Rattle.search.specs.Cost.{plus}
+use Rattle.search.specs.Share.{Sharing, conv}
+use Rattle.search.specs.Radix.{below, digitOf, bitOf, maskBy, maskOf, convMasked}
+use Rattle.search.proofs.Cost.{least-cong}
+
+-- the digits, one by one
+digit : (r : ℕ) (rs : List ℕ) (w v : ℕ) → below (r ∷ rs) w v ≡ true → (w % r ≤ v % r) × (below rs (w / r) (v / r) ≡ true)
+unfolding below
+digit r rs w v h = let b = and-both (leb (w % r) (v % r)) (below rs (w / r) (v / r)) h in (leb-true _ _ (b .0), b .1)
+
+of-digit : (r : ℕ) (rs : List ℕ) (w v : ℕ) → w % r ≤ v % r → below rs (w / r) (v / r) ≡ true → below (r ∷ rs) w v ≡ true
+unfolding below
+of-digit r rs w v h k = and-of _ _ (le-leb _ _ h) k
+
+fits : (rs : List ℕ) (w v : ℕ) → below rs w v ≡ true → w ≤ v
+unfolding below
+fits [] w v h = leb-true w v h
+fits (r ∷ rs) w v h =
+    let d = digit r rs w v h in
+    omega (arith, div-add-mod' w r, div-add-mod' v r, mul-le-mul-right r (fits rs (w / r) (v / r) (d .1)))
+
+-- where the digits of w are at most v's, those of v - w are the differences
+minus : (r w v : ℕ) → w % r ≤ v % r → w / r ≤ v / r → ((v - w) % r ≡ v % r - w % r) × ((v - w) / r ≡ v / r - w / r)
+minus zero w v h k = (simp mod-zero, simp div-zero (omega arith))
+minus (suc r) w v h k =
+    let q = v / suc r - w / suc r in
+    let d = v % suc r - w % suc r in
+    let split : v - w ≡ q * suc r + d = apart (suc r) w v h k in
+    let small : d < suc r = omega (arith, mod-lt v (zero-lt-suc r)) in
+    (ap (λ (z : ℕ). z % suc r) split ∙ digits-mod q small, ap (λ (z : ℕ). z / suc r) split ∙ digits-div q small)
+  where
+    apart : (r w v : ℕ) → w % r ≤ v % r → w / r ≤ v / r → v - w ≡ (v / r - w / r) * r + (v % r - w % r)
+    apart r w v h k =
+        let q = v / r - w / r in
+        let e : v / r ≡ w / r + q = omega arith in
+        omega (arith, div-add-mod' w r, div-add-mod' v r, ap (λ (z : ℕ). z * r) e)
+
+nothing : (rs : List ℕ) (v : ℕ) → below rs 0 v ≡ true
+unfolding below
+nothing [] v = le-leb 0 v (omega arith)
+nothing (r ∷ rs) v = of-digit r rs 0 v (simp zero-mod (omega arith)) (simp zero-div (nothing rs (v / r)))
+
+other : (rs : List ℕ) (w v : ℕ) → below rs w v ≡ true → below rs (v - w) v ≡ true
+unfolding below
+other [] w v h = le-leb (v - w) v (omega arith)
+other (r ∷ rs) w v h =
+    let d = digit r rs w v h in
+    let m = minus r w v (d .0) (fits rs (w / r) (v / r) (d .1)) in
+    of-digit r rs (v - w) v (rw (m .0) (omega arith)) (rw (m .1) (other rs (w / r) (v / r) (d .1)))
+
+trans : (rs : List ℕ) (a w v : ℕ) → below rs a w ≡ true → below rs w v ≡ true → below rs a v ≡ true
+unfolding below
+trans [] a w v h k = le-leb a v (omega (arith, leb-true a w h, leb-true w v k))
+trans (r ∷ rs) a w v h k =
+    let d = digit r rs a w h in
+    let e = digit r rs w v k in
+    of-digit r rs a v (omega arith) (trans rs (a / r) (w / r) (v / r) (d .1) (e .1))
+
+less : (rs : List ℕ) (a w v : ℕ) → below rs a w ≡ true → below rs w v ≡ true → below rs (w - a) (v - a) ≡ true
+unfolding below
+less [] a w v h k = le-leb (w - a) (v - a) (omega (arith, leb-true a w h, leb-true w v k))
+less (r ∷ rs) a w v h k =
+    let d = digit r rs a w h in
+    let e = digit r rs w v k in
+    let f = digit r rs a v (trans (r ∷ rs) a w v h k) in
+    let m = minus r a w (d .0) (fits rs (a / r) (w / r) (d .1)) in
+    let n = minus r a v (f .0) (fits rs (a / r) (v / r) (f .1)) in
+    of-digit r rs (w - a) (v - a) (rw (m .0, n .0) (omega arith)) (rw (m .1, n .1) (less rs (a / r) (w / r) (v / r) (d .1) (e .1)))
+
+-- the digits' order is a way to share
+pub sharing : (rs : List ℕ) → Sharing (below rs)
+sharing rs = record {
+  fits = fits rs;
+  nothing = nothing rs;
+  other = other rs;
+  trans = trans rs;
+  less = less rs;
+}
+
+-- ---- one digit of a budget
+
+pub digit-le : (rs : List ℕ) (c w v : ℕ) → below rs w v ≡ true → digitOf rs c w ≤ digitOf rs c v
+unfolding digitOf
+digit-le [] c w v h = omega arith
+digit-le (r ∷ rs) zero w v h = digit r rs w v h .0
+digit-le (r ∷ rs) (suc c) w v h = digit-le rs c (w / r) (v / r) (digit r rs w v h .1)
+
+pub digit-sub : (rs : List ℕ) (c w v : ℕ) → below rs w v ≡ true → digitOf rs c (v - w) ≡ digitOf rs c v - digitOf rs c w
+unfolding digitOf
+digit-sub [] c w v h = refl
+digit-sub (r ∷ rs) zero w v h = let d = digit r rs w v h in minus r w v (d .0) (fits rs (w / r) (v / r) (d .1)) .0
+digit-sub (r ∷ rs) (suc c) w v h =
+    let d = digit r rs w v h in
+    let m = minus r w v (d .0) (fits rs (w / r) (v / r) (d .1)) in
+    rw (m .1) (digit-sub rs c (w / r) (v / r) (d .1))
+
+-- ---- the mask of a budget
+
+half : (m b : ℕ) → b < 2 → (m * 2 + b) / 2 ≡ m
+half m b h = omega arith
+
+low-bit : (m : ℕ) (t : Bool) → eqb ((m * 2 + cond t 1 0) % 2) 1 ≡ t
+low-bit m true = let e : (m * 2 + 1) % 2 ≡ 1 = omega arith in eq-eqb _ _ e
+low-bit m false = ne-eqb _ _ (λ (e : (m * 2 + 0) % 2 ≡ 1). omega arith)
+
+bit-small : (t : Bool) → cond t 1 0 < 2
+bit-small true = omega arith
+bit-small false = omega arith
+
+-- the bits are what the test says, where it says no from the last on
+bits-by : (t : ℕ → Bool) (n w : ℕ) → ((k : ℕ) → n ≤ k → t k ≡ false) → bitOf (maskBy t n) w ≡ t w
+unfolding maskBy
+bits-by t zero w h = rw (zero-div (2 ^ w), h w (omega arith))
+bits-by t (suc n) zero h = rw (pow-zero, div-one) (low-bit _ (t 0))
+bits-by t (suc n) (suc w) h =
+    rw (pow-succ', ← (div-div-eq-div-mul (maskBy (λ k. t (suc k)) n * 2 + cond (t 0) 1 0) 2 (2 ^ w)), half (maskBy (λ k. t (suc k)) n) _ (bit-small (t 0)))
+    (bits-by (λ k. t (suc k)) n w (λ k l. h (suc k) (omega arith)))
+
+mask-small : (t : ℕ → Bool) (n : ℕ) → maskBy t n < 2 ^ n
+unfolding maskBy
+mask-small t zero = rw pow-zero (omega arith)
+mask-small t (suc n) = rw pow-succ' (omega (arith, mask-small (λ k. t (suc k)) n, bit-small (t 0)))
+
+-- BIT W of the mask of v says that w may be taken from v
+pub mask-bit : (rs : List ℕ) (v w : ℕ) → bitOf (maskOf rs v) w ≡ below rs w v
+unfolding maskOf
+mask-bit rs v w = bits-by (λ k. below rs k v) (suc v) w (λ k l. is-false (below rs k v) (λ e. omega (arith, fits rs k v e)))
+
+-- the mask of a budget below 64 is a word of 64 bits: an end in itself, for code that holds it
+pub mask-word : (rs : List ℕ) (v : ℕ) → v < 64 → maskOf rs v < 18446744073709551616
+unfolding maskOf
+mask-word rs v h = let p : 2 ^ suc v ≤ 2 ^ 64 = pow-mono {i = suc v} {j = 64} (omega arith) in omega (arith, mask-small (λ k. below rs k v) (suc v))
+
+-- SHARING by the mask is sharing
+pub conv-masked : (top : ℕ) (rs : List ℕ) (f g : ℕ → ℕ) (v : ℕ) → convMasked top (maskOf rs v) f g v ≡ conv top (below rs) f g v
+unfolding convMasked conv
+conv-masked top rs f g v = least-cong top (suc v) _ _ (λ w l. ap (λ (b : Bool). cond b (plus top (f w) (g (v - w))) top) (mask-bit rs v w))
