@@ -1,4 +1,4 @@
--- The three demands, proved from the promises about the definitions. Assumes nothing.
+-- The three demands, ends in themselves, proved from the promises about the definitions. Assumes nothing.
 use mathlib.Core.Path.{_≡_, sym, ap, _∙_}
 use mathlib.Core.Logic.{_⊎_, inl, inr}
 use mathlib.Core.Bool.{Bool, true, false, cond}

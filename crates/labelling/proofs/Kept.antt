@@ -1,4 +1,4 @@
--- The promises kept: BestOfAll, OneAnswer, AreasKept, JudgedSo and Examples. Assumes nothing.
+-- The promises kept, ends in themselves: BestOfAll, OneAnswer, AreasKept, JudgedSo and Examples. Assumes nothing.
 pub use Rattle.labelling.proofs.Answer.{one-answer}
 pub use Rattle.labelling.proofs.Judge.{judged-so}
 pub use Rattle.labelling.proofs.Examples.{examples}

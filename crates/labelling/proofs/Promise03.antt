@@ -1,4 +1,4 @@
--- Document 03's four promises, in its own words and about its own definitions, follow from ours. Assumes nothing.
+-- Document 03's four promises, in its own words and about its own definitions, follow from ours: ends in themselves. Assumes nothing.
 use mathlib.Core.Path.{_≡_, refl, sym, _∙_, ap}
 use mathlib.Core.Bool.{Bool, true, false, _&&_, _||_}
 use mathlib.Core.List.{List, [], _∷_, _++_}
