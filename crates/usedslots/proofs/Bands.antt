@@ -1,16 +1,15 @@
 -- Sites that are known to lie in a strip, or outside it: what follows for its sum. Assumes nothing.
-use mathlib.Core.Path.{_≡_, refl, sym, ap, ap₂, _∙_}
+use mathlib.Core.Path.{_≡_, refl, sym, _∙_}
 use mathlib.Core.Logic.{_≢_}
-use mathlib.Core.Bool.{Bool, true, false, cond, _&&_, _||_}
-use mathlib.Core.List.{List, [], _∷_}
-use Prim.Native.Nat.{ℕ, zero, suc, _+_, _*_, _-_, _/_, _%_, _≤_, _<_, min}
+use mathlib.Core.Bool.{true, false}
+use mathlib.Core.List.{List}
+use Prim.Native.Nat.{ℕ, zero, suc, _+_, _*_, _-_, _/_, _%_, _≤_, _<_}
 use native.Mathlib.Omega.{arith}
-use native.Mathlib.Numerals.{add-one}
 use lib.Dec.{ltb, leb, eqb}
 use lib.ListN.{length, getD, set}
 use lib.Seq.{getD-set-same, getD-set-other}
 use borrow.Author.Tests.{le-leb, lt-leb, lt-ltb, le-ltb, ne-eqb}
-use Rattle.lists.proofs.Tests.{by-test, by-order, by-equal}
+use Rattle.lists.proofs.Tests.{by-test, by-equal}
 use Rattle.search.specs.Cost.{plus}
 use Rattle.optimum.specs.Sums.{sumTo, sum-le}
 use Rattle.arrays.specs.declared.Measures.{Measures}
@@ -118,7 +117,6 @@ pub lost-strip : (q : Measures) (hs ys cs caps : List ℕ) (a ca k cb : ℕ) →
 unfolding stripOf
 lost-strip q hs ys cs caps a ca k cb w =
     let b = w .between in
-    let f : ℕ → ℕ = λ i. siteOf q (upperAt hs a ca) (lowerAt hs k cb) (getD ys i 0) (getD cs i 0) (getD caps i 0) in
     let e : siteOf q (upperAt hs a ca) (lowerAt hs k cb) (getD ys (b .site) 0) (getD cs (b .site) 0) (getD caps (b .site) 0) ≡ none =
     site-lost q (upperAt hs a ca) (lowerAt hs k cb) (getD ys (b .site) 0) (getD cs (b .site) 0) (getD caps (b .site) 0) (inside-is hs ys cs a ca k cb (w .code) b)
     (λ z. w .not-upper (sym (b .coded) ∙ z ∙ upper-code hs a ca)) (λ z. w .not-lower (sym (b .coded) ∙ z)) in

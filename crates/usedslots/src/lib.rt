@@ -13,6 +13,7 @@ ghost use Rattle.optimum.proofs.Rows.{cell};
 ghost use Rattle.usedslots.specs.Table.{none, unitOf, labelCost, upperAt, lowerAt, farAt, insideOf, upFits, downFits, tieCost, siteOf, stripOf, relaxed, linked, Blocks, sizeOf, Fits, tableWords, tableBy, capsIn, RightFrom, RowTo, RowOf, Stored};
 ghost use Rattle.usedslots.specs.Bands.{Between, Codes, Barred, Starts, Ends, Among, Marks};
 use arrays::Measures;
+use drops::apart_of;
 use words::NONE;
 use words::at_most;
 use words::both;
@@ -32,17 +33,10 @@ pub struct Label {
     pub height: u32,
 }
 
-// ---- heights
+// No code: two sites of a strip have different ones, neither of them that of the label above.
+const ALL_LOST: u32 = 255;
 
-// A site's share of the length, by the height of its slot and its own.
-fn share_of(height: u32, y: u32) -> u32
-    ensures { λ r. ⌜ r ≡ apart height y ⌝ }
-{
-    if height < y {
-        return y - height;
-    }
-    height - y
-}
+// ---- heights
 
 // A label is clear of a site, the lower of the two far enough below the upper.
 fn is_clear(q: Measures, upper: u32, lower: u32) -> bool
@@ -87,7 +81,7 @@ fn tie_cost(q: Measures, fits: bool, height: u32, y: u32) -> u64
     if !fits {
         return NONE as u64;
     }
-    let share = share_of(height, y) as u64;
+    let share = apart_of(height, y) as u64;
     if q.shortest {
         return share * 64;
     }
@@ -294,7 +288,7 @@ fn end_above(heights: &[u32], ys: &[u32], k: u32) -> u32
     0
 }
 
-// A colour's code beside up to two others.
+// One more colour's code beside those that are kept, of two codes at most. A colour above 14 has no room.
 fn code_kept(codes: u32, colour: u32) -> u32
     ensures { λ r. ⌜ ((hs ys cs : List ℕ) (a k : ℕ) → Codes hs ys cs a k codes → Between hs ys cs a k (suc colour) → Codes hs ys cs a k r) ⌝ }
 {
@@ -314,7 +308,7 @@ fn code_kept(codes: u32, colour: u32) -> u32
     codes + 16 * code
 }
 
-// The same of a site that may lie between two heights.
+// The same where the site lies between two heights.
 fn codes_after(codes: u32, top: u32, bottom: u32, y: u32, colour: u32) -> u32
     ensures { λ r. ⌜ ((hs ys cs : List ℕ) (a k : ℕ) → Codes hs ys cs a k codes → (top ≤ y → y < bottom → Between hs ys cs a k (suc colour)) → Codes hs ys cs a k r) ⌝ }
 {
@@ -343,6 +337,7 @@ fn band_codes(heights: &[u32], ys: &[u32], colours: &[u32], k: u32) -> u32
     codes
 }
 
+// What is known of the band above each slot, and of the sites that are not below it.
 fn mark_slots(heights: &[u32], ys: &[u32], colours: &[u32], bands: &mut [u32], ends: &mut [u32])
     requires { ⌜ (length (now heights) ≤ 48) × (length (now ys) ≤ 32) × (length (now colours) ≡ length (now ys)) ⌝ }
     requires { ⌜ (length (now heights) ≤ length (now bands)) × (length (now heights) ≤ length (now ends)) ⌝ }
@@ -356,7 +351,7 @@ fn mark_slots(heights: &[u32], ys: &[u32], colours: &[u32], bands: &mut [u32], e
     }
 }
 
-// The one code that a lower label can have for all that was seen in a strip below a label of the code own, with a site of one more code in it: 0 any, 255 none.
+// The one code that the label below a strip can have, after a site of one more code in it: 0 any, ALL_LOST none. The label above has the code own.
 fn other_after(other: u32, own: u32, code: u32) -> u32
     ensures { λ r. ⌜ ((hs ys cs : List ℕ) (a k : ℕ) → Barred hs ys cs a own k other → (code ≢ 0 → Between hs ys cs a k code) → Barred hs ys cs a own k r) ⌝ }
 {
@@ -372,7 +367,7 @@ fn other_after(other: u32, own: u32, code: u32) -> u32
     if other == 0 {
         return code;
     }
-    255
+    ALL_LOST
 }
 
 // The same with up to two codes.
@@ -616,7 +611,7 @@ fn table_row(
     let mut j: u32 = 0;
     while a + j < m {
         other = other_in(other, code, get(bands, a + j));
-        if other == 255 {
+        if other == ALL_LOST {
             return;
         }
         slot_links(
