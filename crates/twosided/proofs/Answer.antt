@@ -18,6 +18,7 @@ use Rattle.labelling.specs.Layout.{tieWords, layoutWords, noColour, siteShare}
 use Rattle.labelling.specs.Entry.{makeFault, makeWork, makeAnswer}
 use Rattle.labelling.specs.Promise.{takesSheet}
 use Rattle.labelling.proofs.Rules.{siteAt}
+use Rattle.labelling.proofs.Members.{rise-at}
 use Rattle.labelling.proofs.Maker.{Result, cleared}
 use Rattle.search.specs.Sums.{listing}
 use Rattle.optimum.specs.UsedSlots.{Instance, put, value, leftmost, choose, capAll, ties}
@@ -200,6 +201,7 @@ module _ (s : Sheet) where
         let p = product-are (s .colours) in
         record {
           few-slots = o .few-slots;
+          rising = λ j k p q. rise-at (s .slots) (o .rise) j k p q;
           few-colours = o .few-colours;
           some-budget = omega (arith, product-positive bs);
           few-budgets = o .product;

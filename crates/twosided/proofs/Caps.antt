@@ -29,6 +29,7 @@ pub fits-set : (q : Measures) (hs bs rs ds ys cs caps new : List ℕ) → length
 fits-set q hs bs rs ds ys cs caps new e f =
     record {
       few-slots = f .few-slots;
+      rising = f .rising;
       few-colours = f .few-colours;
       some-budget = f .some-budget;
       few-budgets = f .few-budgets;

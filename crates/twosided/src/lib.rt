@@ -21,7 +21,7 @@ use arrays::measures_of;
 use arrays::radices_of;
 use arrays::xs_of;
 use arrays::ys_of;
-use usedslots::value_of;
+use byheight::value_of;
 use words::NONE;
 use words::at_most;
 use words::both;

@@ -1,5 +1,6 @@
 -- One link of a row: the label next below, of one colour at one slot. Assumes nothing.
 use mathlib.Core.Path.{_≡_, refl, sym, ap, ap₂, _∙_}
+use mathlib.Core.Logic.{_≢_}
 use mathlib.Core.Bool.{Bool, true, false, cond, _&&_, _||_}
 use mathlib.Core.List.{List, [], _∷_}
 use Prim.Native.Nat.{ℕ, zero, suc, _+_, _*_, _-_, _/_, _%_, _≤_, _<_, min}
@@ -9,16 +10,18 @@ use native.Mathlib.Numerals.{add-one}
 use lib.Dec.{ltb, leb, eqb}
 use lib.ListN.{length, getD, set}
 use lib.Arith.{mod-mul}
-use borrow.Author.Tests.{le-leb, lt-leb, lt-ltb, le-ltb}
+use borrow.Author.Tests.{le-leb, lt-leb, lt-ltb, le-ltb, eq-eqb, ne-eqb}
 use Rattle.lists.proofs.Tests.{by-test, by-order, by-equal}
 use Rattle.search.specs.Cost.{plus}
 use Rattle.search.specs.Radix.{digitOf, place}
 use Rattle.optimum.specs.UsedSlots.{Instance, farUp, may, draw, strip, T}
 use Rattle.optimum.specs.Rows.{link, acc, cell}
-use Rattle.optimum.proofs.Rows.{link-near, link-spent, link-lost, link-is, acc-le, acc-start, acc-link, acc-same, acc-end, cell-low, digit-flat}
+use Rattle.optimum.proofs.Rows.{link-near, link-spent, link-lost, link-is, acc-le, acc-start, acc-link, acc-next, acc-same, acc-end, cell-low, digit-flat}
 use Rattle.arrays.specs.declared.Measures.{Measures}
 use Rattle.usedslots.specs.Table.{none, labelCost, tableBy, capsIn, farAt, upperAt, lowerAt, stripOf, linked, Blocks, sizeOf, Fits, tableWords, RightFrom, RowTo, RowOf}
+use Rattle.usedslots.specs.Bands.{Lost, Barred}
 use Rattle.usedslots.proofs.Strips.{strip-is}
+use Rattle.usedslots.proofs.Bands.{lost-strip, lost-down}
 
 -- a product that is not 0
 pos-of : (a b : ℕ) → 0 < a * b → (0 < a) × (0 < b)
@@ -192,3 +195,56 @@ module _ (q : Measures) (hs bs rs ys cs caps : List ℕ) (a ca : ℕ) where
   row-whole row j u e h v l =
       let z : j ≡ length hs - a = omega arith in
       (rw z at (h v l)) ∙ acc-end (tableBy q hs bs rs ys cs) (capsIn caps) a ca v u
+
+-- ---- labels that are lost
+
+module _ (q : Measures) (hs bs rs ds ys cs caps : List ℕ) (f : Fits q hs bs rs ds ys cs caps) (a ca : ℕ) where
+  abbrev H : Instance
+  H = tableBy q hs bs rs ys cs
+
+  -- so many colours at a slot
+  pub colours-lost : (row : List ℕ) (j d n : ℕ) → d + n ≤ q .colours → ((e : ℕ) → d ≤ e → e < d + n → Lost hs ys cs a ca (a + j) (suc e)) →
+      RowTo H (capsIn caps) row (q .budgets) a ca j d → RowTo H (capsIn caps) row (q .budgets) a ca j (d + n)
+  colours-lost row j d zero h lost r = let e : d + 0 ≡ d = omega arith in rw e r
+  colours-lost row j d (suc n) h lost r =
+      let e : d + suc n ≡ suc (d + n) = omega arith in
+      rw e
+      (row-lost q hs bs rs ds ys cs caps f (d + n) (omega arith) a ca j row (lost-strip q hs ys cs caps a ca (a + j) (suc (d + n)) (lost (d + n) (omega arith) (omega arith)))
+      (colours-lost row j d n (omega arith) (λ z l u. lost z l (omega arith)) r))
+
+  -- the same up to a colour, and from one on
+  pub colours-to : (row : List ℕ) (j d : ℕ) → d ≤ q .colours → ((e : ℕ) → e < d → Lost hs ys cs a ca (a + j) (suc e)) →
+      RowTo H (capsIn caps) row (q .budgets) a ca j 0 → RowTo H (capsIn caps) row (q .budgets) a ca j d
+  colours-to row j d h lost r =
+      let e : 0 + d ≡ d = omega arith in
+      rw e at (colours-lost row j 0 d (omega arith) (λ z l u. lost z (omega arith)) r)
+
+  pub colours-from : (row : List ℕ) (j d : ℕ) → d ≤ q .colours → ((e : ℕ) → d ≤ e → e < q .colours → Lost hs ys cs a ca (a + j) (suc e)) →
+      RowTo H (capsIn caps) row (q .budgets) a ca j d → RowTo H (capsIn caps) row (q .budgets) a ca (suc j) 0
+  colours-from row j d h lost r v l =
+      let e : d + (q .colours - d) ≡ q .colours = omega arith in
+      (rw e at (colours-lost row j d (q .colours - d) (omega arith) (λ z p u. lost z p (omega arith)) r v l)) ∙ sym (acc-next H (capsIn caps) a ca v j)
+
+  -- all colours at so many slots
+  slots-lost : (row : List ℕ) (j n : ℕ) → a + j + n ≤ length hs → ((d : ℕ) → d < q .colours → Lost hs ys cs a ca (a + j) (suc d)) →
+      RowTo H (capsIn caps) row (q .budgets) a ca j 0 → RowTo H (capsIn caps) row (q .budgets) a ca (j + n) 0
+  slots-lost row j zero h lost r = let e : j + 0 ≡ j = omega arith in rw e r
+  slots-lost row j (suc n) h lost r =
+      let e : j + suc n ≡ suc (j + n) = omega arith in
+      rw e
+      (colours-from row (j + n) 0 (omega arith) (λ d l u. lost-down hs ys cs (f .rising) a ca (a + j) (a + (j + n)) (suc d) (omega arith) (omega arith) (lost d u))
+      (slots-lost row j n (omega arith) lost r))
+
+  pub row-ends : (row : List ℕ) (j other : ℕ) → a + j < length hs → other ≡ 255 → Barred hs ys cs a ca (a + j) other →
+      RowTo H (capsIn caps) row (q .budgets) a ca j 0 → RowOf H (capsIn caps) row (q .budgets) a ca
+  row-ends row j other h o b r =
+      row-whole q hs bs rs ys cs caps a ca row (j + (length hs - (a + j))) (omega arith) (omega arith)
+      (slots-lost row j (length hs - (a + j)) (omega arith) (λ d l. b d (λ z. omega arith) (λ z. omega (arith, f .few-colours))) r)
+
+-- the colours that are not lost where one code is left: those before `last` and not before `first`
+pub colours-last : (other colours last : ℕ) → last ≡ cond (eqb other 0) colours (min other colours) →
+    (last ≤ colours) × ((e : ℕ) → last ≤ e → e < colours → (other ≢ 0) × (other ≢ suc e))
+colours-last other colours last h =
+    by-equal other 0
+    (λ z. let p : last ≡ colours = h ∙ rw (eq-eqb other 0 z) in (omega arith, λ e l u. absurd (omega arith)))
+    (λ z. let p : last ≡ min other colours = h ∙ rw (ne-eqb other 0 z) in (omega arith, λ e l u. (z, λ w. omega arith)))

@@ -128,6 +128,7 @@ pub record Stored (old new row : List ℕ) (at count : ℕ) : Type 0 where
 -- what the arrays of a sheet have in common
 pub record Fits (q : Measures) (hs bs rs ds ys cs caps : List ℕ) : Type 0 where
   pub few-slots : length hs ≤ 48
+  pub rising : (j k : ℕ) → j < k → k < length hs → getD hs j 0 < getD hs k 0
   pub few-colours : q .colours ≤ 8
   pub some-budget : 0 < q .budgets
   pub few-budgets : q .budgets ≤ 64

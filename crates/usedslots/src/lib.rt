@@ -1,5 +1,7 @@
 // The two-sided table: the least cost of the labels below each place, by the place's label and the budget that is left.
 ghost use mathlib.Core.Path.{_≡_};
+ghost use mathlib.Core.Logic.{_≢_};
+ghost use mathlib.Core.List.{List};
 ghost use mathlib.Core.Bool.{cond, _&&_, _||_};
 ghost use Prim.Native.Nat.{ℕ, suc, _+_, _-_, _*_, _%_, _<_, _≤_, min};
 ghost use lib.Dec.{eqb, leb, ltb};
@@ -9,7 +11,9 @@ ghost use Rattle.search.specs.Cost.{plus};
 ghost use Rattle.optimum.specs.UsedSlots.{value};
 ghost use Rattle.optimum.specs.Rows.{cell};
 ghost use Rattle.usedslots.specs.Table.{none, unitOf, labelCost, upperAt, lowerAt, farAt, insideOf, upFits, downFits, tieCost, siteOf, stripOf, relaxed, linked, Blocks, sizeOf, Fits, tableWords, tableBy, capsIn, RightFrom, RowTo, RowOf, Stored};
+ghost use Rattle.usedslots.specs.Bands.{Between, Codes, Barred, Starts, Ends, Among, Marks};
 use arrays::Measures;
+use drops::apart_of;
 use words::NONE;
 use words::at_most;
 use words::both;
@@ -18,6 +22,7 @@ use words::either;
 use words::get;
 use words::less;
 use words::lesser;
+use words::monus;
 use words::same;
 
 // A label or an edge, as an end of a strip: its place (0 the top edge, k + 1 slot k, m + 1 the bottom edge), its code (0 none, c + 1 colour c), its height.
@@ -28,17 +33,10 @@ pub struct Label {
     pub height: u32,
 }
 
-// ---- heights
+// No code: two sites of a strip have different ones, neither of them that of the label above.
+const ALL_LOST: u32 = 255;
 
-// A site's share of the length, by the height of its slot and its own.
-fn share_of(height: u32, y: u32) -> u32
-    ensures { λ r. ⌜ r ≡ apart height y ⌝ }
-{
-    if height < y {
-        return y - height;
-    }
-    height - y
-}
+// ---- heights
 
 // A label is clear of a site, the lower of the two far enough below the upper.
 fn is_clear(q: Measures, upper: u32, lower: u32) -> bool
@@ -83,7 +81,7 @@ fn tie_cost(q: Measures, fits: bool, height: u32, y: u32) -> u64
     if !fits {
         return NONE as u64;
     }
-    let share = share_of(height, y) as u64;
+    let share = apart_of(height, y) as u64;
     if q.shortest {
         return share * 64;
     }
@@ -150,7 +148,7 @@ fn site_cost(q: Measures, above: Label, below: Label, y: u32, colour: u32, cap: 
 
 // ---- a strip
 
-// The sum of its sites' costs; it ends at a site that has neither neighbour.
+// The sum of its sites' costs, of those from start to end; it ends at a site that has neither neighbour.
 fn strip_cost(
     q: Measures,
     above: Label,
@@ -158,13 +156,16 @@ fn strip_cost(
     ys: &[u32],
     colours: &[u32],
     caps: &[u32],
+    start: u32,
+    end: u32,
 ) -> u32
-    requires { ⌜ (length (now colours) ≡ length (now ys)) × (length (now caps) ≡ length (now ys)) ⌝ }
+    requires { ⌜ (length (now colours) ≡ length (now ys)) × (length (now caps) ≡ length (now ys)) × Among above below (now ys) start end ⌝ }
     ensures { λ r. ⌜ r ≡ stripOf q above below (now (ys .entry)) (now (colours .entry)) (now (caps .entry)) ⌝ }
 {
+    let last = end as usize;
     let mut sum: u32 = 0;
-    let mut i: usize = 0;
-    while i < ys.len() {
+    let mut i = start as usize;
+    while i < last {
         let cost = site_cost(q, above, below, ys[i], colours[i], caps[i]);
         let room = (NONE - sum) as u64;
         if room <= cost {
@@ -221,8 +222,11 @@ fn strip_between(
     code: u32,
     k: u32,
     below: u32,
+    start: u32,
+    end: u32,
 ) -> u32
     requires { ⌜ (length (now colours) ≡ length (now ys)) × (length (now caps) ≡ length (now ys)) × (k < 4294967295) ⌝ }
+    requires { ⌜ Starts (now heights) (now ys) a start × Ends (now heights) (now ys) k end ⌝ }
     ensures { λ r. ⌜ r ≡ stripOf q (upperAt (now (heights .entry)) a code) (lowerAt (now (heights .entry)) k below) (now (ys .entry)) (now (colours .entry)) (now (caps .entry)) ⌝ }
 {
     strip_cost(
@@ -232,7 +236,145 @@ fn strip_between(
         ys,
         colours,
         caps,
+        start,
+        end,
     )
+}
+
+// ---- what is known of strips beforehand: where in the arrays their sites can stand, codes that some of them have
+
+// The height of a place, 0 at the top edge.
+fn top_of(heights: &[u32], a: u32) -> u32
+    ensures { λ r. ⌜ ((j : ℕ) → a ≡ suc j → r ≡ getD (now (heights .entry)) j 0) ⌝ }
+{
+    if a == 0 {
+        return 0;
+    }
+    get(heights, a - 1)
+}
+
+// The first site that does not lie above a place.
+fn first_below(heights: &[u32], ys: &[u32], a: u32) -> u32
+    requires { ⌜ length (now ys) ≤ 32 ⌝ }
+    ensures { λ r. ⌜ Starts (now (heights .entry)) (now (ys .entry)) a r ⌝ }
+{
+    if a == 0 {
+        return 0;
+    }
+    let top = get(heights, a - 1);
+    let mut i: usize = 0;
+    while i < ys.len() {
+        if top <= ys[i] {
+            return i as u32;
+        }
+        i += 1;
+    }
+    i as u32
+}
+
+// The end of the sites that lie above a slot.
+fn end_above(heights: &[u32], ys: &[u32], k: u32) -> u32
+    requires { ⌜ (length (now ys) ≤ 32) × (k < length (now heights)) ⌝ }
+    ensures { λ r. ⌜ Ends (now (heights .entry)) (now (ys .entry)) k r ⌝ }
+{
+    let bottom = get(heights, k);
+    let mut n = ys.len();
+    while n > 0 {
+        if ys[n - 1] < bottom {
+            return n as u32;
+        }
+        n -= 1;
+    }
+    0
+}
+
+// One more colour's code beside those that are kept, of two codes at most. A colour above 14 has no room.
+fn code_kept(codes: u32, colour: u32) -> u32
+    ensures { λ r. ⌜ ((hs ys cs : List ℕ) (a k : ℕ) → Codes hs ys cs a k codes → Between hs ys cs a k (suc colour) → Codes hs ys cs a k r) ⌝ }
+{
+    if colour > 14 {
+        return codes;
+    }
+    let code = colour + 1;
+    if codes == 0 {
+        return code;
+    }
+    if codes == code {
+        return codes;
+    }
+    if codes > 15 {
+        return codes;
+    }
+    codes + 16 * code
+}
+
+// The same where the site lies between two heights.
+fn codes_after(codes: u32, top: u32, bottom: u32, y: u32, colour: u32) -> u32
+    ensures { λ r. ⌜ ((hs ys cs : List ℕ) (a k : ℕ) → Codes hs ys cs a k codes → (top ≤ y → y < bottom → Between hs ys cs a k (suc colour)) → Codes hs ys cs a k r) ⌝ }
+{
+    if y < top {
+        return codes;
+    }
+    if bottom <= y {
+        return codes;
+    }
+    code_kept(codes, colour)
+}
+
+// Codes of sites in the band between slot k and the place next above.
+fn band_codes(heights: &[u32], ys: &[u32], colours: &[u32], k: u32) -> u32
+    requires { ⌜ length (now colours) ≡ length (now ys) ⌝ }
+    ensures { λ r. ⌜ Codes (now (heights .entry)) (now (ys .entry)) (now (colours .entry)) k k r ⌝ }
+{
+    let top = top_of(heights, k);
+    let bottom = get(heights, k);
+    let mut codes: u32 = 0;
+    let mut i: usize = 0;
+    while i < ys.len() {
+        codes = codes_after(codes, top, bottom, ys[i], colours[i]);
+        i += 1;
+    }
+    codes
+}
+
+// What is known of the band above each slot, and of the sites that are not below it.
+fn mark_slots(heights: &[u32], ys: &[u32], colours: &[u32], bands: &mut [u32], ends: &mut [u32])
+    requires { ⌜ (length (now heights) ≤ 48) × (length (now ys) ≤ 32) × (length (now colours) ≡ length (now ys)) ⌝ }
+    requires { ⌜ (length (now heights) ≤ length (now bands)) × (length (now heights) ≤ length (now ends)) ⌝ }
+    ensures { λ _. ⌜ Marks (now (heights .entry)) (now (ys .entry)) (now (colours .entry)) (now (bands .exit)) (now (ends .exit)) (length (now (heights .entry))) ⌝ }
+{
+    let mut k: usize = 0;
+    while k < heights.len() {
+        bands[k] = band_codes(heights, ys, colours, k as u32);
+        ends[k] = end_above(heights, ys, k as u32);
+        k += 1;
+    }
+}
+
+// The one code that the label below a strip can have, after a site of one more code in it: 0 any, ALL_LOST none. The label above has the code own.
+fn other_after(other: u32, own: u32, code: u32) -> u32
+    ensures { λ r. ⌜ ((hs ys cs : List ℕ) (a k : ℕ) → Barred hs ys cs a own k other → (code ≢ 0 → Between hs ys cs a k code) → Barred hs ys cs a own k r) ⌝ }
+{
+    if code == 0 {
+        return other;
+    }
+    if code == own {
+        return other;
+    }
+    if code == other {
+        return other;
+    }
+    if other == 0 {
+        return code;
+    }
+    ALL_LOST
+}
+
+// The same with up to two codes.
+fn other_in(other: u32, own: u32, codes: u32) -> u32
+    ensures { λ r. ⌜ ((hs ys cs : List ℕ) (a k : ℕ) → Barred hs ys cs a own k other → Codes hs ys cs a k codes → Barred hs ys cs a own k r) ⌝ }
+{
+    other_after(other_after(other, own, codes % 16), own, codes / 16)
 }
 
 // ---- a row of budgets
@@ -333,9 +475,11 @@ fn colour_link(
     code: u32,
     j: u32,
     d: u32,
+    start: u32,
+    end: u32,
 )
     requires { ⌜ Fits q (now heights) (now bounds) (now radices) (now draws) (now ys) (now colours) (now caps) ⌝ }
-    requires { ⌜ (a + j < length (now heights)) × (d < q .colours) × (q .budgets ≤ length (now row)) × (tableWords q (now heights) ≤ length (now work)) ⌝ }
+    requires { ⌜ (a + j < length (now heights)) × (d < q .colours) × (q .budgets ≤ length (now row)) × (tableWords q (now heights) ≤ length (now work)) × Starts (now heights) (now ys) a start × Ends (now heights) (now ys) (a + j) end ⌝ }
     requires { ⌜ RightFrom (tableBy q (now heights) (now bounds) (now radices) (now ys) (now colours)) (capsIn (now caps)) (now work) (q .budgets) (suc a) ⌝ }
     requires { ⌜ RowTo (tableBy q (now heights) (now bounds) (now radices) (now ys) (now colours)) (capsIn (now caps)) (now row) (q .budgets) a code j d ⌝ }
     ensures { λ _. ⌜ RowTo (tableBy q (now (heights .entry)) (now (bounds .entry)) (now (radices .entry)) (now (ys .entry)) (now (colours .entry))) (capsIn (now (caps .entry))) (now (row .exit)) (q .budgets) a code j (suc d) ⌝ }
@@ -344,7 +488,7 @@ fn colour_link(
     if !is_far(q, heights, a, code, k, d + 1) {
         return;
     }
-    let strip = strip_between(q, heights, ys, colours, caps, a, code, k, d + 1);
+    let strip = strip_between(q, heights, ys, colours, caps, a, code, k, d + 1, start, end);
     if strip == NONE {
         return;
     }
@@ -362,6 +506,19 @@ fn colour_link(
     );
 }
 
+// The first colour that is not lost, and the end of those that are not.
+fn first_colour(other: u32, colours: u32) -> u32
+    ensures { λ r. ⌜ r ≡ min (other - 1) colours ⌝ }
+{
+    lesser(monus(other, 1), colours)
+}
+
+fn end_colour(other: u32, colours: u32) -> u32
+    ensures { λ r. ⌜ r ≡ cond (eqb other 0) colours (min other colours) ⌝ }
+{
+    choose(same(other, 0), colours, lesser(other, colours))
+}
+
 // Labels of all colours at slot a + j.
 fn slot_links(
     q: Measures,
@@ -377,15 +534,19 @@ fn slot_links(
     a: u32,
     code: u32,
     j: u32,
+    start: u32,
+    end: u32,
+    other: u32,
 )
     requires { ⌜ Fits q (now heights) (now bounds) (now radices) (now draws) (now ys) (now colours) (now caps) ⌝ }
-    requires { ⌜ (a + j < length (now heights)) × (q .budgets ≤ length (now row)) × (tableWords q (now heights) ≤ length (now work)) ⌝ }
+    requires { ⌜ (a + j < length (now heights)) × (q .budgets ≤ length (now row)) × (tableWords q (now heights) ≤ length (now work)) × Starts (now heights) (now ys) a start × Ends (now heights) (now ys) (a + j) end × Barred (now heights) (now ys) (now colours) a code (a + j) other ⌝ }
     requires { ⌜ RightFrom (tableBy q (now heights) (now bounds) (now radices) (now ys) (now colours)) (capsIn (now caps)) (now work) (q .budgets) (suc a) ⌝ }
     requires { ⌜ RowTo (tableBy q (now heights) (now bounds) (now radices) (now ys) (now colours)) (capsIn (now caps)) (now row) (q .budgets) a code j 0 ⌝ }
     ensures { λ _. ⌜ RowTo (tableBy q (now (heights .entry)) (now (bounds .entry)) (now (radices .entry)) (now (ys .entry)) (now (colours .entry))) (capsIn (now (caps .entry))) (now (row .exit)) (q .budgets) a code (suc j) 0 ⌝ }
 {
-    let mut d: u32 = 0;
-    while d < q.colours {
+    let last = end_colour(other, q.colours);
+    let mut d = first_colour(other, q.colours);
+    while d < last {
         colour_link(
             q,
             heights,
@@ -401,6 +562,8 @@ fn slot_links(
             code,
             j,
             d,
+            start,
+            end,
         );
         d += 1;
     }
@@ -427,21 +590,30 @@ fn table_row(
     ys: &[u32],
     colours: &[u32],
     caps: &[u32],
+    bands: &[u32],
+    ends: &[u32],
     work: &[u32],
     row: &mut [u32],
     a: u32,
     code: u32,
 )
     requires { ⌜ Fits q (now heights) (now bounds) (now radices) (now draws) (now ys) (now colours) (now caps) ⌝ }
-    requires { ⌜ (a ≤ length (now heights)) × (q .budgets ≤ length (now row)) × (tableWords q (now heights) ≤ length (now work)) ⌝ }
+    requires { ⌜ (a ≤ length (now heights)) × (q .budgets ≤ length (now row)) × (tableWords q (now heights) ≤ length (now work)) × Marks (now heights) (now ys) (now colours) (now bands) (now ends) (length (now heights)) ⌝ }
     requires { ⌜ RightFrom (tableBy q (now heights) (now bounds) (now radices) (now ys) (now colours)) (capsIn (now caps)) (now work) (q .budgets) (suc a) ⌝ }
     ensures { λ _. ⌜ RowOf (tableBy q (now (heights .entry)) (now (bounds .entry)) (now (radices .entry)) (now (ys .entry)) (now (colours .entry))) (capsIn (now (caps .entry))) (now (row .exit)) (q .budgets) a code ⌝ }
 {
     let m = heights.len() as u32;
-    let last = strip_between(q, heights, ys, colours, caps, a, code, m, 0);
+    let start = first_below(heights, ys, a);
+    let all = ys.len() as u32;
+    let last = strip_between(q, heights, ys, colours, caps, a, code, m, 0, start, all);
     fill_row(row, q.budgets as usize, last);
+    let mut other: u32 = 0;
     let mut j: u32 = 0;
     while a + j < m {
+        other = other_in(other, code, get(bands, a + j));
+        if other == ALL_LOST {
+            return;
+        }
         slot_links(
             q,
             heights,
@@ -456,6 +628,9 @@ fn table_row(
             a,
             code,
             j,
+            start,
+            get(ends, a + j),
+            other,
         );
         j += 1;
     }
@@ -482,11 +657,13 @@ fn fill_place(
     ys: &[u32],
     colours: &[u32],
     caps: &[u32],
+    bands: &[u32],
+    ends: &[u32],
     work: &mut [u32],
     a: u32,
 )
     requires { ⌜ Fits q (now heights) (now bounds) (now radices) (now draws) (now ys) (now colours) (now caps) ⌝ }
-    requires { ⌜ (a ≤ length (now heights)) × (tableWords q (now heights) ≤ length (now work)) ⌝ }
+    requires { ⌜ (a ≤ length (now heights)) × (tableWords q (now heights) ≤ length (now work)) × Marks (now heights) (now ys) (now colours) (now bands) (now ends) (length (now heights)) ⌝ }
     requires { ⌜ RightFrom (tableBy q (now heights) (now bounds) (now radices) (now ys) (now colours)) (capsIn (now caps)) (now work) (q .budgets) (suc a) ⌝ }
     ensures { λ _. ⌜ RightFrom (tableBy q (now (heights .entry)) (now (bounds .entry)) (now (radices .entry)) (now (ys .entry)) (now (colours .entry))) (capsIn (now (caps .entry))) (now (work .exit)) (q .budgets) a ⌝ }
     ensures { λ _. ⌜ drop (tableWords q (now (heights .entry))) (now (work .exit)) ≡ drop (tableWords q (now (heights .entry))) (now (work .entry)) ⌝ }
@@ -503,6 +680,8 @@ fn fill_place(
             ys,
             colours,
             caps,
+            bands,
+            ends,
             work,
             &mut row,
             a,
@@ -522,10 +701,12 @@ fn fill(
     ys: &[u32],
     colours: &[u32],
     caps: &[u32],
+    bands: &[u32],
+    ends: &[u32],
     work: &mut [u32],
 )
     requires { ⌜ Fits q (now heights) (now bounds) (now radices) (now draws) (now ys) (now colours) (now caps) ⌝ }
-    requires { ⌜ tableWords q (now heights) ≤ length (now work) ⌝ }
+    requires { ⌜ (tableWords q (now heights) ≤ length (now work)) × Marks (now heights) (now ys) (now colours) (now bands) (now ends) (length (now heights)) ⌝ }
     ensures { λ _. ⌜ RightFrom (tableBy q (now (heights .entry)) (now (bounds .entry)) (now (radices .entry)) (now (ys .entry)) (now (colours .entry))) (capsIn (now (caps .entry))) (now (work .exit)) (q .budgets) 1 ⌝ }
     ensures { λ _. ⌜ drop (tableWords q (now (heights .entry))) (now (work .exit)) ≡ drop (tableWords q (now (heights .entry))) (now (work .entry)) ⌝ }
 {
@@ -540,11 +721,66 @@ fn fill(
             ys,
             colours,
             caps,
+            bands,
+            ends,
             work,
             a,
         );
         a -= 1;
     }
+}
+
+// The least cost of a layout within the caps, the slots marked.
+fn value_marked(
+    q: Measures,
+    heights: &[u32],
+    bounds: &[u32],
+    radices: &[u32],
+    draws: &[u32],
+    ys: &[u32],
+    colours: &[u32],
+    caps: &[u32],
+    bands: &[u32],
+    ends: &[u32],
+    work: &mut [u32],
+) -> u32
+    requires { ⌜ Fits q (now heights) (now bounds) (now radices) (now draws) (now ys) (now colours) (now caps) ⌝ }
+    requires { ⌜ (tableWords q (now heights) ≤ length (now work)) × Marks (now heights) (now ys) (now colours) (now bands) (now ends) (length (now heights)) ⌝ }
+    ensures { λ r. ⌜ r ≡ value (tableBy q (now (heights .entry)) (now (bounds .entry)) (now (radices .entry)) (now (ys .entry)) (now (colours .entry))) (capsIn (now (caps .entry))) ⌝ }
+    ensures { λ _. ⌜ drop (tableWords q (now (heights .entry))) (now (work .exit)) ≡ drop (tableWords q (now (heights .entry))) (now (work .entry)) ⌝ }
+{
+    fill(
+        q,
+        heights,
+        bounds,
+        radices,
+        draws,
+        ys,
+        colours,
+        caps,
+        bands,
+        ends,
+        work,
+    );
+    let mut row = [0u32; 64];
+    table_row(
+        q,
+        heights,
+        bounds,
+        radices,
+        draws,
+        ys,
+        colours,
+        caps,
+        bands,
+        ends,
+        work,
+        &mut row,
+        0,
+        0,
+    );
+    let all = (q.budgets - 1) as usize;
+    row[all]
 }
 
 // The least cost of a layout within the caps.
@@ -564,9 +800,10 @@ pub fn value_of(
     ensures { λ r. ⌜ r ≡ value (tableBy q (now (heights .entry)) (now (bounds .entry)) (now (radices .entry)) (now (ys .entry)) (now (colours .entry))) (capsIn (now (caps .entry))) ⌝ }
     ensures { λ _. ⌜ drop (tableWords q (now (heights .entry))) (now (work .exit)) ≡ drop (tableWords q (now (heights .entry))) (now (work .entry)) ⌝ }
 {
-    fill(q, heights, bounds, radices, draws, ys, colours, caps, work);
-    let mut row = [0u32; 64];
-    table_row(
+    let mut bands = [0u32; 48];
+    let mut ends = [0u32; 48];
+    mark_slots(heights, ys, colours, &mut bands, &mut ends);
+    value_marked(
         q,
         heights,
         bounds,
@@ -575,11 +812,8 @@ pub fn value_of(
         ys,
         colours,
         caps,
+        &bands,
+        &ends,
         work,
-        &mut row,
-        0,
-        0,
-    );
-    let all = (q.budgets - 1) as usize;
-    row[all]
+    )
 }

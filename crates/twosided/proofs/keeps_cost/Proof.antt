@@ -12,7 +12,7 @@ use Rattle.twosided.proofs.keeps_cost.Statement.{statement}
 use Rattle.twosided.proofs.keeps_cost.Tie as tie
 use Rattle.twosided.proofs.keeps_cost.Reads as reads
 use Rattle.twosided.proofs.keeps_cost.Lts as lts
-use Rattle.usedslots.proofs.value_of.Reads as value-of-reads
+use Rattle.byheight.proofs.value_of.Reads as value-of-reads
 
 -- src/lib.rt:67:18
 add-caps : tie.Need-add-caps

@@ -18,7 +18,7 @@ use Rattle.twosided.proofs.clear.Reads as clear-reads
 use Rattle.twosided.proofs.head_word.Reads as head-word-reads
 use Rattle.twosided.proofs.table_words.Reads as table-words-reads
 use Rattle.twosided.proofs.write_layout.Reads as write-layout-reads
-use Rattle.usedslots.proofs.value_of.Reads as value-of-reads
+use Rattle.byheight.proofs.value_of.Reads as value-of-reads
 
 -- src/lib.rt:232:9
 table-words-requires : tie.Need-table-words-requires

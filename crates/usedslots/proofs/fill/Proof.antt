@@ -15,15 +15,15 @@ use Rattle.usedslots.proofs.fill.Lts as lts
 use Rattle.usedslots.proofs.fill_place.Reads as fill-place-reads
 
 abbrev Inv-loop : tie.InvT-loop
-Inv-loop q heights bounds radices draws ys colours caps work₀ a₀ work a = (length work ≡ length work₀) × (a ≤ length heights) × RightFrom (tableBy q heights bounds radices ys colours) (capsIn caps) work (q .budgets) (suc a) × (drop (tableWords q heights) work ≡ drop (tableWords q heights) work₀)
+Inv-loop q heights bounds radices draws ys colours caps bands ends work₀ a₀ work a = (length work ≡ length work₀) × (a ≤ length heights) × RightFrom (tableBy q heights bounds radices ys colours) (capsIn caps) work (q .budgets) (suc a) × (drop (tableWords q heights) work ≡ drop (tableWords q heights) work₀)
 
 abbrev μ-loop : tie.MeasureT-loop
-μ-loop q heights bounds radices draws ys colours caps work₀ a₀ work a = a
+μ-loop q heights bounds radices draws ys colours caps bands ends work₀ a₀ work a = a
 
 -- src/lib.rt:407:17
 cast-a : tie.Need-cast-a Inv-loop μ-loop
 cast-a c =
-    omega (arith, c .before .before .before .before .before .before .before .before .pre .0 .few-slots)
+    omega (arith, c .before .before .before .before .before .before .before .before .before .before .pre .0 .few-slots)
 
 -- src/lib.rt:408:5
 loop-holds : tie.Need-loop-holds Inv-loop μ-loop
@@ -33,8 +33,8 @@ loop-holds c =
 -- src/lib.rt:409:9
 fill-place-requires : tie.Need-fill-place-requires Inv-loop μ-loop
 fill-place-requires c κs =
-    let p = c .before .before .before .before .before .before .before .before .before .before .before .pre in let l = c .before .before .loop in
-    (p .0, ((l .inv .1, omega (arith, p .1, l .inv .0)), l .inv .2))
+    let p = c .before .before .before .before .before .before .before .before .before .before .before .before .before .pre in let l = c .before .before .loop in
+    (p .0, ((l .inv .1, omega (arith, p .1 .0, l .inv .0), p .1 .1), l .inv .2))
 
 -- src/lib.rt:410:9
 sub-a : tie.Need-sub-a Inv-loop μ-loop
@@ -49,7 +49,7 @@ loop-again : tie.Need-loop-again Inv-loop μ-loop
 loop-again c =
     let l = c .before .before .before .before .before .loop in
     let e : suc (l .a - 1) ≡ l .a = omega arith in
-    (c .before .before .fill-place .kept .1 .1 .1 .1 .1 .1 .1 .1 .0 ∙ l .inv .0, omega arith, rw e (c .before .before .fill-place .ensures .0), c .before .before .fill-place .ensures .1 ∙ l .inv .3)
+    (c .before .before .fill-place .kept .1 .1 .1 .1 .1 .1 .1 .1 .1 .1 .0 ∙ l .inv .0, omega arith, rw e (c .before .before .fill-place .ensures .0), c .before .before .fill-place .ensures .1 ∙ l .inv .3)
 
 -- src/lib.rt:391:1
 same-length : tie.Need-same-length Inv-loop μ-loop

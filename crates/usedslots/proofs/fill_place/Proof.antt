@@ -19,16 +19,16 @@ use Rattle.usedslots.proofs.store_row.Reads as store-row-reads
 use Rattle.usedslots.proofs.table_row.Reads as table-row-reads
 
 abbrev Inv-loop : tie.InvT-loop
-Inv-loop q heights bounds radices draws ys colours caps work₀ a row₀ code₀ work row code = (length work ≡ length work₀) × (length row ≡ 64) × (1 ≤ code) × (code ≤ q .colours + 1) × RightTo (tableBy q heights bounds radices ys colours) (capsIn caps) work (q .budgets) a code × (drop (tableWords q heights) work ≡ drop (tableWords q heights) work₀)
+Inv-loop q heights bounds radices draws ys colours caps bands ends work₀ a row₀ code₀ work row code = (length work ≡ length work₀) × (length row ≡ 64) × (1 ≤ code) × (code ≤ q .colours + 1) × RightTo (tableBy q heights bounds radices ys colours) (capsIn caps) work (q .budgets) a code × (drop (tableWords q heights) work ≡ drop (tableWords q heights) work₀)
 
 abbrev μ-loop : tie.MeasureT-loop
-μ-loop q heights bounds radices draws ys colours caps work₀ a row₀ code₀ work row code = q .colours + 1 - code
+μ-loop q heights bounds radices draws ys colours caps bands ends work₀ a row₀ code₀ work row code = q .colours + 1 - code
 
 -- src/lib.rt:384:5
 loop-holds : tie.Need-loop-holds Inv-loop μ-loop
 loop-holds c =
-    let a = c .before .before .before .before .before .before .before .before .args in
-    (refl, length-replicate {A = ℕ} 64 0, omega arith, omega arith, right-none (tableBy (a .q) (a .heights .now) (a .bounds .now) (a .radices .now) (a .ys .now) (a .colours .now)) (capsIn (a .caps .now)) (a .q .budgets) (a .a) (a .work .now) (c .before .before .before .before .before .before .before .before .pre .1 .1), refl)
+    let a = c .before .before .before .before .before .before .before .before .before .before .args in
+    (refl, length-replicate {A = ℕ} 64 0, omega arith, omega arith, right-none (tableBy (a .q) (a .heights .now) (a .bounds .now) (a .radices .now) (a .ys .now) (a .colours .now)) (capsIn (a .caps .now)) (a .q .budgets) (a .a) (a .work .now) (c .before .before .before .before .before .before .before .before .before .before .pre .1 .1), refl)
 
 -- src/lib.rt:385:80
 slice-aggregate-table-row : tie.Need-slice-aggregate-table-row Inv-loop μ-loop
@@ -38,18 +38,18 @@ slice-aggregate-table-row c =
 -- src/lib.rt:385:9
 table-row-requires : tie.Need-table-row-requires Inv-loop μ-loop
 table-row-requires c κs =
-    let p = c .before .before .before .before .before .before .before .before .before .before .before .before .before .pre in let l = c .before .before .before .before .loop in
-    (p .0, ((p .1 .0 .0, omega (arith, p .0 .few-budgets, l .inv .1), omega (arith, p .1 .0, l .inv .0)), l .inv .4 .below))
+    let p = c .before .before .before .before .before .before .before .before .before .before .before .before .before .before .before .pre in let l = c .before .before .before .before .loop in
+    (p .0, ((p .1 .0 .0, omega (arith, p .0 .few-budgets, l .inv .1), omega (arith, p .1 .0 .1, l .inv .0), p .1 .0 .2), l .inv .4 .below))
 
 -- src/lib.rt:386:25
 slice-aggregate-store-row : tie.Need-slice-aggregate-store-row Inv-loop μ-loop
 slice-aggregate-store-row c =
-    sym (c .before .before .before .table-row .kept .1 .1 .1 .1 .1 .1 .1 .1 .1 .0 ∙ c .before .before .before .before .before .before .before .before .loop .inv .1)
+    sym (c .before .before .before .table-row .kept .1 .1 .1 .1 .1 .1 .1 .1 .1 .1 .1 .0 ∙ c .before .before .before .before .before .before .before .before .loop .inv .1)
 
 -- src/lib.rt:386:31
 row-start-requires : tie.Need-row-start-requires Inv-loop μ-loop
 row-start-requires c κs =
-    let p = c .before .before .before .before .before .before .before .before .before .before .before .before .before .before .before .before .before .pre in (omega (arith, p .0 .few-slots, p .1 .0), omega (arith, p .0 .few-colours, c .before .before .before .before .before .before .if1 .taken), p .0 .few-colours, p .0 .few-budgets)
+    let p = c .before .before .before .before .before .before .before .before .before .before .before .before .before .before .before .before .before .before .before .pre in (omega (arith, p .0 .few-slots, p .1 .0 .0), omega (arith, p .0 .few-colours, c .before .before .before .before .before .before .if1 .taken), p .0 .few-colours, p .0 .few-budgets)
 
 -- src/lib.rt:386:54
 cast-store-row : tie.Need-cast-store-row Inv-loop μ-loop
@@ -58,15 +58,15 @@ cast-store-row c = search needs
 -- src/lib.rt:386:9
 store-row-requires : tie.Need-store-row-requires Inv-loop μ-loop
 store-row-requires c κs =
-    let a = c .before .before .before .before .before .before .before .before .before .before .before .before .before .before .before .before .before .before .before .args in let p = c .before .before .before .before .before .before .before .before .before .before .before .before .before .before .before .before .before .before .before .pre in let l = c .before .before .before .before .before .before .before .before .before .before .loop in (
-      omega (arith, c .before .row-start .ensures, p .1 .0, l .inv .0, row-there (a .q) (a .heights .now) (a .a) (l .code) (p .0 .some-budget) (omega (arith, p .1 .0)) (c .before .before .before .before .before .before .before .before .if1 .taken)),
-      omega (arith, p .0 .few-budgets, c .before .before .before .before .before .table-row .kept .1 .1 .1 .1 .1 .1 .1 .1 .1 .0, l .inv .1),
+    let a = c .before .before .before .before .before .before .before .before .before .before .before .before .before .before .before .before .before .before .before .before .before .args in let p = c .before .before .before .before .before .before .before .before .before .before .before .before .before .before .before .before .before .before .before .before .before .pre in let l = c .before .before .before .before .before .before .before .before .before .before .loop in (
+      omega (arith, c .before .row-start .ensures, p .1 .0 .0, p .1 .0 .1, l .inv .0, row-there (a .q) (a .heights .now) (a .a) (l .code) (p .0 .some-budget) (omega (arith, p .1 .0 .0)) (c .before .before .before .before .before .before .before .before .if1 .taken)),
+      omega (arith, p .0 .few-budgets, c .before .before .before .before .before .table-row .kept .1 .1 .1 .1 .1 .1 .1 .1 .1 .1 .1 .0, l .inv .1),
     )
 
 -- src/lib.rt:387:9
 add-code : tie.Need-add-code Inv-loop μ-loop
 add-code c =
-    omega (arith, c .before .before .before .before .before .before .before .before .before .before .before .before .before .before .before .before .before .before .before .before .before .before .pre .0 .few-colours, c .before .before .before .before .before .before .before .before .before .before .before .if1 .taken)
+    omega (arith, c .before .before .before .before .before .before .before .before .before .before .before .before .before .before .before .before .before .before .before .before .before .before .before .before .pre .0 .few-colours, c .before .before .before .before .before .before .before .before .before .before .before .if1 .taken)
 
 -- src/lib.rt:384:5
 loop-less : tie.Need-loop-less Inv-loop μ-loop
@@ -76,16 +76,16 @@ loop-less c =
 -- src/lib.rt:384:5
 loop-again : tie.Need-loop-again Inv-loop μ-loop
 loop-again c =
-    let a = c .before .before .before .before .before .before .before .before .before .before .before .before .before .before .before .before .before .before .before .before .before .before .args in let p = c .before .before .before .before .before .before .before .before .before .before .before .before .before .before .before .before .before .before .before .before .before .before .pre in let l = c .before .before .before .before .before .before .before .before .before .before .before .before .before .loop in
+    let a = c .before .before .before .before .before .before .before .before .before .before .before .before .before .before .before .before .before .before .before .before .before .before .before .before .args in let p = c .before .before .before .before .before .before .before .before .before .before .before .before .before .before .before .before .before .before .before .before .before .before .before .before .pre in let l = c .before .before .before .before .before .before .before .before .before .before .before .before .before .loop in
     let s = c .before .before .store-row .ensures in (
       c .before .before .store-row .kept .0 ∙ l .inv .0,
-      c .before .before .before .before .before .before .before .before .table-row .kept .1 .1 .1 .1 .1 .1 .1 .1 .1 .0 ∙ l .inv .1,
+      c .before .before .before .before .before .before .before .before .table-row .kept .1 .1 .1 .1 .1 .1 .1 .1 .1 .1 .1 .0 ∙ l .inv .1,
       omega arith,
       omega (arith, c .before .before .before .before .before .before .before .before .before .before .before .if1 .taken),
-      right-more (tableBy (a .q) (a .heights .now) (a .bounds .now) (a .radices .now) (a .ys .now) (a .colours .now)) (capsIn (a .caps .now)) (a .q .budgets) (a .a) (l .work) (c .before .before .store-row .last .0) (c .before .before .before .before .before .before .before .before .table-row .last .1 .1 .1 .1 .1 .1 .1 .1 .1 .0) (l .code) (c .before .before .before .before .row-start .result) (c .before .before .before .before .row-start .ensures)
+      right-more (tableBy (a .q) (a .heights .now) (a .bounds .now) (a .radices .now) (a .ys .now) (a .colours .now)) (capsIn (a .caps .now)) (a .q .budgets) (a .a) (l .work) (c .before .before .store-row .last .0) (c .before .before .before .before .before .before .before .before .table-row .last .1 .1 .1 .1 .1 .1 .1 .1 .1 .1 .1 .0) (l .code) (c .before .before .before .before .row-start .result) (c .before .before .before .before .row-start .ensures)
           (c .before .before .before .before .before .before .before .before .before .before .before .if1 .taken) (p .0 .some-budget) (c .before .before .before .before .before .before .before .before .table-row .ensures) s (l .inv .4),
       s .rest (tableWords (a .q) (a .heights .now))
-          (omega (arith, c .before .before .before .before .row-start .ensures, row-there (a .q) (a .heights .now) (a .a) (l .code) (p .0 .some-budget) (omega (arith, p .1 .0)) (c .before .before .before .before .before .before .before .before .before .before .before .if1 .taken))) ∙ l .inv .5,
+          (omega (arith, c .before .before .before .before .row-start .ensures, row-there (a .q) (a .heights .now) (a .a) (l .code) (p .0 .some-budget) (omega (arith, p .1 .0 .0)) (c .before .before .before .before .before .before .before .before .before .before .before .if1 .taken))) ∙ l .inv .5,
     )
 
 -- src/lib.rt:364:1
@@ -95,7 +95,7 @@ same-length c = search needs
 -- src/lib.rt:364:1
 returns : tie.Need-returns Inv-loop μ-loop
 returns c =
-    let a = c .before .before .before .before .before .before .before .before .before .before .before .args in let l = c .before .before .loop in
+    let a = c .before .before .before .before .before .before .before .before .before .before .before .before .before .args in let l = c .before .before .loop in
     (right-all (tableBy (a .q) (a .heights .now) (a .bounds .now) (a .radices .now) (a .ys .now) (a .colours .now)) (capsIn (a .caps .now)) (a .q .budgets) (a .a) (l .work) (l .code) (c .if1 .left) (l .inv .4), l .inv .5)
 
 pub fill-place-spec : {M : Type 1} → statement M

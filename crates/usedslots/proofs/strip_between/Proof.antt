@@ -1,3 +1,4 @@
+use Rattle.usedslots.proofs.Bands.{among}
 use mathlib.Core.Path.{_≡_, refl, ap, sym, _∙_}
 use mathlib.Core.List.{List, [], _∷_, _++_}
 use mathlib.Core.Logic.{⊎-elim}
@@ -25,7 +26,9 @@ lower-label-requires c κs = search needs
 
 -- src/lib.rt:163:5
 strip-cost-requires : tie.Need-strip-cost-requires
-strip-cost-requires c κs = search needs
+strip-cost-requires c κs =
+    let a = c .before .before .before .before .before .before .args in let p = c .before .before .before .before .before .before .pre in
+    (p .0 .0, p .0 .1, rw (c .lower-label .ensures, c .before .upper-label .ensures) (among (a .heights .now) (a .ys .now) (a .a) (a .code) (a .k) (a .below) (a .start) (a .end) (p .1 .0) (p .1 .1)))
 
 -- src/lib.rt:159:1
 returns : tie.Need-returns

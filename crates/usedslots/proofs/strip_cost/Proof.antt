@@ -4,6 +4,7 @@ use Rattle.search.specs.Cost.{plus}
 use Rattle.search.specs.Sums.{sumTo}
 use Rattle.usedslots.specs.Table.{none, siteOf, stripOf}
 use Rattle.usedslots.proofs.Strips.{sum-more, sum-ends}
+use Rattle.usedslots.proofs.Bands.{site-out, sum-before, sum-after}
 use mathlib.Core.Path.{_≡_, refl, ap, sym, _∙_}
 use mathlib.Core.List.{List, [], _∷_, _++_}
 use mathlib.Core.Logic.{⊎-elim}
@@ -20,24 +21,30 @@ use Rattle.usedslots.proofs.strip_cost.Lts as lts
 use Rattle.usedslots.proofs.site_cost.Reads as site-cost-reads
 
 abbrev Inv-loop : tie.InvT-loop
-Inv-loop q above below ys colours caps sum₀ i₀ sum i = (i ≤ length ys) × (sum < none) × (sum ≡ sumTo none (λ j. siteOf q above below (getD ys j 0) (getD colours j 0) (getD caps j 0)) i)
+Inv-loop q above below ys colours caps start end last sum₀ i₀ sum i = (i ≤ length ys) × (sum < none) × (sum ≡ sumTo none (λ j. siteOf q above below (getD ys j 0) (getD colours j 0) (getD caps j 0)) i)
 
 abbrev μ-loop : tie.MeasureT-loop
-μ-loop q above below ys colours caps sum₀ i₀ sum i = length ys - i
+μ-loop q above below ys colours caps start end last sum₀ i₀ sum i = last - i
 
 -- src/lib.rt:126:5
 loop-holds : tie.Need-loop-holds Inv-loop μ-loop
-unfolding sumTo
 loop-holds c =
-    search needs
+    let a = c .before .before .before .args in let p = c .before .before .before .pre in (
+      p .2 .few-before,
+      omega arith,
+      sum-before (λ j. siteOf (a .q) (a .above) (a .below) (getD (a .ys .now) j 0) (getD (a .colours .now) j 0) (getD (a .caps .now) j 0)) (a .start)
+          (λ i l. site-out (a .q) (a .above) (a .below) (getD (a .ys .now) i 0) (getD (a .colours .now) i 0) (getD (a .caps .now) i 0) (p .2 .before i l)),
+    )
 
 -- src/lib.rt:127:47
 mul-site-cost : tie.Need-mul-site-cost Inv-loop μ-loop
-mul-site-cost c = search needs
+mul-site-cost c =
+    omega (arith, c .before .before .before .before .before .pre .2 .few)
 
 -- src/lib.rt:127:47
 shared-slice-read-site-cost : tie.Need-shared-slice-read-site-cost Inv-loop μ-loop
-shared-slice-read-site-cost c = search needs
+shared-slice-read-site-cost c =
+    omega (arith, c .before .before .before .before .before .before .pre .2 .few)
 
 -- src/lib.rt:127:54
 mul-site-cost-2 : tie.Need-mul-site-cost-2 Inv-loop μ-loop
@@ -45,7 +52,8 @@ mul-site-cost-2 c = search needs
 
 -- src/lib.rt:127:54
 shared-slice-read-site-cost-2 : tie.Need-shared-slice-read-site-cost-2 Inv-loop μ-loop
-shared-slice-read-site-cost-2 c = search needs
+shared-slice-read-site-cost-2 c =
+    omega (arith, c .before .before .before .before .before .before .before .pre .2 .few)
 
 -- src/lib.rt:127:66
 mul-site-cost-3 : tie.Need-mul-site-cost-3 Inv-loop μ-loop
@@ -53,7 +61,8 @@ mul-site-cost-3 c = search needs
 
 -- src/lib.rt:127:66
 shared-slice-read-site-cost-3 : tie.Need-shared-slice-read-site-cost-3 Inv-loop μ-loop
-shared-slice-read-site-cost-3 c = search needs
+shared-slice-read-site-cost-3 c =
+    omega (arith, c .before .before .before .before .before .before .before .before .pre .2 .few)
 
 -- src/lib.rt:127:13
 site-cost-requires : tie.Need-site-cost-requires Inv-loop μ-loop
@@ -73,7 +82,7 @@ unfolding stripOf
 returns c =
     let a = c .before .before .before .before .before .before .before .before .before .before .args in let l = c .before .before .before .before .before .before .loop in
     sum-ends (λ j. siteOf (a .q) (a .above) (a .below) (getD (a .ys .now) j 0) (getD (a .colours .now) j 0) (getD (a .caps .now) j 0)) (l .i) (length (a .ys .now)) (l .sum) (c .before .site-cost .result)
-    (l .inv .2) (sym (c .before .site-cost .ensures)) (c .if1 .taken) (c .before .before .before .before .before .loop-test .taken)
+    (l .inv .2) (sym (c .before .site-cost .ensures)) (c .if1 .taken) (omega (arith, c .before .before .before .before .before .before .before .before .before .before .pre .2 .few, c .before .before .before .before .before .loop-test .taken))
 
 -- src/lib.rt:132:16
 cast-sum : tie.Need-cast-sum Inv-loop μ-loop
@@ -95,7 +104,7 @@ loop-less c = search needs
 loop-again : tie.Need-loop-again Inv-loop μ-loop
 loop-again c =
     let a = c .before .before .before .before .before .before .before .before .before .before .args in let l = c .before .before .before .before .before .before .loop in (
-      omega arith,
+      omega (arith, c .before .before .before .before .before .before .before .before .before .before .pre .2 .few, c .before .before .before .before .before .loop-test .taken),
       omega arith,
       sum-more (λ j. siteOf (a .q) (a .above) (a .below) (getD (a .ys .now) j 0) (getD (a .colours .now) j 0) (getD (a .caps .now) j 0)) (l .i) (l .sum) (c .before .site-cost .result)
           (l .inv .2) (sym (c .before .site-cost .ensures)) (omega arith),
@@ -105,8 +114,9 @@ loop-again c =
 returns-2 : tie.Need-returns-2 Inv-loop μ-loop
 unfolding stripOf
 returns-2 c =
-    let a = c .before .before .before .before .before .args in let l = c .before .loop in
-    let e : l .i ≡ length (a .ys .now) = omega arith in rw e at (l .inv .2)
+    let a = c .before .before .before .before .before .args in let l = c .before .loop in let p = c .before .before .before .before .before .pre in
+    l .inv .2 ∙ sum-after (λ j. siteOf (a .q) (a .above) (a .below) (getD (a .ys .now) j 0) (getD (a .colours .now) j 0) (getD (a .caps .now) j 0)) (l .i) (length (a .ys .now)) (l .inv .0)
+    (λ j u v. site-out (a .q) (a .above) (a .below) (getD (a .ys .now) j 0) (getD (a .colours .now) j 0) (getD (a .caps .now) j 0) (p .2 .after j (omega arith) v))
 
 pub strip-cost-spec : {M : Type 1} → statement M
 strip-cost-spec =

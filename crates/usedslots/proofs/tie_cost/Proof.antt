@@ -12,7 +12,6 @@ use Rattle.usedslots.proofs.tie_cost.Statement.{statement}
 use Rattle.usedslots.proofs.tie_cost.Tie as tie
 use Rattle.usedslots.proofs.tie_cost.Reads as reads
 use Rattle.usedslots.proofs.tie_cost.Lts as lts
-use Rattle.usedslots.proofs.share_of.Reads as share-of-reads
 
 -- src/lib.rt:71:16
 cast-result : tie.Need-cast-result
@@ -24,8 +23,8 @@ returns c =
     rw (not-true (c .before .args .fits) (c .if1 .taken))
 
 -- src/lib.rt:73:17
-share-of-requires : tie.Need-share-of-requires
-share-of-requires c κs = search needs
+apart-of-requires : tie.Need-apart-of-requires
+apart-of-requires c κs = search needs
 
 -- src/lib.rt:73:17
 cast-share : tie.Need-cast-share
@@ -38,14 +37,14 @@ mul-result c = search needs
 -- src/lib.rt:75:9
 returns-2 : tie.Need-returns-2
 returns-2 c =
-    rw (not-false (c .before .before .before .args .fits) (c .before .before .if1 .left), c .if2 .taken, c .before .share-of .ensures)
+    rw (not-false (c .before .before .before .args .fits) (c .before .before .if1 .left), c .if2 .taken, c .before .apart-of .ensures)
 
 -- src/lib.rt:67:1
 returns-3 : tie.Need-returns-3
 returns-3 c =
-    rw (not-false (c .before .before .before .args .fits) (c .before .before .if1 .left), c .if2 .left, c .before .share-of .ensures) (omega arith)
+    rw (not-false (c .before .before .before .args .fits) (c .before .before .if1 .left), c .if2 .left, c .before .apart-of .ensures) (omega arith)
 
 pub tie-cost-spec : {M : Type 1} → statement M
 tie-cost-spec =
     tie.close
-    (tie.spec cast-result returns share-of-requires cast-share mul-result returns-2 returns-3)
+    (tie.spec cast-result returns apart-of-requires cast-share mul-result returns-2 returns-3)

@@ -1,4 +1,3 @@
-use Rattle.optimum.specs.UsedSlots.{value}
 use mathlib.Core.Path.{_≡_, refl, ap, sym, _∙_}
 use mathlib.Core.List.{List, [], _∷_, _++_}
 use mathlib.Core.Logic.{⊎-elim}
@@ -12,59 +11,51 @@ use Rattle.usedslots.proofs.value_of.Statement.{statement}
 use Rattle.usedslots.proofs.value_of.Tie as tie
 use Rattle.usedslots.proofs.value_of.Reads as reads
 use Rattle.usedslots.proofs.value_of.Lts as lts
-use Rattle.usedslots.proofs.fill.Reads as fill-reads
-use Rattle.usedslots.proofs.table_row.Reads as table-row-reads
+use Rattle.usedslots.proofs.mark_slots.Reads as mark-slots-reads
+use Rattle.usedslots.proofs.value_marked.Reads as value-marked-reads
 
--- src/lib.rt:431:5
-fill-requires : tie.Need-fill-requires
-fill-requires c κs = search needs
+-- src/lib.rt:810:38
+slice-aggregate-mark-slots : tie.Need-slice-aggregate-mark-slots
+slice-aggregate-mark-slots c = search needs
 
--- src/lib.rt:433:76
-slice-aggregate-table-row : tie.Need-slice-aggregate-table-row
-slice-aggregate-table-row c = search needs
+-- src/lib.rt:810:50
+slice-aggregate-mark-slots-2 : tie.Need-slice-aggregate-mark-slots-2
+slice-aggregate-mark-slots-2 c = search needs
 
--- src/lib.rt:433:5
-table-row-requires : tie.Need-table-row-requires
-table-row-requires c κs =
-    let p = c .before .before .before .before .before .before .before .before .before .before .before .before .before .before .pre in
-    (p .0, ((omega arith, omega (arith, p .0 .few-budgets, sym (slice-aggregate-table-row c)), omega (arith, p .1, c .before .before .before .before .fill .kept .1 .1 .1 .1 .1 .1 .1 .1 .0)), c .before .before .before .before .fill .ensures .0))
+-- src/lib.rt:810:5
+mark-slots-requires : tie.Need-mark-slots-requires
+mark-slots-requires c κs = search needs
 
--- src/lib.rt:434:16
-sub-all : tie.Need-sub-all
-sub-all c = search needs
+-- src/lib.rt:820:9
+slice-aggregate-value-marked : tie.Need-slice-aggregate-value-marked
+slice-aggregate-value-marked c = search needs
 
--- src/lib.rt:434:15
-cast-all : tie.Need-cast-all
-cast-all c = search needs
+-- src/lib.rt:821:9
+slice-aggregate-value-marked-2 : tie.Need-slice-aggregate-value-marked-2
+slice-aggregate-value-marked-2 c = search needs
 
--- src/lib.rt:435:5
-mul-result : tie.Need-mul-result
-mul-result c = search needs
+-- src/lib.rt:811:5
+value-marked-requires : tie.Need-value-marked-requires
+value-marked-requires c κs = search needs
 
--- src/lib.rt:435:5
-array-read-result : tie.Need-array-read-result
-array-read-result c = search needs
-
--- src/lib.rt:415:1
+-- src/lib.rt:792:1
 same-length : tie.Need-same-length
 same-length c = search needs
 
--- src/lib.rt:415:1
+-- src/lib.rt:792:1
 returns : tie.Need-returns
-unfolding value
 returns c =
-    (c .before .before .table-row .ensures (c .before .before .before .before .before .before .before .before .before .before .before .before .before .before .before .before .before .args .q .budgets - 1) (omega (arith, c .before .before .before .before .before .before .before .before .before .before .before .before .before .before .before .before .before .pre .0 .some-budget)), c .before .before .before .before .before .before .before .fill .ensures .1)
+    c .before .before .value-marked .ensures
 
 pub value-of-spec : {M : Type 1} → statement M
 value-of-spec =
     tie.close
     (tie.spec
-    fill-requires
-    slice-aggregate-table-row
-    table-row-requires
-    sub-all
-    cast-all
-    mul-result
-    array-read-result
+    slice-aggregate-mark-slots
+    slice-aggregate-mark-slots-2
+    mark-slots-requires
+    slice-aggregate-value-marked
+    slice-aggregate-value-marked-2
+    value-marked-requires
     same-length
     returns)

@@ -69,9 +69,11 @@ same-length c =
 returns-2 : tie.Need-returns-2
 returns-2 c =
     let p = c .before .before .before .before .before .before .before .before .before .before .before .before .before .before .before .before .before .before .before .pre in
-    let a = c .before .before .before .before .before .before .before .before .before .before .before .before .before .before .before .before .before .before .before .args in
-    (keeps-by _ _ _ _ _ _ _ (c .same .ensures) (c .before .plus-of .ensures) (c .before .before .before .before .before .before .before .before .before .before .price-of .ensures)
-    (c .before .before .before .before .rest-after .ensures .0 ∙ rw (c .before .before .before .before .before .before .before .monus .ensures, c .before .before .before .before .before .before .before .before .draw-of .ensures, p .1 .1 .3, add-one (a .s .c)) refl), c .before .before .before .before .rest-after .ensures .1)
+    let a = c .before .before .before .before .before .before .before .before .before .before .before .before .before .before .before .before .before .before .before .args in (
+      keeps-by _ _ _ _ _ _ _ (c .same .ensures) (c .before .plus-of .ensures) (c .before .before .before .before .before .before .before .before .before .before .price-of .ensures)
+          (c .before .before .before .before .rest-after .ensures .0 ∙ rw (c .before .before .before .before .before .before .before .monus .ensures, c .before .before .before .before .before .before .before .before .draw-of .ensures, p .1 .1 .3, add-one (a .s .c)) refl),
+      c .before .before .before .before .rest-after .ensures .1,
+    )
 
 pub keeps-cost-spec : {M : Type 1} → statement M
 keeps-cost-spec =

@@ -1,0 +1,190 @@
+-- Sites that are known to lie in a strip, or outside it: what follows for its sum. Assumes nothing.
+use mathlib.Core.Path.{_≡_, refl, sym, _∙_}
+use mathlib.Core.Logic.{_≢_}
+use mathlib.Core.Bool.{true, false}
+use mathlib.Core.List.{List}
+use Prim.Native.Nat.{ℕ, zero, suc, _+_, _*_, _-_, _/_, _%_, _≤_, _<_}
+use native.Mathlib.Omega.{arith}
+use lib.Dec.{ltb, leb, eqb}
+use lib.ListN.{length, getD, set}
+use lib.Seq.{getD-set-same, getD-set-other}
+use borrow.Author.Tests.{le-leb, lt-leb, lt-ltb, le-ltb, ne-eqb}
+use Rattle.lists.proofs.Tests.{by-test, by-equal}
+use Rattle.search.specs.Cost.{plus}
+use Rattle.search.specs.Sums.{sumTo}
+use Rattle.search.proofs.CappedSums.{sum-le}
+use Rattle.arrays.specs.declared.Measures.{Measures}
+use Rattle.usedslots.specs.declared.Label.{Label}
+use Rattle.usedslots.specs.Table.{none, upperAt, lowerAt, insideOf, upFits, downFits, siteOf, stripOf}
+use Rattle.usedslots.specs.Bands.{Between, Codes, Lost, Barred, Starts, Ends, Among, Marks}
+use Rattle.usedslots.proofs.Strips.{sum-ends}
+
+-- ---- codes in one number
+
+module _ (hs ys cs : List ℕ) (a k : ℕ) where
+  pub codes-none : Codes hs ys cs a k 0
+  codes-none = record { first = λ n. absurd (n (omega arith)); second = λ n. absurd (n (omega arith)) }
+
+  pub codes-first : (colour : ℕ) → colour ≤ 14 → Between hs ys cs a k (suc colour) → Codes hs ys cs a k (colour + 1)
+  codes-first colour h b =
+      let e : (colour + 1) % 16 ≡ suc colour = omega arith in
+      let z : (colour + 1) / 16 ≡ 0 = omega arith in
+      record { first = λ n. rw e b; second = λ n. absurd (n z) }
+
+  pub codes-second : (codes colour : ℕ) → codes ≤ 15 → Codes hs ys cs a k codes → Between hs ys cs a k (suc colour) → Codes hs ys cs a k (codes + 16 * (colour + 1))
+  codes-second codes colour h c b =
+      let e : (codes + 16 * (colour + 1)) % 16 ≡ codes % 16 = omega arith in
+      let z : (codes + 16 * (colour + 1)) / 16 ≡ suc colour = omega arith in
+      record { first = rw e (c .first); second = λ n. rw z b }
+
+  -- ---- the one code that is not lost
+
+  pub barred-none : (ca : ℕ) → Barred hs ys cs a ca k 0
+  barred-none ca d n = absurd (n refl)
+
+  pub barred-first : (ca code : ℕ) → code ≢ ca → Between hs ys cs a k code → Barred hs ys cs a ca k code
+  barred-first ca code u b d n l = record { code = code; between = b; not-upper = u; not-lower = l }
+
+  pub barred-all : (ca code other : ℕ) → code ≢ ca → code ≢ other → other ≢ 0 → Between hs ys cs a k code → Barred hs ys cs a ca k other → (d : ℕ) → Lost hs ys cs a ca k (suc d)
+  barred-all ca code other u o s b old d =
+      by-equal code (suc d)
+      (λ e. old d s (λ z. o (e ∙ sym z)))
+      (λ n. record { code = code; between = b; not-upper = u; not-lower = n })
+
+-- ---- heights rise
+
+module _ (hs ys cs : List ℕ) (rising : (j k : ℕ) → j < k → k < length hs → getD hs j 0 < getD hs k 0) where
+  rises : (j k : ℕ) → j ≤ k → k < length hs → getD hs j 0 ≤ getD hs k 0
+  rises j k h l =
+      by-equal j k
+      (λ e. rw e (omega arith))
+      (λ n. let z = rising j k (omega (arith, n)) l in omega arith)
+
+  -- a site between two places is between higher and lower ones
+  between-up : (a b k e : ℕ) → a ≤ b → b ≤ length hs → Between hs ys cs b k e → Between hs ys cs a k e
+  between-up a zero k e h l w =
+      record { site = w .site; there = w .there; coded = w .coded; below = λ j z. absurd (omega arith); above = w .above }
+  between-up a (suc b) k e h l w =
+      record {
+        site = w .site;
+        there = w .there;
+        coded = w .coded;
+        below = λ j z. let p = rises j b (omega arith) (omega arith) in let r = w .below b refl in omega arith;
+        above = w .above;
+      }
+
+  between-down : (a k m e : ℕ) → k ≤ m → m < length hs → Between hs ys cs a k e → Between hs ys cs a m e
+  between-down a k m e h l w =
+      record { site = w .site; there = w .there; coded = w .coded; below = w .below; above = (let p = rises k m h l in let r = w .above in omega arith) }
+
+  pub codes-up : (a k codes : ℕ) → a ≤ k → k < length hs → Codes hs ys cs k k codes → Codes hs ys cs a k codes
+  codes-up a k codes h l c =
+      record {
+        first = λ n. between-up a k k (codes % 16) h (omega arith) (c .first n);
+        second = λ n. between-up a k k (codes / 16) h (omega arith) (c .second n);
+      }
+
+  pub lost-down : (a ca k m cb : ℕ) → k ≤ m → m < length hs → Lost hs ys cs a ca k cb → Lost hs ys cs a ca m cb
+  lost-down a ca k m cb h l w =
+      record { code = w .code; between = between-down a k m (w .code) h l (w .between); not-upper = w .not-upper; not-lower = w .not-lower }
+
+  pub barred-down : (a ca k m other : ℕ) → k ≤ m → m < length hs → Barred hs ys cs a ca k other → Barred hs ys cs a ca m other
+  barred-down a ca k m other h l w d s n = lost-down a ca k m (suc d) h l (w d s n)
+
+-- ---- a strip with such a site is none
+
+inside-is : (hs ys cs : List ℕ) (a ca k cb e : ℕ) (w : Between hs ys cs a k e) → insideOf (upperAt hs a ca) (lowerAt hs k cb) (getD ys (w .site) 0) ≡ true
+unfolding insideOf
+inside-is hs ys cs zero ca k cb e w =
+    let t : ltb (getD ys (w .site) 0) (getD hs k 0) ≡ true = lt-ltb _ _ (w .above) in
+    by-test (leb (length hs) k) (λ z. rw z) (λ z. rw (z, t))
+inside-is hs ys cs (suc j) ca k cb e w =
+    let t : ltb (getD ys (w .site) 0) (getD hs k 0) ≡ true = lt-ltb _ _ (w .above) in
+    let u : leb (getD hs j 0) (getD ys (w .site) 0) ≡ true = le-leb _ _ (w .below j refl) in
+    by-test (leb (length hs) k) (λ z. rw (u, z)) (λ z. rw (u, z, t))
+
+site-lost : (q : Measures) (above below : Label) (y c cap : ℕ) → insideOf above below y ≡ true → suc c ≢ above .code → suc c ≢ below .code → siteOf q above below y c cap ≡ none
+unfolding siteOf upFits downFits
+site-lost q above below y c cap t u l =
+    let e : eqb (above .code) (suc c) ≡ false = ne-eqb _ _ (λ z. u (sym z)) in
+    let f : eqb (below .code) (suc c) ≡ false = ne-eqb _ _ (λ z. l (sym z)) in
+    rw (t, e, f) (omega arith)
+
+upper-code : (hs : List ℕ) (a ca : ℕ) → (upperAt hs a ca) .code ≡ ca
+upper-code hs zero ca = refl
+upper-code hs (suc j) ca = refl
+
+pub lost-strip : (q : Measures) (hs ys cs caps : List ℕ) (a ca k cb : ℕ) → Lost hs ys cs a ca k cb → stripOf q (upperAt hs a ca) (lowerAt hs k cb) ys cs caps ≡ none
+unfolding stripOf
+lost-strip q hs ys cs caps a ca k cb w =
+    let b = w .between in
+    let e : siteOf q (upperAt hs a ca) (lowerAt hs k cb) (getD ys (b .site) 0) (getD cs (b .site) 0) (getD caps (b .site) 0) ≡ none =
+    site-lost q (upperAt hs a ca) (lowerAt hs k cb) (getD ys (b .site) 0) (getD cs (b .site) 0) (getD caps (b .site) 0) (inside-is hs ys cs a ca k cb (w .code) b)
+    (λ z. w .not-upper (sym (b .coded) ∙ z ∙ upper-code hs a ca)) (λ z. w .not-lower (sym (b .coded) ∙ z)) in
+    sym (sum-ends (λ i. siteOf q (upperAt hs a ca) (lowerAt hs k cb) (getD ys i 0) (getD cs i 0) (getD caps i 0)) (b .site) (length ys) (sumTo none (λ i. siteOf q (upperAt hs a ca) (lowerAt hs k cb) (getD ys i 0) (getD cs i 0) (getD caps i 0)) (b .site)) none refl e (omega arith) (b .there))
+
+-- ---- the sites that can lie in a strip
+
+pub among : (hs ys : List ℕ) (a ca k cb start end : ℕ) → Starts hs ys a start → Ends hs ys k end → Among (upperAt hs a ca) (lowerAt hs k cb) ys start end
+unfolding insideOf
+among hs ys zero ca k cb start end s e =
+    record {
+      few-before = s .few;
+      few = e .few;
+      before = λ i l. absurd (let z = s .some i l in omega arith);
+      after = λ i l u. rw (lt-leb (length hs) k (e .some i l u), le-ltb (getD ys i 0) (getD hs k 0) (e .lower i l u));
+    }
+among hs ys (suc j) ca k cb start end s e =
+    let p : suc j - 1 ≡ j = omega arith in
+    record {
+      few-before = s .few;
+      few = e .few;
+      before = λ i l. let z : getD ys i 0 < getD hs j 0 = rw p at (s .higher i l) in rw (lt-leb (getD hs j 0) (getD ys i 0) z);
+      after = λ i l u. by-test (leb (getD hs j 0) (getD ys i 0)) (λ t. rw (t, lt-leb (length hs) k (e .some i l u), le-ltb (getD ys i 0) (getD hs k 0) (e .lower i l u))) (λ t. rw t);
+    }
+
+pub site-out : (q : Measures) (above below : Label) (y c cap : ℕ) → insideOf above below y ≡ false → siteOf q above below y c cap ≡ 0
+unfolding siteOf
+site-out q above below y c cap e = rw e
+
+-- terms that are 0, at a sum's start and at its end
+pub sum-before : (f : ℕ → ℕ) (n : ℕ) → ((i : ℕ) → i < n → f i ≡ 0) → 0 ≡ sumTo none f n
+unfolding sumTo plus
+sum-before f zero h = refl
+sum-before f (suc n) h = let z = sum-before f n (λ i l. h i (omega arith)) in let t = h n (omega arith) in omega arith
+
+pub sum-after : (f : ℕ → ℕ) (i n : ℕ) → i ≤ n → ((j : ℕ) → i ≤ j → j < n → f j ≡ 0) → sumTo none f i ≡ sumTo none f n
+unfolding sumTo plus
+sum-after f i zero l h = let e : i ≡ 0 = omega arith in rw e
+sum-after f i (suc n) l h =
+    by-equal i (suc n)
+    (λ e. rw e)
+    (λ u.
+    let z = sum-after f i n (omega (arith, u)) (λ j p r. h j p (omega arith)) in
+    let t = h n (omega (arith, u)) (omega arith) in
+    let b = sum-le none f n in
+    omega arith)
+
+-- ---- marks, slot by slot
+
+pub marks-none : (hs ys cs bands ends : List ℕ) → Marks hs ys cs bands ends 0
+marks-none hs ys cs bands ends = record { codes = λ k l. absurd (omega arith); last = λ k l. absurd (omega arith) }
+
+pub marks-more : (hs ys cs bands ends : List ℕ) (n codes end : ℕ) → n < length bands → n < length ends →
+    Codes hs ys cs n n codes → Ends hs ys n end → Marks hs ys cs bands ends n → Marks hs ys cs (set bands n codes) (set ends n end) (n + 1)
+marks-more hs ys cs bands ends n codes end h l c e m =
+    record {
+      codes = λ k u. by-equal k n
+          (λ z. rw (z, getD-set-same bands n codes 0 h) c)
+          (λ z. rw (getD-set-other bands n k codes 0 z) (m .codes k (omega (arith, z))));
+      last = λ k u. by-equal k n
+          (λ z. rw (z, getD-set-same ends n end 0 l) e)
+          (λ z. rw (getD-set-other ends n k end 0 z) (m .last k (omega (arith, z))));
+    }
+
+-- a band's codes seen
+pub barred-more : (hs ys cs bands ends : List ℕ) → ((j k : ℕ) → j < k → k < length hs → getD hs j 0 < getD hs k 0) → Marks hs ys cs bands ends (length hs) →
+    (a ca k other new codes : ℕ) → a ≤ k → k < length hs → codes ≡ getD bands k 0 → (k < length hs → Barred hs ys cs a ca k other) →
+    ((hs ys cs : List ℕ) (a k : ℕ) → Barred hs ys cs a ca k other → Codes hs ys cs a k codes → Barred hs ys cs a ca k new) → Barred hs ys cs a ca k new
+barred-more hs ys cs bands ends rising m a ca k other new codes h l e old step =
+    step hs ys cs a k (old l) (rw e (codes-up hs ys cs rising a k (getD bands k 0) h l (m .codes k l)))
