@@ -61,7 +61,7 @@ mul-plus-of-2 c =
     let p = c .before .before .before .before .before .before .before .pre in
     let a = c .before .before .before .before .before .before .before .args in
     let l = c .before .before .before .before .loop in
-    omega (arith, p .1 .0 .1, p .0 .4, c .before .part-places .ensures .1, row-fits _ _ (a .q .budgets) _ (lower-lies _ _ (stripOf (a .p)) (pointOf (a .s)) (l .k) (p .1 .0 .0) (p .0 .3) (omega (arith, p .1 .1 .1, c .before .before .if1 .taken))))
+    omega (arith, p .1 .0 .1, p .0 .4, c .before .part-places .ensures .0, c .before .part-places .ensures .1, row-fits _ _ (a .q .budgets) _ (lower-lies _ _ (stripOf (a .p)) (pointOf (a .s)) (l .k) (p .1 .0 .0) (p .0 .3) (omega (arith, p .1 .1 .1, c .before .before .if1 .taken))), row-fits _ _ (a .q .budgets) _ (upper-lies _ _ (stripOf (a .p)) (pointOf (a .s)) (l .k) (p .1 .0 .0) (p .0 .3) (omega (arith, p .1 .1 .1, c .before .before .if1 .taken))))
 
 -- src/lib.rt:265:49
 shared-slice-read-plus-of-2 : tie.Need-shared-slice-read-plus-of-2 Inv-loop μ-loop
@@ -69,7 +69,7 @@ shared-slice-read-plus-of-2 c =
     let p = c .before .before .before .before .before .before .before .before .pre in
     let a = c .before .before .before .before .before .before .before .before .args in
     let l = c .before .before .before .before .before .loop in
-    omega (arith, p .1 .0 .1, p .0 .4, c .before .before .part-places .ensures .1, row-fits _ _ (a .q .budgets) _ (lower-lies _ _ (stripOf (a .p)) (pointOf (a .s)) (l .k) (p .1 .0 .0) (p .0 .3) (omega (arith, p .1 .1 .1, c .before .before .before .if1 .taken))))
+    omega (arith, p .1 .0 .1, p .0 .4, c .before .before .part-places .ensures .0, c .before .before .part-places .ensures .1, row-fits _ _ (a .q .budgets) _ (lower-lies _ _ (stripOf (a .p)) (pointOf (a .s)) (l .k) (p .1 .0 .0) (p .0 .3) (omega (arith, p .1 .1 .1, c .before .before .before .if1 .taken))), row-fits _ _ (a .q .budgets) _ (upper-lies _ _ (stripOf (a .p)) (pointOf (a .s)) (l .k) (p .1 .0 .0) (p .0 .3) (omega (arith, p .1 .1 .1, c .before .before .before .if1 .taken))))
 
 -- src/lib.rt:265:13
 plus-of-requires : tie.Need-plus-of-requires Inv-loop μ-loop
