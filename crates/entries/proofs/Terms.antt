@@ -35,12 +35,6 @@ window-shut q hs bs p s w f k a b (inr h) = f .leaves k a b ∙ rw (le-ltb k (w 
     and-false false = refl
 
 module _ (q : Measures) (hs bs parts counts left : List ℕ) where
-  -- a slot too near an end of the strip
-  pub slot-closed : (row : Strip → ℕ → ℕ) (p : Strip) (s : Point) (k v old : ℕ) → old ≤ topWord → gapLeft (instanceOn q hs bs) p s k ≡ false
-      → old ≡ min old (slotTerm q hs bs parts counts left row p s k v)
-  unfolding slotTerm
-  slot-closed row p s k v old h g = rw g (omega arith)
-
   -- a slot that leaves the gap, and a part that is none
   pub slot-none : (work : List ℕ) (low : ℕ) (p : Strip) (s : Point) (k v old upper lower : ℕ) (a b : Bool) → old ≤ topWord → gapLeft (instanceOn q hs bs) p s k ≡ true
       → upper ≡ low + rowOf (length hs) (q .colours) (upperPart p s k) * q .budgets → lower ≡ low + rowOf (length hs) (q .colours) (lowerPart p s k) * q .budgets
