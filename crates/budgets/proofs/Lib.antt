@@ -1,3 +1,2 @@
 pub mod Sharing
 mod Lists
-mod Bits

@@ -1,8 +1,8 @@
 -- How the lists grow, number by number and row by row. Assumes nothing.
-use mathlib.Core.Path.{_≡_, refl, sym, ap, ap₂, _∙_}
-use mathlib.Core.Bool.{Bool, true, false, cond, _&&_}
-use mathlib.Core.List.{List, [], _∷_}
-use Prim.Native.Nat.{ℕ, zero, suc, _+_, _*_, _-_, _/_, _%_, _<_, _≤_, min}
+use mathlib.Core.Path.{_≡_, refl, _∙_}
+use mathlib.Core.Bool.{true, false, cond, _&&_}
+use mathlib.Core.List.{List}
+use Prim.Native.Nat.{ℕ, _+_, _*_, _/_, _%_, _<_, _≤_, min}
 use native.Mathlib.Omega.{arith}
 use native.Mathlib.Numerals.{add-one}
 use lib.Dec.{leb}
@@ -13,7 +13,7 @@ use Rattle.search.specs.Cost.{plus, least}
 use Rattle.search.proofs.Cost.{least-le-top}
 use Rattle.search.specs.Radix.{below}
 use Rattle.optimum.specs.OneSided.{topWord}
-use Rattle.budgets.specs.Budgets.{Others, Listed, Within, Splits, partAt}
+use Rattle.budgets.specs.Budgets.{Others, Listed, Splits, partAt}
 
 pub below-step : (rs : List ℕ) (i a b : ℕ) → i < length rs
     → below (drop i rs) a b ≡ leb (a % getD rs i 0) (b % getD rs i 0) && below (drop (i + 1) rs) (a / getD rs i 0) (b / getD rs i 0)

@@ -1,10 +1,8 @@
 -- What may be taken from each budget, in a list with 64 places for each, and the least cost of sharing a budget by that list. Definitions.
 use mathlib.Core.Path.{_≡_}
-use mathlib.Core.Logic.{_⊎_}
-use mathlib.Core.Bool.{Bool, true, false, cond}
-use mathlib.Core.List.{List, [], _∷_}
-use Prim.Native.Nat.{ℕ, zero, suc, _+_, _*_, _-_, _/_, _%_, _^_, _<_, _≤_}
-use lib.Dec.{eqb}
+use mathlib.Core.Bool.{true, cond}
+use mathlib.Core.List.{List}
+use Prim.Native.Nat.{ℕ, _+_, _*_, _-_, _<_, _≤_}
 use lib.ListN.{length, getD}
 use Rattle.search.specs.Cost.{plus, least}
 use Rattle.search.specs.Radix.{below}
@@ -49,7 +47,3 @@ shareBy parts counts f g u = least topWord (getD counts u 0) (λ i. plus topWord
 -- what a draw leaves of the budget v; 255 where it may not be drawn
 abbrev pub leftBy : (rs : List ℕ) → (draw v : ℕ) → ℕ
 leftBy rs e v = cond (below rs e v) (v - e) 255
-
--- bit w of a mask
-abbrev pub bitOf : (mask w : ℕ) → Bool
-bitOf mask w = eqb (mask / 2 ^ w % 2) 1

@@ -1,10 +1,10 @@
 // Budgets: which may be taken from which, listed once so that no loop over budgets divides, and the least cost of sharing one.
 ghost use mathlib.Core.Path.{_≡_};
 ghost use mathlib.Core.Bool.{cond};
-ghost use Prim.Native.Nat.{ℕ, suc, _+_, _-_, _*_, _<_, _≤_, min};
+ghost use Prim.Native.Nat.{ℕ, _+_, _-_, _*_, _<_, _≤_, min};
 ghost use lib.ListN.{length, getD};
-ghost use Rattle.search.specs.Radix.{below};
-ghost use Rattle.budgets.specs.Budgets.{Divides, Listed, Others, Splits, Within, shareBy, bitOf, leftBy};
+ghost use Rattle.search.specs.Radix.{below, maskOf};
+ghost use Rattle.budgets.specs.Budgets.{Divides, Listed, Others, Splits, Within, shareBy, leftBy};
 
 // w may be taken from the budget v.
 pub fn is_below(radices: &[u32], w: u32, v: u32) -> bool
@@ -26,6 +26,30 @@ pub fn is_below(radices: &[u32], w: u32, v: u32) -> bool
     a <= b
 }
 
+fn bit_of(t: bool) -> u64
+    ensures { λ r. ⌜ r ≡ cond t 1 0 ⌝ }
+{
+    if t {
+        return 1;
+    }
+    0
+}
+
+// The budgets that may be taken from v, as bits.
+fn mask_below(radices: &[u32], v: u32) -> u64
+    requires { ⌜ Divides (now radices) ⌝ }
+    requires { ⌜ v < 64 ⌝ }
+    ensures { λ r. ⌜ r ≡ maskOf (now (radices .entry)) v ⌝ }
+{
+    let mut mask: u64 = 0;
+    let mut w = v + 1;
+    while 0 < w {
+        w -= 1;
+        mask = mask * 2 + bit_of(is_below(radices, w, v));
+    }
+    mask
+}
+
 fn counted(n: u8, one_more: bool) -> u8
     requires { ⌜ n < 64 ⌝ }
     ensures { λ r. ⌜ r ≡ cond «one_more» (n + 1) n ⌝ }
@@ -44,11 +68,13 @@ fn list_below(radices: &[u32], v: usize, parts: &mut [u8]) -> u8
     ensures { λ r. ⌜ Others (now (parts .entry)) (now (parts .exit)) (v * 64) 64 ⌝ }
 {
     let base = v * 64;
+    let mut mask = mask_below(radices, v as u32);
     let mut count: u8 = 0;
     let mut w: u8 = 0;
     while (w as usize) <= v {
         parts[base + count as usize] = w;
-        count = counted(count, is_below(radices, w as u32, v as u32));
+        count = counted(count, mask % 2 == 1);
+        mask = mask / 2;
         w += 1;
     }
     count
@@ -103,43 +129,6 @@ pub fn least_share(
         i += 1;
     }
     best as u32
-}
-
-fn bit_of(t: bool) -> u64
-    ensures { λ r. ⌜ r ≡ cond t 1 0 ⌝ }
-{
-    if t {
-        return 1;
-    }
-    0
-}
-
-// The budgets that may be taken from v, as bits.
-fn mask_below(radices: &[u32], v: u32) -> u64
-    requires { ⌜ Divides (now radices) ⌝ }
-    requires { ⌜ v < 64 ⌝ }
-    ensures { λ r. ⌜ ((w : ℕ) → bitOf r w ≡ below (now (radices .entry)) w v) ⌝ }
-{
-    let mut mask: u64 = 0;
-    let mut w = v + 1;
-    while 0 < w {
-        w -= 1;
-        mask = mask * 2 + bit_of(is_below(radices, w, v));
-    }
-    mask
-}
-
-// Such a mask for each budget below P.
-pub fn list_masks(radices: &[u32], budgets: usize, masks: &mut [u64])
-    requires { ⌜ Divides (now radices) ⌝ }
-    requires { ⌜ (budgets ≤ 64) × (budgets ≤ length (now masks)) ⌝ }
-    ensures { λ _. ⌜ ((v w : ℕ) → v < budgets → bitOf (getD (now (masks .exit)) v 0) w ≡ below (now (radices .entry)) w v) ⌝ }
-{
-    let mut v: usize = 0;
-    while v < budgets {
-        masks[v] = mask_below(radices, v as u32);
-        v += 1;
-    }
 }
 
 // What a draw leaves of the budget v; 255 if it may not be drawn.

@@ -1,5 +1,5 @@
 -- Laws of budgets in mixed radix: the digits' order is a way to share; a digit of what is left; the mask of what may be taken.
-use mathlib.Core.Path.{_≡_, refl, ap, _∙_}
+use mathlib.Core.Path.{_≡_, refl, ap, ap₂, _∙_}
 use mathlib.Core.Bool.{Bool, true, false, cond}
 use mathlib.Core.List.{List, [], _∷_}
 use Prim.Native.Nat.{ℕ, zero, suc, _+_, _-_, _*_, _/_, _%_, _^_, _≤_, _<_}
@@ -12,7 +12,7 @@ use borrow.Author.Tests.{leb-true, le-leb, eq-eqb, ne-eqb}
 use Rattle.lists.proofs.Tests.{and-both, and-of, is-false}
 use Rattle.search.specs.Cost.{plus}
 use Rattle.search.specs.Share.{Sharing, conv}
-use Rattle.search.specs.Radix.{below, digitOf, bitOf, maskBy, maskOf, convMasked}
+use Rattle.search.specs.Radix.{below, digitOf, bitOf, maskBy, maskFrom, maskOf, convMasked}
 use Rattle.search.proofs.Cost.{least-cong}
 
 -- the digits, one by one
@@ -108,14 +108,15 @@ digit-sub (r ∷ rs) (suc c) w v h =
 
 -- ---- the mask of a budget
 
-half : (m b : ℕ) → b < 2 → (m * 2 + b) / 2 ≡ m
-half m b h = omega arith
+half : (m : ℕ) (t : Bool) → (m * 2 + cond t 1 0) / 2 ≡ m
+half m true = omega arith
+half m false = omega arith
 
 low-bit : (m : ℕ) (t : Bool) → eqb ((m * 2 + cond t 1 0) % 2) 1 ≡ t
 low-bit m true = let e : (m * 2 + 1) % 2 ≡ 1 = omega arith in eq-eqb _ _ e
 low-bit m false = ne-eqb _ _ (λ (e : (m * 2 + 0) % 2 ≡ 1). omega arith)
 
-bit-small : (t : Bool) → cond t 1 0 < 2
+pub bit-small : (t : Bool) → cond t 1 0 < 2
 bit-small true = omega arith
 bit-small false = omega arith
 
@@ -125,7 +126,7 @@ unfolding maskBy
 bits-by t zero w h = rw (zero-div (2 ^ w), h w (omega arith))
 bits-by t (suc n) zero h = rw (pow-zero, div-one) (low-bit _ (t 0))
 bits-by t (suc n) (suc w) h =
-    rw (pow-succ', ← (div-div-eq-div-mul (maskBy (λ k. t (suc k)) n * 2 + cond (t 0) 1 0) 2 (2 ^ w)), half (maskBy (λ k. t (suc k)) n) _ (bit-small (t 0)))
+    rw (pow-succ', ← (div-div-eq-div-mul (maskBy (λ k. t (suc k)) n * 2 + cond (t 0) 1 0) 2 (2 ^ w)), half (maskBy (λ k. t (suc k)) n) (t 0))
     (bits-by (λ k. t (suc k)) n w (λ k l. h (suc k) (omega arith)))
 
 mask-small : (t : ℕ → Bool) (n : ℕ) → maskBy t n < 2 ^ n
@@ -138,10 +139,44 @@ pub mask-bit : (rs : List ℕ) (v w : ℕ) → bitOf (maskOf rs v) w ≡ below r
 unfolding maskOf
 mask-bit rs v w = bits-by (λ k. below rs k v) (suc v) w (λ k l. is-false (below rs k v) (λ e. omega (arith, fits rs k v e)))
 
--- the mask of a budget below 64 is a word of 64 bits: an end in itself, for code that holds it
-pub mask-word : (rs : List ℕ) (v : ℕ) → v < 64 → maskOf rs v < 18446744073709551616
-unfolding maskOf
-mask-word rs v h = let p : 2 ^ suc v ≤ 2 ^ 64 = pow-mono {i = suc v} {j = 64} (omega arith) in omega (arith, mask-small (λ k. below rs k v) (suc v))
+-- tests that say the same give the same mask
+mask-cong : (s t : ℕ → Bool) (n : ℕ) → ((k : ℕ) → s k ≡ t k) → maskBy s n ≡ maskBy t n
+unfolding maskBy
+mask-cong s t zero h = refl
+mask-cong s t (suc n) h = ap₂ (λ (m : ℕ) (b : Bool). m * 2 + cond b 1 0) (mask-cong (λ k. s (suc k)) (λ k. t (suc k)) n (λ k. h (suc k))) (h 0)
+
+-- the mask of v without its lowest w bits: nothing is left of it past v, its lowest bit is that of w, all of it is the mask
+pub mask-none : (rs : List ℕ) (v : ℕ) → 0 ≡ maskFrom rs v (v + 1)
+unfolding maskFrom maskBy
+mask-none rs v = let e : v + 1 - (v + 1) ≡ 0 = omega arith in rw e refl
+
+pub mask-more : (rs : List ℕ) (v w : ℕ) → w ≤ v → maskFrom rs v (w + 1) * 2 + cond (below rs w v) 1 0 ≡ maskFrom rs v w
+unfolding maskFrom maskBy
+mask-more rs v w h =
+    let e : v + 1 - w ≡ suc (v + 1 - (w + 1)) = omega arith in
+    rw e
+    (ap₂ (λ (m : ℕ) (b : Bool). m * 2 + cond b 1 0)
+    (mask-cong _ _ (v + 1 - (w + 1)) (λ k. ap (λ (z : ℕ). below rs z v) (omega arith)))
+    (ap (λ (z : ℕ). below rs z v) (omega arith)))
+
+pub mask-low : (rs : List ℕ) (v w : ℕ) → w ≤ v → eqb (maskFrom rs v w % 2) 1 ≡ below rs w v
+mask-low rs v w h = rw (← (mask-more rs v w h)) (low-bit (maskFrom rs v (w + 1)) (below rs w v))
+
+pub mask-half : (rs : List ℕ) (v w : ℕ) → w ≤ v → maskFrom rs v w / 2 ≡ maskFrom rs v (w + 1)
+mask-half rs v w h = rw (← (mask-more rs v w h)) (half (maskFrom rs v (w + 1)) (below rs w v))
+
+pub mask-all : (rs : List ℕ) (v : ℕ) → maskFrom rs v 0 ≡ maskOf rs v
+unfolding maskFrom maskOf
+mask-all rs v =
+    let e : v + 1 - 0 ≡ suc v = omega arith in
+    rw e (mask-cong _ _ (suc v) (λ k. ap (λ (z : ℕ). below rs z v) (omega arith)))
+
+-- of a budget below 64 it is a word of 64 bits
+pub mask-word : (rs : List ℕ) (v w : ℕ) → v < 64 → maskFrom rs v w < 18446744073709551616
+unfolding maskFrom
+mask-word rs v w h =
+    let p : 2 ^ (v + 1 - w) ≤ 2 ^ 64 = pow-mono {i = v + 1 - w} {j = 64} (omega arith) in
+    omega (arith, mask-small (λ i. below rs (w + i) v) (v + 1 - w))
 
 -- SHARING by the mask is sharing
 pub conv-masked : (top : ℕ) (rs : List ℕ) (f g : ℕ → ℕ) (v : ℕ) → convMasked top (maskOf rs v) f g v ≡ conv top (below rs) f g v

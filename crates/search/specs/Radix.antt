@@ -32,6 +32,10 @@ unfoldable pub maskBy : (ℕ → Bool) → (count : ℕ) → ℕ
 maskBy t zero = 0
 maskBy t (suc n) = maskBy (λ w. t (suc w)) n * 2 + cond (t 0) 1 0
 
+-- the bits from w on of the mask of the budget v
+unfoldable pub maskFrom : (radices : List ℕ) → (v w : ℕ) → ℕ
+maskFrom rs v w = maskBy (λ i. below rs (w + i) v) (v + 1 - w)
+
 -- the mask of the budget v: bit w says that w may be taken from it
 unfoldable pub maskOf : (radices : List ℕ) → (v : ℕ) → ℕ
 maskOf rs v = maskBy (λ w. below rs w v) (suc v)

@@ -2,13 +2,13 @@
 // Each is the model's definition for the instance of these arrays.
 ghost use mathlib.Core.Path.{_≡_};
 ghost use mathlib.Core.Bool.{_&&_, _||_};
-ghost use Prim.Native.Nat.{ℕ, _+_, _-_, _<_, _≤_};
+ghost use Prim.Native.Nat.{ℕ, _+_, _-_, _<_};
 ghost use lib.Dec.{ltb};
 ghost use lib.ListN.{length, getD};
-ghost use Rattle.labelling.specs.Layout.{apart};
 ghost use Rattle.optimum.specs.Strips as model;
 ghost use Rattle.strips.specs.Strips.{instanceOn, stripOf, pointOf, Measured, Small, gapLeft, FirstFar, FarEnd, WindowOf, siteOpens, wordBy, openCost, joinCost};
 use arrays::Measures;
+use drops::apart_of;
 use words::NONE;
 use words::at_most;
 use words::both;
@@ -37,16 +37,6 @@ pub struct Site {
 pub struct Window {
     pub from: u32,
     pub to: u32,
-}
-
-// A site's share of the length, by the height of its slot and its own.
-pub fn share_of(height: u32, y: u32) -> u32
-    ensures { λ r. ⌜ r ≡ apart height y ⌝ }
-{
-    if height < y {
-        return y - height;
-    }
-    height - y
 }
 
 // The edge or label a stands above the height y or at it.
@@ -93,7 +83,7 @@ fn is_far(q: Measures, heights: &[u32], bounds: &[u32], j: u32, e: u32, k: u32, 
     if heights.len() <= i as usize {
         return true;
     }
-    at_most(q.gap, share_of(get(heights, i), get(heights, k)))
+    at_most(q.gap, apart_of(get(heights, i), get(heights, k)))
 }
 
 // The edge or label j is clear of the height y.
@@ -107,7 +97,7 @@ fn is_clear(q: Measures, heights: &[u32], bounds: &[u32], j: u32, y: u32) -> boo
     if heights.len() <= i as usize {
         return true;
     }
-    at_most(q.gap, share_of(get(heights, i), y))
+    at_most(q.gap, apart_of(get(heights, i), y))
 }
 
 // Both ends of the strip let a label of the site's colour be at slot k.
@@ -244,14 +234,14 @@ pub fn open_cost(q: Measures, heights: &[u32], s: Site, k: u32) -> u32
     requires { ⌜ Measured q (now heights) (s .y) ⌝ }
     ensures { λ r. ⌜ r ≡ openCost q (now (heights .entry)) (pointOf s) k ⌝ }
 {
-    word_of(q, 1, monus(q.width, s.x) + share_of(get(heights, k), s.y))
+    word_of(q, 1, monus(q.width, s.x) + apart_of(get(heights, k), s.y))
 }
 
 pub fn join_cost(q: Measures, heights: &[u32], s: Site, k: u32) -> u32
     requires { ⌜ Measured q (now heights) (s .y) ⌝ }
     ensures { λ r. ⌜ r ≡ joinCost q (now (heights .entry)) (pointOf s) k ⌝ }
 {
-    word_of(q, 0, share_of(get(heights, k), s.y))
+    word_of(q, 0, apart_of(get(heights, k), s.y))
 }
 
 // What it costs to tie the site to slot k, NONE if that is not lawful.

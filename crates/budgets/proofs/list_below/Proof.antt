@@ -1,10 +1,12 @@
 use lib.Seq.{getD-set-same, getD-set-other}
+use Rattle.search.specs.Radix.{maskFrom}
+use Rattle.search.proofs.Radix.{mask-all, mask-low, mask-half}
 use Rattle.budgets.specs.Budgets.{Listed, Others}
 use Rattle.budgets.proofs.Lists.{listed-none, listed-next, others-none, others-set}
 use mathlib.Core.Path.{_≡_, refl, ap, sym, _∙_}
 use mathlib.Core.List.{List, [], _∷_, _++_}
 use mathlib.Core.Logic.{⊎-elim}
-use Prim.Native.Nat.{ℕ, zero, suc, _+_, _-_, _*_, _<_, _≤_}
+use Prim.Native.Nat.{ℕ, zero, suc, _+_, _-_, _*_, _/_, _<_, _≤_}
 use native.Mathlib.Omega.{arith}
 use native.Mathlib.Numerals.{add-one}
 use lib.ListN.{length, getD, take, drop, set, length-set}
@@ -15,87 +17,85 @@ use Rattle.budgets.proofs.list_below.Tie as tie
 use Rattle.budgets.proofs.list_below.Reads as reads
 use Rattle.budgets.proofs.list_below.Lts as lts
 use Rattle.budgets.proofs.counted.Reads as counted-reads
-use Rattle.budgets.proofs.is_below.Reads as is-below-reads
+use Rattle.budgets.proofs.mask_below.Reads as mask-below-reads
 
 abbrev Inv-loop : tie.InvT-loop
-Inv-loop radices v parts₀ base count₀ w₀ parts count w = (length parts ≡ 4096) × (w ≤ v + 1) × Listed radices v w count (λ i. getD parts (v * 64 + i) 0) × Others parts₀ parts (v * 64) 64
+Inv-loop radices v parts₀ base mask₀ count₀ w₀ parts mask count w = (length parts ≡ 4096) × (w ≤ v + 1) × (mask ≡ maskFrom radices v w) × Listed radices v w count (λ i. getD parts (v * 64 + i) 0) × Others parts₀ parts (v * 64) 64
 
 abbrev μ-loop : tie.MeasureT-loop
-μ-loop radices v parts₀ base count₀ w₀ parts count w = v + 1 - w
+μ-loop radices v parts₀ base mask₀ count₀ w₀ parts mask count w = v + 1 - w
 
--- src/lib.rt:46:16
+-- src/lib.rt:70:16
 mul-base : tie.Need-mul-base Inv-loop μ-loop
 mul-base c = search needs
 
--- src/lib.rt:49:5
+-- src/lib.rt:71:40
+cast-mask-below : tie.Need-cast-mask-below Inv-loop μ-loop
+cast-mask-below c = search needs
+
+-- src/lib.rt:71:9
+mask-below-requires : tie.Need-mask-below-requires Inv-loop μ-loop
+mask-below-requires c κs = search needs
+
+-- src/lib.rt:74:5
 loop-holds : tie.Need-loop-holds Inv-loop μ-loop
 loop-holds c =
-    (c .before .before .pre .1 .1, omega arith, listed-none _ _ _, others-none _ _ _)
+    (c .before .before .before .pre .1 .1, omega arith, c .mask-below .ensures ∙ sym (mask-all _ _), listed-none _ _ _, others-none _ _ _)
 
--- src/lib.rt:49:12
+-- src/lib.rt:74:12
 cast-loop : tie.Need-cast-loop Inv-loop μ-loop
 cast-loop c = search needs
 
--- src/lib.rt:50:22
+-- src/lib.rt:75:22
 cast-parts : tie.Need-cast-parts Inv-loop μ-loop
 cast-parts c = search needs
 
--- src/lib.rt:50:15
+-- src/lib.rt:75:15
 add-parts : tie.Need-add-parts Inv-loop μ-loop
 add-parts c = search needs
 
--- src/lib.rt:50:9
+-- src/lib.rt:75:9
 slice-write-parts : tie.Need-slice-write-parts Inv-loop μ-loop
 slice-write-parts c = search needs
 
--- src/lib.rt:51:50
-cast-is-below : tie.Need-cast-is-below Inv-loop μ-loop
-cast-is-below c = search needs
-
--- src/lib.rt:51:60
-cast-is-below-2 : tie.Need-cast-is-below-2 Inv-loop μ-loop
-cast-is-below-2 c = search needs
-
--- src/lib.rt:51:32
-is-below-requires : tie.Need-is-below-requires Inv-loop μ-loop
-is-below-requires c κs = search needs
-
--- src/lib.rt:51:9
+-- src/lib.rt:76:9
 counted-requires : tie.Need-counted-requires Inv-loop μ-loop
 counted-requires c κs = search needs
 
--- src/lib.rt:52:9
+-- src/lib.rt:78:9
 add-w : tie.Need-add-w Inv-loop μ-loop
 add-w c = search needs
 
--- src/lib.rt:49:5
+-- src/lib.rt:74:5
 loop-less : tie.Need-loop-less Inv-loop μ-loop
 loop-less c = search needs
 
--- src/lib.rt:49:5
+-- src/lib.rt:74:5
 loop-again : tie.Need-loop-again Inv-loop μ-loop
 loop-again c =
     let a = c .before .before .before .before .before .before .args in
-    let l = c .before .before .before .loop in
-    let n : l .count < 64 = omega (arith, l .inv .2 .few) in
-    let x = a .v * 64 + l .count in (
+    let l = c .before .before .loop in
+    let n : l .count < 64 = omega (arith, l .inv .3 .few) in
+    let x = a .v * 64 + l .count in
+    let m = l .inv .2 in (
       simp length-set (l .inv .0),
       omega arith,
-      rw (c .counted .ensures, c .before .is-below .ensures)
-          (listed-next (a .radices .now) (a .v) (l .w) (l .count) _ _ (λ i h. getD-set-other (l .parts) x (a .v * 64 + i) (l .w) 0 (λ e. omega arith)) (getD-set-same (l .parts) x (l .w) 0 (omega (arith, l .inv .0))) (l .inv .2)),
-      others-set (a .parts .now) (l .parts) (a .v * 64) 64 (l .count) (l .w) n (l .inv .3),
+      ap (λ (z : ℕ). z / 2) m ∙ mask-half (a .radices .now) (a .v) (l .w) (omega arith),
+      rw (c .counted .ensures, m, mask-low (a .radices .now) (a .v) (l .w) (omega arith))
+          (listed-next (a .radices .now) (a .v) (l .w) (l .count) _ _ (λ i h. getD-set-other (l .parts) x (a .v * 64 + i) (l .w) 0 (λ e. omega arith)) (getD-set-same (l .parts) x (l .w) 0 (omega (arith, l .inv .0))) (l .inv .3)),
+      others-set (a .parts .now) (l .parts) (a .v * 64) 64 (l .count) (l .w) n (l .inv .4),
     )
 
--- src/lib.rt:40:1
+-- src/lib.rt:64:1
 same-length : tie.Need-same-length Inv-loop μ-loop
 same-length c = search needs
 
--- src/lib.rt:40:1
+-- src/lib.rt:64:1
 returns : tie.Need-returns Inv-loop μ-loop
 returns c =
     let l = c .before .loop in
-    let e : l .w ≡ c .before .before .before .before .args .v + 1 = omega arith in
-    (rw e at (l .inv .2), l .inv .3)
+    let e : l .w ≡ c .before .before .before .before .before .args .v + 1 = omega arith in
+    (rw e at (l .inv .3), l .inv .4)
 
 pub list-below-spec : {M : Type 1} → statement M
 list-below-spec =
@@ -104,14 +104,13 @@ list-below-spec =
     Inv-loop
     μ-loop
     mul-base
+    cast-mask-below
+    mask-below-requires
     loop-holds
     cast-loop
     cast-parts
     add-parts
     slice-write-parts
-    cast-is-below
-    cast-is-below-2
-    is-below-requires
     counted-requires
     add-w
     loop-less

@@ -1,4 +1,6 @@
-use Rattle.budgets.proofs.Bits.{Masked, masked-none, masked-more, masked-fits, masked-all, bit-low}
+use Rattle.search.specs.Radix.{below, maskFrom}
+use Rattle.search.proofs.Radix.{bit-small, mask-none, mask-more, mask-all, mask-word}
+use mathlib.Core.Bool.{cond}
 use mathlib.Core.Path.{_≡_, refl, ap, sym, _∙_}
 use mathlib.Core.List.{List, [], _∷_, _++_}
 use mathlib.Core.Logic.{⊎-elim}
@@ -16,18 +18,26 @@ use Rattle.budgets.proofs.bit_of.Reads as bit-of-reads
 use Rattle.budgets.proofs.is_below.Reads as is-below-reads
 
 abbrev Inv-loop : tie.InvT-loop
-Inv-loop radices v mask₀ w₀ mask w = (w ≤ v + 1) × Masked radices v w mask
+Inv-loop radices v mask₀ w₀ mask w = (w ≤ v + 1) × (mask ≡ maskFrom radices v w)
 
 abbrev μ-loop : tie.MeasureT-loop
 μ-loop radices v mask₀ w₀ mask w = w
 
--- there is room for one bit more
-fits : (c : tie.In-loop Inv-loop μ-loop) → c .before .loop .mask < 9223372036854775808
-fits c =
+-- the mask with one bit more, and that there is room for it
+abbrev next : (c : tie.In-loop Inv-loop μ-loop) → ℕ
+next c = c .before .loop .mask * 2 + cond (below (c .before .before .before .args .radices .now) (c .before .loop .w - 1) (c .before .before .before .args .v)) 1 0
+
+more : (c : tie.In-loop Inv-loop μ-loop) → next c ≡ maskFrom (c .before .before .before .args .radices .now) (c .before .before .before .args .v) (c .before .loop .w - 1)
+more c =
     let l = c .before .loop in
     let a = c .before .before .before .args in
     let e : l .w ≡ l .w - 1 + 1 = omega arith in
-    masked-fits (a .radices .now) (a .v) (l .w - 1) (l .mask) (c .before .before .before .pre .1) (omega arith) (rw e at (l .inv .1))
+    rw (rw e at (l .inv .1)) (mask-more (a .radices .now) (a .v) (l .w - 1) (omega arith))
+
+fits : (c : tie.In-loop Inv-loop μ-loop) → next c < 18446744073709551616
+fits c =
+    let a = c .before .before .before .args in
+    omega (arith, more c, mask-word (a .radices .now) (a .v) (c .before .loop .w - 1) (c .before .before .before .pre .1))
 
 -- src/lib.rt:124:17
 add-w : tie.Need-add-w Inv-loop μ-loop
@@ -36,7 +46,7 @@ add-w c = search needs
 -- src/lib.rt:125:5
 loop-holds : tie.Need-loop-holds Inv-loop μ-loop
 loop-holds c =
-    (omega arith, masked-none _ _)
+    (omega arith, mask-none _ _)
 
 -- src/lib.rt:126:9
 sub-w : tie.Need-sub-w Inv-loop μ-loop
@@ -58,7 +68,7 @@ bit-of-requires c κs = search needs
 -- src/lib.rt:127:16
 add-mask : tie.Need-add-mask Inv-loop μ-loop
 add-mask c =
-    omega (arith, fits (c .before .before), c .bit-of .ensures, bit-low (c .before .is-below .result))
+    omega (arith, fits (c .before .before), c .bit-of .ensures, bit-small (c .before .is-below .result))
 
 -- src/lib.rt:125:5
 loop-less : tie.Need-loop-less Inv-loop μ-loop
@@ -67,19 +77,14 @@ loop-less c = search needs
 -- src/lib.rt:125:5
 loop-again : tie.Need-loop-again Inv-loop μ-loop
 loop-again c =
-    let l = c .before .before .before .loop in
-    let a = c .before .before .before .before .before .args in
-    let e : l .w ≡ l .w - 1 + 1 = omega arith in (
-      omega arith,
-      rw (c .bit-of .ensures, c .before .is-below .ensures) (masked-more (a .radices .now) (a .v) (l .w - 1) (l .mask) (omega arith) (rw e at (l .inv .1))),
-    )
+    (omega arith, rw (c .bit-of .ensures, c .before .is-below .ensures) (more (c .before .before)))
 
 -- src/lib.rt:118:1
 returns : tie.Need-returns Inv-loop μ-loop
 returns c =
     let l = c .before .loop in
     let e : l .w ≡ 0 = omega arith in
-    masked-all _ _ _ (rw e at (l .inv .1))
+    (rw e at (l .inv .1)) ∙ mask-all _ _
 
 pub mask-below-spec : {M : Type 1} → statement M
 mask-below-spec =

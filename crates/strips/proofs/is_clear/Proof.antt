@@ -12,7 +12,7 @@ use Rattle.strips.proofs.is_clear.Statement.{statement}
 use Rattle.strips.proofs.is_clear.Tie as tie
 use Rattle.strips.proofs.is_clear.Reads as reads
 use Rattle.strips.proofs.is_clear.Lts as lts
-use Rattle.strips.proofs.share_of.Reads as share-of-reads
+use Rattle.drops.proofs.apart_of.Reads as apart-of-reads
 use Rattle.words.proofs.at_most.Reads as at-most-reads
 use Rattle.words.proofs.get.Reads as get-reads
 
@@ -39,8 +39,8 @@ get-requires : tie.Need-get-requires
 get-requires c κs = search needs
 
 -- src/lib.rt:92:20
-share-of-requires : tie.Need-share-of-requires
-share-of-requires c κs = search needs
+apart-of-requires : tie.Need-apart-of-requires
+apart-of-requires c κs = search needs
 
 -- src/lib.rt:92:5
 at-most-requires : tie.Need-at-most-requires
@@ -49,7 +49,7 @@ at-most-requires c κs = search needs
 -- src/lib.rt:82:1
 returns-3 : tie.Need-returns-3
 returns-3 c =
-    c .at-most .ensures ∙ rw (c .before .share-of .ensures, c .before .before .get .ensures) (sym (clear-label _ _ _ (omega arith) (omega arith)))
+    c .at-most .ensures ∙ rw (c .before .apart-of .ensures, c .before .before .get .ensures) (sym (clear-label _ _ _ (omega arith) (omega arith)))
 
 pub is-clear-spec : {M : Type 1} → statement M
 is-clear-spec =
@@ -60,6 +60,6 @@ is-clear-spec =
     cast-if2
     returns-2
     get-requires
-    share-of-requires
+    apart-of-requires
     at-most-requires
     returns-3)

@@ -12,7 +12,7 @@ use Rattle.strips.proofs.is_far.Statement.{statement}
 use Rattle.strips.proofs.is_far.Tie as tie
 use Rattle.strips.proofs.is_far.Reads as reads
 use Rattle.strips.proofs.is_far.Lts as lts
-use Rattle.strips.proofs.share_of.Reads as share-of-reads
+use Rattle.drops.proofs.apart_of.Reads as apart-of-reads
 use Rattle.words.proofs.at_most.Reads as at-most-reads
 use Rattle.words.proofs.get.Reads as get-reads
 
@@ -43,8 +43,8 @@ get-requires-2 : tie.Need-get-requires-2
 get-requires-2 c κs = search needs
 
 -- src/lib.rt:78:20
-share-of-requires : tie.Need-share-of-requires
-share-of-requires c κs = search needs
+apart-of-requires : tie.Need-apart-of-requires
+apart-of-requires c κs = search needs
 
 -- src/lib.rt:78:5
 at-most-requires : tie.Need-at-most-requires
@@ -53,7 +53,7 @@ at-most-requires c κs = search needs
 -- src/lib.rt:68:1
 returns-3 : tie.Need-returns-3
 returns-3 c =
-    c .at-most .ensures ∙ rw (c .before .share-of .ensures, c .before .before .get2 .ensures, c .before .before .before .get .ensures) (sym (far-label _ _ _ _ _ (omega arith) (omega arith)))
+    c .at-most .ensures ∙ rw (c .before .apart-of .ensures, c .before .before .get2 .ensures, c .before .before .before .get .ensures) (sym (far-label _ _ _ _ _ (omega arith) (omega arith)))
 
 pub is-far-spec : {M : Type 1} → statement M
 is-far-spec =
@@ -65,6 +65,6 @@ is-far-spec =
     returns-2
     get-requires
     get-requires-2
-    share-of-requires
+    apart-of-requires
     at-most-requires
     returns-3)

@@ -11,7 +11,7 @@ use Rattle.strips.proofs.join_cost.Statement.{statement}
 use Rattle.strips.proofs.join_cost.Tie as tie
 use Rattle.strips.proofs.join_cost.Reads as reads
 use Rattle.strips.proofs.join_cost.Lts as lts
-use Rattle.strips.proofs.share_of.Reads as share-of-reads
+use Rattle.drops.proofs.apart_of.Reads as apart-of-reads
 use Rattle.strips.proofs.word_of.Reads as word-of-reads
 use Rattle.words.proofs.get.Reads as get-reads
 
@@ -20,8 +20,8 @@ get-requires : tie.Need-get-requires
 get-requires c κs = search needs
 
 -- src/lib.rt:181:19
-share-of-requires : tie.Need-share-of-requires
-share-of-requires c κs = search needs
+apart-of-requires : tie.Need-apart-of-requires
+apart-of-requires c κs = search needs
 
 -- src/lib.rt:181:5
 word-of-requires : tie.Need-word-of-requires
@@ -31,7 +31,7 @@ word-of-requires c κs =
 -- src/lib.rt:177:1
 returns : tie.Need-returns
 returns c =
-    c .word-of .ensures ∙ rw (c .before .share-of .ensures, c .before .before .get .ensures)
+    c .word-of .ensures ∙ rw (c .before .apart-of .ensures, c .before .before .get .ensures)
 
 pub join-cost-spec : {M : Type 1} → statement M
-join-cost-spec = tie.close (tie.spec get-requires share-of-requires word-of-requires returns)
+join-cost-spec = tie.close (tie.spec get-requires apart-of-requires word-of-requires returns)

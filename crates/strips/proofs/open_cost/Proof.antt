@@ -11,7 +11,7 @@ use Rattle.strips.proofs.open_cost.Statement.{statement}
 use Rattle.strips.proofs.open_cost.Tie as tie
 use Rattle.strips.proofs.open_cost.Reads as reads
 use Rattle.strips.proofs.open_cost.Lts as lts
-use Rattle.strips.proofs.share_of.Reads as share-of-reads
+use Rattle.drops.proofs.apart_of.Reads as apart-of-reads
 use Rattle.strips.proofs.word_of.Reads as word-of-reads
 use Rattle.words.proofs.get.Reads as get-reads
 use Rattle.words.proofs.monus.Reads as monus-reads
@@ -25,8 +25,8 @@ get-requires : tie.Need-get-requires
 get-requires c κs = search needs
 
 -- src/lib.rt:174:41
-share-of-requires : tie.Need-share-of-requires
-share-of-requires c κs = search needs
+apart-of-requires : tie.Need-apart-of-requires
+apart-of-requires c κs = search needs
 
 -- src/lib.rt:174:19
 add-word-of : tie.Need-add-word-of
@@ -41,9 +41,9 @@ word-of-requires c κs =
 -- src/lib.rt:170:1
 returns : tie.Need-returns
 returns c =
-    c .word-of .ensures ∙ rw (c .before .share-of .ensures, c .before .before .get .ensures, c .before .before .before .monus .ensures)
+    c .word-of .ensures ∙ rw (c .before .apart-of .ensures, c .before .before .get .ensures, c .before .before .before .monus .ensures)
 
 pub open-cost-spec : {M : Type 1} → statement M
 open-cost-spec =
     tie.close
-    (tie.spec monus-requires get-requires share-of-requires add-word-of word-of-requires returns)
+    (tie.spec monus-requires get-requires apart-of-requires add-word-of word-of-requires returns)
