@@ -8,6 +8,7 @@ pub mod Examples
 pub mod Judge
 pub mod Kept
 pub mod LeftEnd
+pub mod Loosened
 pub mod Maker
 pub mod Members
 pub mod Order

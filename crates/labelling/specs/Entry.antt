@@ -3,9 +3,9 @@
 use mathlib.Core.Bool.{Bool, true, false, _||_, not, cond}
 use mathlib.Core.List.{List, _++_}
 use mathlib.Core.Option.{Option, none, some}
-use Prim.Native.Nat.{ℕ}
+use Prim.Native.Nat.{ℕ, _-_}
 use lib.Dec.{ltb, eqb}
-use lib.ListN.{length, drop, replicate}
+use lib.ListN.{length, take, drop, replicate}
 use Rattle.sheet.specs.Sheet.{sheetIn, sheetFault, workFor}
 use Rattle.labelling.specs.Layout.{best, answer, wordsFor}
 
@@ -31,3 +31,7 @@ makeAnswer ws k o =
 abbrev pub makeWork : (sheet work out : List ℕ) → List ℕ
 makeWork ws k o =
     cond (eqb (makeFault ws k o) 0 || eqb (makeFault ws k o) 10) (replicate (workFor (sheetIn ws)) 0 ++ drop (workFor (sheetIn ws)) k) k
+
+-- an area with its words from a place up to another zeroed
+abbrev pub zeroed : (from to : ℕ) → List ℕ → List ℕ
+zeroed a b k = take a k ++ (replicate (b - a) 0 ++ drop b k)

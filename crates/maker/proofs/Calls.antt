@@ -1,21 +1,22 @@
 -- What the maker's branches have to show, from what the reader says. Assumes nothing.
-use mathlib.Core.Path.{_≡_, refl, sym, ap, _∙_}
-use mathlib.Core.Bool.{Bool, true, false, cond, _&&_}
+use mathlib.Core.Path.{_≡_, refl, sym, ap, subst, _∙_}
+use mathlib.Core.Bool.{true, false}
 use mathlib.Core.List.{List, [], _∷_}
-use Prim.Native.Nat.{ℕ, zero, suc, _+_, _-_, _≤_, _<_}
+use Prim.Native.Nat.{ℕ, suc, _+_, _≤_, _<_}
 use native.Mathlib.Omega.{arith}
-use lib.Dec.{ltb, eqb}
 use lib.ListN.{length, getD}
 use borrow.Author.Tests.{lt-ltb, eq-eqb, ne-eqb}
 use Rattle.lists.proofs.Tests.{and-of}
 use Rattle.sheet.specs.Sheet.{bits, headIn, sheetIn, sheetFault, productOf, workFor}
-use Rattle.labelling.specs.Layout.{wordsFor}
-use Rattle.labelling.specs.Entry.{makeFault, makeWork, makeAnswer}
+use Rattle.sheet.specs.Loosened.{loosened}
+use Rattle.labelling.specs.Entry.{makeFault, makeWork, makeAnswer, zeroed}
 use Rattle.labelling.specs.Promise.{areWords, takesSheet}
-use Rattle.labelling.proofs.Maker.{Result, refused-sheet, refused-work, refused-out}
+use Rattle.labelling.proofs.Maker.{Result, Serves, refused-sheet, refused-work, refused-out}
+use Rattle.labelling.proofs.Kept.{areas-kept}
+use Rattle.labelling.proofs.Loosened.{work-less, fault-loose, area-loose, work-zeroed, takes-loose}
 use Rattle.reader.specs.declared.Sizes.{Sizes}
 use Rattle.reader.specs.Read.{readPost}
-use Rattle.reader.proofs.Reading.{Reading, reading, refusal-is}
+use Rattle.reader.proofs.Reading.{reading, refusal-is}
 
 -- a list of 32-bit numbers
 pub are-words : (ws : List ℕ) → ((i : ℕ) → getD ws i 0 < 4294967296) → areWords ws ≡ true
@@ -47,6 +48,44 @@ module _ (ws k o : List ℕ) (r : Sizes) (e : r ≡ readPost ws) where
 
   pub sizes : r .refusal ≡ 0 → (r .m ≡ length (sheetIn ws .slots)) × (r .c ≡ length (sheetIn ws .colours)) × (r .n ≡ length (sheetIn ws .sites)) × (r .p ≡ productOf (sheetIn ws .colours))
   sizes z = let g = reading ws r e z in (g .slots, g .colours, g .sites, g .product)
+
+  pub work-needed : r .refusal ≡ 0 → r .work ≡ workFor (sheetIn ws)
+  work-needed z = reading ws r e z .work
+
+-- THE LOOSENED SHEET in place of the sheet
+module _ (ws k o ls : List ℕ) (e : ls ≡ loosened ws) (t : takesSheet ws k o) where
+  pub takes-loosened : takesSheet ls k o
+  takes-loosened = subst (λ (l : List ℕ). takesSheet l k o) (sym e) (takes-loose ws k o t)
+
+  module _ (r : Sizes) (q : r ≡ readPost ls) where
+    unrefused : r .refusal ≡ 0
+    unrefused = refusal-is ls r q ∙ takes-loosened .1
+
+    pub loosened-sizes : (r .m ≡ length (sheetIn ls .slots)) × (r .c ≡ length (sheetIn ls .colours)) × (r .n ≡ length (sheetIn ls .sites)) × (r .p ≡ productOf (sheetIn ls .colours))
+    loosened-sizes = sizes ls k o r q unrefused
+
+    needs-loosened : r .work ≡ workFor (sheetIn (loosened ws))
+    needs-loosened = work-needed ls k o r q unrefused ∙ ap (λ (l : List ℕ). workFor (sheetIn l)) e
+
+    pub needs-less : (n : ℕ) (l : List ℕ) → n ≡ workFor (sheetIn ws) → l ≡ makeWork ls k o → (r .work ≤ n) × (n ≤ length l)
+    needs-less n l h y = (omega (arith, needs-loosened, work-less ws (t .1)), omega (arith, t .2, ap length y, areas-kept .1 ls k o .3))
+
+    -- the three equations of a call, from those of the call on the loosened sheet
+    pub laid : (n f : ℕ) (l m p : List ℕ) → n ≡ workFor (sheetIn ws) → f ≡ makeFault ls k o → l ≡ makeWork ls k o → p ≡ makeAnswer ls k o → m ≡ zeroed (r .work) n l →
+        (f ≡ makeFault ws k o) × ((m ≡ makeWork ws k o) × (p ≡ makeAnswer ws k o))
+    laid n f l m p h x y z c = (
+      x ∙ ap (λ (v : List ℕ). makeFault v k o) e ∙ fault-loose ws k o serves,
+      (
+        c ∙ ap₃ (needs-loosened) h (y ∙ ap (λ (v : List ℕ). makeWork v k o) e) ∙ work-zeroed ws k o serves,
+        z ∙ ap (λ (v : List ℕ). makeAnswer v k o) e ∙ area-loose ws k o serves,
+      ),
+    )
+      where
+        serves : Serves ws k o
+        serves = (t .1, t .2, t .3)
+
+        ap₃ : {a b c d : ℕ} {u v : List ℕ} → a ≡ b → c ≡ d → u ≡ v → zeroed a c u ≡ zeroed b d v
+        ap₃ x y z = rw (x, y, z) refl
 
 -- the head's side bit
 pub two-sided : (ws : List ℕ) (h b : ℕ) → h ≡ getD ws 0 0 → b ≡ bits h 27 1 → b ≡ 1 → sheetIn ws .isTwoSided ≡ true

@@ -68,7 +68,7 @@ pub fn sheet_fault(sheet: &[u32]) -> u32
 }
 
 // How many sites follow at once.
-fn sites_run(words: &[u32], from: usize) -> usize
+pub fn sites_run(words: &[u32], from: usize) -> usize
     requires { ⌜ from ≤ length (now words) ⌝ }
     ensures { λ r. ⌜ r ≡ sitesRun (drop from (now (words .entry))) ⌝ }
 {

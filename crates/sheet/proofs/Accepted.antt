@@ -7,7 +7,7 @@ use mathlib.Core.List.{List, [], _∷_}
 use Prim.Native.Nat.{ℕ, suc, _+_, _-_, _≤_, _<_}
 use native.Mathlib.Omega.{arith}
 use lib.Dec.{ltb, leb, eqb}
-use lib.ListN.{length}
+use lib.ListN.{length, length-drop}
 use borrow.Author.Tests.{ltb-true, ltb-false, leb-true, eqb-true, eqb-false, lt-ltb, eq-eqb, ne-eqb}
 use Rattle.sheet.specs.Sheet.{all, kindOf, bits, hasSpare, inOrder, Site, Sheet, slotsIn, sitesIn, coloursIn, headIn, bodyOf, sheetIn, productOf, rising, rankOf, rankTop, hasRank, ranksDiffer, isHead, countsFit, insideBy, sheetFault}
 use Rattle.lists.proofs.Tests.{by-test, and-l, and-r, and-i, or-e, not-f}
@@ -195,6 +195,25 @@ sound ws h =
       heights = slots-low (bodyOf ws);
       coloured = sites-coloured ws h;
     }
+
+-- THE WORDS of an accepted sheet: head, slots, colours and sites
+parts-length : (z c : ℕ) (ws : List ℕ) → inOrder z ws ≡ true → length ws ≡ length (slotsIn ws) + length (coloursIn ws) + length (sitesIn c ws)
+unfolding slotsIn coloursIn sitesIn
+parts-length z c [] h = refl
+parts-length z c (w ∷ ws) h = go (step z w ws h .1) (λ y d i. parts-length y d ws i)
+  where
+    go : Step z w ws → ((y d : ℕ) → inOrder y ws ≡ true → length ws ≡ length (slotsIn ws) + length (coloursIn ws) + length (sitesIn d ws)) →
+        suc (length ws) ≡ length (slotsIn (w ∷ ws)) + length (coloursIn (w ∷ ws)) + length (sitesIn c (w ∷ ws))
+    go (Step.slot e q i) f =
+        rw (eq-eqb (kindOf w) 2 e, ne-eqb (kindOf w) 3 (λ q. omega arith), ne-eqb (kindOf w) 4 (λ q. omega arith)) (omega (arith, f 0 c i))
+    go (Step.colour e i) f = rw (ne-eqb (kindOf w) 2 (λ q. omega arith), eq-eqb (kindOf w) 3 e) (omega (arith, f 1 (suc c) i))
+    go (Step.site e q i) f =
+        rw (ne-eqb (kindOf w) 2 (λ q. omega arith), ne-eqb (kindOf w) 3 (λ q. omega arith), eq-eqb (kindOf w) 4 e) (omega (arith, f 1 c i))
+
+pub few-words : (ss : List ℕ) → sheetFault ss ≡ 0 → length ss ≤ 89
+few-words ss ok =
+    let o = sound ss ok in
+    omega (arith, parts-length 0 0 (bodyOf ss) (unrefused ss ok .order), length-drop 1 ss, o .few-slots, o .few-colours, o .few-sites)
 
 pub rank-low : (s : Site) → s .x < 16384 → s .y < 16384 → rankOf s < rankTop
 unfolding rankOf

@@ -4,7 +4,7 @@ use mathlib.Core.Bool.{_&&_}
 use mathlib.Core.Path.{ap₂, _≡_, _∙_}
 use lib.Dec.{eqb}
 use Rattle.rules.proofs.Kept.{labels-counted, length-counted}
-use Rattle.judge.proofs.Parts.{few-words}
+use Rattle.sheet.proofs.Accepted.{few-words}
 use Prim.Native.Nat.{_/_, _%_}
 use native.Mathlib.Omega.{arith}
 use lib.ListN.{getD}

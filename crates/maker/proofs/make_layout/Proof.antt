@@ -1,6 +1,5 @@
-use Rattle.maker.proofs.Calls.{refused, short, narrow, takes, sizes, two-sided, one-sided}
+use Rattle.maker.proofs.Calls.{refused, short, narrow, takes, work-needed}
 use mathlib.Core.Path.{_≡_}
-use Prim.Native.Nat.{_-_}
 use native.Mathlib.Omega.{arith}
 use borrow.Author.Needs.{needs}
 use Rattle.maker.proofs.make_layout.Statement.{statement}
@@ -14,8 +13,8 @@ returns c =
     let a = c .before .before .before .before .before .args in
     refused (a .sheet .now) (a .work .now) (a .out .now) (c .before .read-sheet .result) (c .before .read-sheet .ensures) (λ (z : c .before .read-sheet .result .refusal ≡ 0). omega (arith, z, c .if1 .taken))
 
-cast-if2 : tie.Need-cast-if2
-cast-if2 c = search needs
+cast-needed : tie.Need-cast-needed
+cast-needed c = search needs
 
 returns-2 : tie.Need-returns-2
 returns-2 c =
@@ -35,31 +34,13 @@ returns-3 c =
     let r = c .before .before .before .before .before .read-sheet in
     narrow (a .sheet .now) (a .work .now) (a .out .now) (r .result) (r .ensures) (omega (arith, c .before .before .before .before .if1 .left)) (omega (arith, c .before .before .if2 .left)) (omega (arith, c .if3 .taken))
 
-cast-slots : tie.Need-cast-slots
-cast-slots c = search needs
-
-cast-colours : tie.Need-cast-colours
-cast-colours c = search needs
-
-cast-budgets : tie.Need-cast-budgets
-cast-budgets c = search needs
-
-get-requires : tie.Need-get-requires
-get-requires c κs = search needs
-
-side-bit-requires : tie.Need-side-bit-requires
-side-bit-requires c κs = search needs
-
-lay-two-sided-requires : tie.Need-lay-two-sided-requires
-lay-two-sided-requires c κs =
-    let a = c .before .before .before .before .before .before .before .before .before .before .before .before .before .before .before .before .before .args in
-    let r = c .before .before .before .before .before .before .before .before .before .before .before .before .before .read-sheet in
-    let z : r .result .refusal ≡ 0 = omega (arith, c .before .before .before .before .before .before .before .before .before .before .before .before .if1 .left) in (
-      takes (a .sheet .now) (a .work .now) (a .out .now) (r .result) (r .ensures) (λ i. omega (arith, c .before .before .before .before .before .before .before .before .before .before .before .before .before .before .before .before .shared-slice-known .given i)) z (omega (arith, c .before .before .before .before .before .before .before .before .before .before .if2 .left)) (omega (arith, c .before .before .before .before .before .before .before .before .if3 .left)),
-      (
-        two-sided (a .sheet .now) _ _ (c .before .before .before .before .get .ensures) (c .before .before .before .side-bit .ensures) (omega (arith, c .before .before .if4 .taken)),
-        sizes (a .sheet .now) (a .work .now) (a .out .now) (r .result) (r .ensures) z,
-      ),
+lay-loosened-requires : tie.Need-lay-loosened-requires
+lay-loosened-requires c κs =
+    let a = c .before .before .before .before .before .before .before .before .before .before .before .args in
+    let r = c .before .before .before .before .before .before .before .read-sheet in
+    let z : r .result .refusal ≡ 0 = omega (arith, c .before .before .before .before .before .before .if1 .left) in (
+      takes (a .sheet .now) (a .work .now) (a .out .now) (r .result) (r .ensures) (λ i. omega (arith, c .before .before .before .before .before .before .before .before .before .before .shared-slice-known .given i)) z (omega (arith, c .before .before .before .before .if2 .left)) (omega (arith, c .before .before .if3 .left)),
+      work-needed (a .sheet .now) (a .work .now) (a .out .now) (r .result) (r .ensures) z,
     )
 
 same-length : tie.Need-same-length
@@ -70,29 +51,7 @@ same-length-2 c = search needs
 
 returns-4 : tie.Need-returns-4
 returns-4 c =
-    let f = c .before .before .before .before .lay-two-sided .ensures in (f .0, (f .1 .0, f .1 .1))
-
-lay-one-sided-requires : tie.Need-lay-one-sided-requires
-lay-one-sided-requires c κs =
-    let a = c .before .before .before .before .before .before .before .before .before .before .before .before .before .before .before .before .before .args in
-    let r = c .before .before .before .before .before .before .before .before .before .before .before .before .before .read-sheet in
-    let z : r .result .refusal ≡ 0 = omega (arith, c .before .before .before .before .before .before .before .before .before .before .before .before .if1 .left) in (
-      takes (a .sheet .now) (a .work .now) (a .out .now) (r .result) (r .ensures) (λ i. omega (arith, c .before .before .before .before .before .before .before .before .before .before .before .before .before .before .before .before .shared-slice-known .given i)) z (omega (arith, c .before .before .before .before .before .before .before .before .before .before .if2 .left)) (omega (arith, c .before .before .before .before .before .before .before .before .if3 .left)),
-      (
-        one-sided (a .sheet .now) _ _ (c .before .before .before .before .get .ensures) (c .before .before .before .side-bit .ensures) (λ (y : c .before .before .before .side-bit .result ≡ 1). omega (arith, y, c .before .before .if4 .left)),
-        sizes (a .sheet .now) (a .work .now) (a .out .now) (r .result) (r .ensures) z,
-      ),
-    )
-
-same-length-3 : tie.Need-same-length-3
-same-length-3 c = search needs
-
-same-length-4 : tie.Need-same-length-4
-same-length-4 c = search needs
-
-returns-5 : tie.Need-returns-5
-returns-5 c =
-    let f = c .before .before .before .before .lay-one-sided .ensures in (f .0, (f .1 .0, f .1 .1))
+    let f = c .before .before .before .before .lay-loosened .ensures in (f .0, (f .1 .0, f .1 .1))
 
 pub make-layout-spec : {M : Type 1} → statement M
 make-layout-spec =
@@ -100,21 +59,12 @@ make-layout-spec =
     (tie.spec
     read-sheet-requires
     returns
-    cast-if2
+    cast-needed
     returns-2
     cast-sites
     add-if3
     returns-3
-    cast-slots
-    cast-colours
-    cast-budgets
-    get-requires
-    side-bit-requires
-    lay-two-sided-requires
+    lay-loosened-requires
     same-length
     same-length-2
-    returns-4
-    lay-one-sided-requires
-    same-length-3
-    same-length-4
-    returns-5)
+    returns-4)
