@@ -105,3 +105,18 @@ blocks-more row now new work from skip size cost start low e b =
         (λ g.
         let t : leb skip (v % size) ≡ false = lt-leb skip (v % size) (omega arith) in
         e v ∙ before-run now work (start + skip) (from + start) (size - skip) cost v g ∙ rw (t, b .rest v h))
+
+-- ---- a single budget
+
+pub one-linked : (row new work : List ℕ) (from skip size cost : ℕ) → skip ≡ 0 → ((v : ℕ) → getD new v 0 ≡ relaxed row work 0 from 1 cost v) →
+    (v : ℕ) → v < 1 → getD new v 0 ≡ linked row work from skip size cost v
+one-linked row new work from skip size cost z e v l =
+    let d : from + (v - 0) ≡ from + (v - skip) = omega arith in
+    let t : leb skip (v % size) ≡ true = le-leb skip (v % size) (omega arith) in
+    e v ∙ in-run row work 0 from 1 cost v (omega arith) (omega arith) ∙ rw (d, t)
+
+pub one-left : (row work : List ℕ) (from skip size cost : ℕ) → 0 < skip → 0 < size → (v : ℕ) → v < 1 → getD row v 0 ≡ linked row work from skip size cost v
+one-left row work from skip size cost s p v l =
+    let m : v % size ≡ v - 0 * size = in-block size 0 v (omega arith) (omega arith) in
+    let t : leb skip (v % size) ≡ false = lt-leb skip (v % size) (omega arith) in
+    rw t

@@ -100,24 +100,24 @@ fn is_inside(above: Label, below: Label, y: u32) -> bool
 fn fits_up(q: Measures, above: Label, below: Label, y: u32, colour: u32, cap: u32) -> bool
     ensures { λ r. ⌜ r ≡ upFits q above below y colour cap ⌝ }
 {
+    if !is_code(above.code, colour) {
+        return false;
+    }
     both(
-        is_code(above.code, colour),
-        both(
-            either(below.edge, is_clear(q, y, below.height)),
-            is_capped(cap, above.place),
-        ),
+        either(below.edge, is_clear(q, y, below.height)),
+        is_capped(cap, above.place),
     )
 }
 
 fn fits_down(q: Measures, above: Label, below: Label, y: u32, colour: u32, cap: u32) -> bool
     ensures { λ r. ⌜ r ≡ downFits q above below y colour cap ⌝ }
 {
+    if !is_code(below.code, colour) {
+        return false;
+    }
     both(
-        is_code(below.code, colour),
-        both(
-            either(above.edge, is_clear(q, above.height, y)),
-            is_capped(cap, below.place),
-        ),
+        either(above.edge, is_clear(q, above.height, y)),
+        is_capped(cap, below.place),
     )
 }
 
@@ -374,6 +374,9 @@ fn other_after(other: u32, own: u32, code: u32) -> u32
 fn other_in(other: u32, own: u32, codes: u32) -> u32
     ensures { λ r. ⌜ ((hs ys cs : List ℕ) (a k : ℕ) → Barred hs ys cs a own k other → Codes hs ys cs a k codes → Barred hs ys cs a own k r) ⌝ }
 {
+    if codes == 0 {
+        return other;
+    }
     other_after(other_after(other, own, codes % 16), own, codes / 16)
 }
 
@@ -417,7 +420,7 @@ fn relax(row: &mut [u32], work: &[u32], to: usize, from: usize, count: usize, co
 }
 
 // The same at the budgets that have a label of one colour left, block by block: in each, the first `skip` have none.
-fn link(
+fn link_blocks(
     row: &mut [u32],
     work: &[u32],
     from: usize,
@@ -434,6 +437,28 @@ fn link(
     while start < budgets {
         relax(row, work, start + skip, from + start, count, cost);
         start += size;
+    }
+}
+
+// The same, a single budget by itself.
+fn link(
+    row: &mut [u32],
+    work: &[u32],
+    from: usize,
+    budgets: usize,
+    skip: usize,
+    size: usize,
+    cost: u32,
+)
+    requires { ⌜ Blocks (length (now row)) (length (now work)) from budgets skip size ⌝ }
+    ensures { λ _. ⌜ ((v : ℕ) → v < budgets → getD (now (row .exit)) v 0 ≡ linked (now (row .entry)) (now (work .entry)) from skip size cost v) ⌝ }
+{
+    if budgets != 1 {
+        link_blocks(row, work, from, budgets, skip, size, cost);
+        return;
+    }
+    if skip == 0 {
+        relax(row, work, 0, from, 1, cost);
     }
 }
 

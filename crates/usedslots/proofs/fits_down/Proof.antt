@@ -1,3 +1,4 @@
+use borrow.Author.Tests.{not-true, not-false}
 use Rattle.usedslots.specs.Table.{downFits}
 use mathlib.Core.Path.{_≡_, refl, ap, sym, _∙_}
 use mathlib.Core.List.{List, [], _∷_, _++_}
@@ -18,44 +19,46 @@ use Rattle.usedslots.proofs.is_code.Reads as is-code-reads
 use Rattle.words.proofs.both.Reads as both-reads
 use Rattle.words.proofs.either.Reads as either-reads
 
--- src/lib.rt:95:10
+-- src/lib.rt:115:9
 is-code-requires : tie.Need-is-code-requires
 is-code-requires c κs = search needs
 
--- src/lib.rt:95:63
-is-clear-requires : tie.Need-is-clear-requires
-is-clear-requires c κs = search needs
-
--- src/lib.rt:95:44
-either-requires : tie.Need-either-requires
-either-requires c κs = search needs
-
--- src/lib.rt:95:94
-is-capped-requires : tie.Need-is-capped-requires
-is-capped-requires c κs = search needs
-
--- src/lib.rt:95:39
-both-requires : tie.Need-both-requires
-both-requires c κs = search needs
-
--- src/lib.rt:95:5
-both-requires-2 : tie.Need-both-requires-2
-both-requires-2 c κs = search needs
-
--- src/lib.rt:92:1
+-- src/lib.rt:116:9
 returns : tie.Need-returns
 unfolding downFits
 returns c =
-    rw (c .both2 .ensures, c .before .both .ensures, c .before .before .is-capped .ensures, c .before .before .before .either .ensures, c .before .before .before .before .is-clear .ensures, c .before .before .before .before .before .is-code .ensures)
+    rw (sym (c .before .is-code .ensures) ∙ not-true _ (c .if1 .taken))
+
+-- src/lib.rt:119:28
+is-clear-requires : tie.Need-is-clear-requires
+is-clear-requires c κs = search needs
+
+-- src/lib.rt:119:9
+either-requires : tie.Need-either-requires
+either-requires c κs = search needs
+
+-- src/lib.rt:120:9
+is-capped-requires : tie.Need-is-capped-requires
+is-capped-requires c κs = search needs
+
+-- src/lib.rt:118:5
+both-requires : tie.Need-both-requires
+both-requires c κs = search needs
+
+-- src/lib.rt:112:1
+returns-2 : tie.Need-returns-2
+unfolding downFits
+returns-2 c =
+    rw (sym (c .before .before .before .before .before .is-code .ensures) ∙ not-false _ (c .before .before .before .before .if1 .left), c .both .ensures, c .before .is-capped .ensures, c .before .before .either .ensures, c .before .before .before .is-clear .ensures)
 
 pub fits-down-spec : {M : Type 1} → statement M
 fits-down-spec =
     tie.close
     (tie.spec
     is-code-requires
+    returns
     is-clear-requires
     either-requires
     is-capped-requires
     both-requires
-    both-requires-2
-    returns)
+    returns-2)

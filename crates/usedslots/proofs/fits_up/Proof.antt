@@ -1,3 +1,4 @@
+use borrow.Author.Tests.{not-true, not-false}
 use Rattle.usedslots.specs.Table.{upFits}
 use mathlib.Core.Path.{_≡_, refl, ap, sym, _∙_}
 use mathlib.Core.List.{List, [], _∷_, _++_}
@@ -18,44 +19,46 @@ use Rattle.usedslots.proofs.is_code.Reads as is-code-reads
 use Rattle.words.proofs.both.Reads as both-reads
 use Rattle.words.proofs.either.Reads as either-reads
 
--- src/lib.rt:89:10
+-- src/lib.rt:103:9
 is-code-requires : tie.Need-is-code-requires
 is-code-requires c κs = search needs
 
--- src/lib.rt:89:63
-is-clear-requires : tie.Need-is-clear-requires
-is-clear-requires c κs = search needs
-
--- src/lib.rt:89:44
-either-requires : tie.Need-either-requires
-either-requires c κs = search needs
-
--- src/lib.rt:89:94
-is-capped-requires : tie.Need-is-capped-requires
-is-capped-requires c κs = search needs
-
--- src/lib.rt:89:39
-both-requires : tie.Need-both-requires
-both-requires c κs = search needs
-
--- src/lib.rt:89:5
-both-requires-2 : tie.Need-both-requires-2
-both-requires-2 c κs = search needs
-
--- src/lib.rt:86:1
+-- src/lib.rt:104:9
 returns : tie.Need-returns
 unfolding upFits
 returns c =
-    rw (c .both2 .ensures, c .before .both .ensures, c .before .before .is-capped .ensures, c .before .before .before .either .ensures, c .before .before .before .before .is-clear .ensures, c .before .before .before .before .before .is-code .ensures)
+    rw (sym (c .before .is-code .ensures) ∙ not-true _ (c .if1 .taken))
+
+-- src/lib.rt:107:28
+is-clear-requires : tie.Need-is-clear-requires
+is-clear-requires c κs = search needs
+
+-- src/lib.rt:107:9
+either-requires : tie.Need-either-requires
+either-requires c κs = search needs
+
+-- src/lib.rt:108:9
+is-capped-requires : tie.Need-is-capped-requires
+is-capped-requires c κs = search needs
+
+-- src/lib.rt:106:5
+both-requires : tie.Need-both-requires
+both-requires c κs = search needs
+
+-- src/lib.rt:100:1
+returns-2 : tie.Need-returns-2
+unfolding upFits
+returns-2 c =
+    rw (sym (c .before .before .before .before .before .is-code .ensures) ∙ not-false _ (c .before .before .before .before .if1 .left), c .both .ensures, c .before .is-capped .ensures, c .before .before .either .ensures, c .before .before .before .is-clear .ensures)
 
 pub fits-up-spec : {M : Type 1} → statement M
 fits-up-spec =
     tie.close
     (tie.spec
     is-code-requires
+    returns
     is-clear-requires
     either-requires
     is-capped-requires
     both-requires
-    both-requires-2
-    returns)
+    returns-2)

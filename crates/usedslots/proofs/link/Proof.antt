@@ -1,5 +1,4 @@
-use Rattle.usedslots.specs.Table.{linked}
-use Rattle.usedslots.proofs.Budgets.{Blockwise, blocks-none, blocks-more, block-fits}
+use Rattle.usedslots.proofs.Budgets.{one-linked, one-left}
 use mathlib.Core.Path.{_≡_, refl, ap, sym, _∙_}
 use mathlib.Core.List.{List, [], _∷_, _++_}
 use mathlib.Core.Logic.{⊎-elim}
@@ -13,85 +12,50 @@ use Rattle.usedslots.proofs.link.Statement.{statement}
 use Rattle.usedslots.proofs.link.Tie as tie
 use Rattle.usedslots.proofs.link.Reads as reads
 use Rattle.usedslots.proofs.link.Lts as lts
+use Rattle.usedslots.proofs.link_blocks.Reads as link-blocks-reads
 use Rattle.usedslots.proofs.relax.Reads as relax-reads
 
-abbrev Inv-loop : tie.InvT-loop
-Inv-loop row₀ work from budgets skip size cost count start₀ row start = (length row ≡ length row₀) × (start ≤ budgets) × Blockwise row₀ row work from skip size cost start
+-- src/lib.rt:457:9
+link-blocks-requires : tie.Need-link-blocks-requires
+link-blocks-requires c κs = search needs
 
-abbrev μ-loop : tie.MeasureT-loop
-μ-loop row₀ work from budgets skip size cost count start₀ row start = budgets - start
-
--- a block that begins ends within the row
-ends : (c : tie.In-loop Inv-loop μ-loop) → c .before .loop .start + c .before .before .before .before .args .size ≤ c .before .before .before .before .args .budgets
-ends c = block-fits _ _ _ (c .before .loop .inv .2 .block) (c .before .before .before .before .pre .whole) (c .loop-test .taken)
-
--- src/lib.rt:210:17
-sub-count : tie.Need-sub-count Inv-loop μ-loop
-sub-count c =
-    c .before .before .pre .low
-
--- src/lib.rt:212:5
-loop-holds : tie.Need-loop-holds Inv-loop μ-loop
-loop-holds c =
-    let a = c .before .before .args in (refl, omega arith, blocks-none (a .row .now) (a .work .now) (a .from) (a .skip) (a .size) (a .cost))
-
--- src/lib.rt:213:26
-add-relax : tie.Need-add-relax Inv-loop μ-loop
-add-relax c =
-    omega (arith, c .before .before .before .before .before .pre .low, c .before .before .before .before .before .pre .few, ends (c .before))
-
--- src/lib.rt:213:40
-add-relax-2 : tie.Need-add-relax-2 Inv-loop μ-loop
-add-relax-2 c =
-    omega (arith, c .before .before .before .before .before .pre .there)
-
--- src/lib.rt:213:9
-relax-requires : tie.Need-relax-requires Inv-loop μ-loop
-relax-requires c κs =
-    let p = c .before .before .before .before .before .pre in let e = ends (c .before) in
-    (omega (arith, p .low, p .fits, c .before .before .loop .inv .0), omega (arith, p .low, p .there))
-
--- src/lib.rt:214:9
-add-start : tie.Need-add-start Inv-loop μ-loop
-add-start c =
-    omega (arith, c .before .before .before .before .before .before .before .before .pre .few, ends (c .before .before .before .before))
-
--- src/lib.rt:212:5
-loop-less : tie.Need-loop-less Inv-loop μ-loop
-loop-less c =
-    omega (arith, c .before .before .before .before .before .before .before .before .pre .some)
-
--- src/lib.rt:212:5
-loop-again : tie.Need-loop-again Inv-loop μ-loop
-loop-again c =
-    let a = c .before .before .before .before .before .before .before .before .args in let l = c .before .before .before .before .before .loop in (
-      c .before .before .relax .kept .0 ∙ l .inv .0,
-      ends (c .before .before .before .before),
-      blocks-more (a .row .now) (l .row) (c .before .before .relax .last .0) (a .work .now) (a .from) (a .skip) (a .size) (a .cost) (l .start) (c .before .before .before .before .before .before .before .before .pre .low) (c .before .before .relax .ensures) (l .inv .2),
-    )
-
--- src/lib.rt:206:1
-same-length : tie.Need-same-length Inv-loop μ-loop
+-- src/lib.rt:458:9
+same-length : tie.Need-same-length
 same-length c = search needs
 
--- src/lib.rt:206:1
-returns : tie.Need-returns Inv-loop μ-loop
-returns c =
-    let l = c .before .loop in λ v h. l .inv .2 .done v (omega arith)
+-- src/lib.rt:458:9
+returns : tie.Need-returns
+returns c = search needs
+
+-- src/lib.rt:461:9
+relax-requires : tie.Need-relax-requires
+relax-requires c κs =
+    let p = c .before .before .before .before .before .pre in let o = c .before .before .if1 .left in (omega (arith, p .fits, o), omega (arith, p .there, o))
+
+-- src/lib.rt:444:1
+same-length-2 : tie.Need-same-length-2
+same-length-2 c = search needs
+
+-- src/lib.rt:444:1
+returns-2 : tie.Need-returns-2
+returns-2 c =
+    let a = c .before .before .before .before .before .before .before .before .args in let o = c .before .before .before .before .before .if1 .left in
+    λ v h. one-linked (a .row .now) (c .before .before .relax .last .0) (a .work .now) (a .from) (a .skip) (a .size) (a .cost) (c .before .before .before .before .if2 .taken) (c .before .before .relax .ensures) v (omega arith)
+
+-- src/lib.rt:444:1
+returns-3 : tie.Need-returns-3
+returns-3 c =
+    let a = c .before .before .before .before .args in let o = c .before .if1 .left in let n = c .if2 .left in let s = c .before .before .before .before .pre .some in
+    λ v h. one-left (a .row .now) (a .work .now) (a .from) (a .skip) (a .size) (a .cost) (omega (arith, n)) s v (omega arith)
 
 pub link-spec : {M : Type 1} → statement M
 link-spec =
     tie.close
     (tie.spec
-    Inv-loop
-    μ-loop
-    sub-count
-    loop-holds
-    add-relax
-    add-relax-2
-    relax-requires
-    add-start
-    loop-less
-    loop-again
+    link-blocks-requires
     same-length
-    returns)
+    returns
+    relax-requires
+    same-length-2
+    returns-2
+    returns-3)
