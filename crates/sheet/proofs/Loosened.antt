@@ -117,9 +117,6 @@ sheet-loose ws h =
     let b = bodyOf ws in
     rw (head-kept ws h .0, head-kept ws h .1, slots-kept b, colours-loose b, sites-kept 0 b)
 
-pub loosened-head : (ws : List ℕ) → isHead ws ≡ true → isHead (loosened ws) ≡ true
-loosened-head ws h = rw (length-kept ws, head-kept ws h .0) h
-
 pub loosened-accepted : (ws : List ℕ) → sheetFault ws ≡ 0 → sheetFault (loosened ws) ≡ 0
 loosened-accepted ws h =
     let u = unrefused ws h in

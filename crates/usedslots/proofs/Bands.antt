@@ -42,9 +42,6 @@ module _ (hs ys cs : List ℕ) (a k : ℕ) where
   pub barred-none : (ca : ℕ) → Barred hs ys cs a ca k 0
   barred-none ca d n = absurd (n refl)
 
-  pub barred-first : (ca code : ℕ) → code ≢ ca → Between hs ys cs a k code → Barred hs ys cs a ca k code
-  barred-first ca code u b d n l = record { code = code; between = b; not-upper = u; not-lower = l }
-
   pub barred-all : (ca code other : ℕ) → code ≢ ca → code ≢ other → other ≢ 0 → Between hs ys cs a k code → Barred hs ys cs a ca k other → (d : ℕ) → Lost hs ys cs a ca k (suc d)
   barred-all ca code other u o s b old d =
       by-equal code (suc d)

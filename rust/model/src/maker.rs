@@ -1,17 +1,27 @@
 //! The layout maker in the caller's areas, with its refusals 1 to 10.
 
-use crate::sheet::{read, Sheet};
+use crate::sheet::{read, Sheet, UNBOUNDED};
 use crate::{one_sided, two_sided};
 
 /// The number of the refusal, or 0 with the layout in the first answer words.
 pub fn make(words: &[u32], work: &mut [u32], answer: &mut [u32]) -> u32 {
     match read(words) {
         Err(refusal) => u32::from(refusal),
-        Ok(sheet) => make_sheet(&sheet, work, answer),
+        Ok(sheet) => make_sheet(sheet, work, answer),
     }
 }
 
-fn make_sheet(sheet: &Sheet, work: &mut [u32], answer: &mut [u32]) -> u32 {
+/// A bound that is at least its colour's number of sites can't bind: without it the table is smaller.
+fn drop_loose_bounds(sheet: &mut Sheet) {
+    for (colour, bound) in sheet.bounds.iter_mut().enumerate() {
+        let sites = sheet.sites.iter().filter(|site| site.colour == colour).count();
+        if sites as u32 <= *bound {
+            *bound = UNBOUNDED;
+        }
+    }
+}
+
+fn make_sheet(mut sheet: Sheet, work: &mut [u32], answer: &mut [u32]) -> u32 {
     let (needed, sites) = (sheet.work_words() as usize, sheet.sites.len());
     if work.len() < needed {
         return 8;
@@ -20,9 +30,10 @@ fn make_sheet(sheet: &Sheet, work: &mut [u32], answer: &mut [u32]) -> u32 {
         return 9;
     }
     let work = &mut work[..needed];
+    drop_loose_bounds(&mut sheet);
     let order = sheet.by_x();
     let best = if sheet.two_sided { two_sided::best } else { one_sided::best };
-    let made = best(sheet, &order, work);
+    let made = best(&sheet, &order, work);
     work.fill(0);
     let Some((stated, slots)) = made else {
         return 10;
