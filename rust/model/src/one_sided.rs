@@ -3,10 +3,10 @@
 //!
 //! The benchmark times the library against this. Both read the sheet with all refusals, keep the table in the
 //! caller's work words, mark there the strips that the root reaches, fill only those, pass over a part that is none
-//! within the full budget, list once how budgets are shared, walk by rising x to the lowest slot that keeps the least
-//! cost, and leave all work words zero. What is this one's own: the slots that may open a label, and the cost of that,
-//! are known before a level is filled; a sheet with one budget has a loop without shares; the walk adds up the strips
-//! beside a site's own once for the site, not for each slot that it tries.
+//! within the full budget, list once how budgets are shared, have a loop without shares for a sheet with one budget,
+//! drop the bounds that can't bind, walk by rising x to the lowest slot that keeps the least cost, and leave all work
+//! words zero. What is this one's own: the slots that may open a label, and the cost of that, are known before a level
+//! is filled; the walk adds up the strips beside a site's own once for the site, not for each slot that it tries.
 
 use crate::budgets::{Budgets, Row, MOST};
 use crate::costs::{Aim, NONE};
