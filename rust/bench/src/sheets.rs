@@ -51,7 +51,12 @@ pub fn growing() -> Vec<Named> {
     sheets.extend([4, 8, 16, 32].map(|sites| banded("sites", sites, 16, &[3, FREE])));
     sheets.extend([6, 12, 24, 48].map(|slots| banded("slots", 12, slots, &[3, FREE])));
     sheets.extend([1, 2, 4, 8].map(|colours| banded("colours", 12, 16, &[FREE; 8][..colours])));
-    sheets.extend([FREE, 3, 15, 63].map(|bound| banded("budgets", 12, 16, &[bound, FREE])));
+    // Bounds of 3 with 6 sites a colour: one that can't bind is dropped before the table is made.
+    for bounded in 0..4 {
+        let mut bounds = [FREE; 4];
+        bounds[..bounded].fill(3);
+        sheets.push(banded("budgets", 24, 16, &bounds));
+    }
     sheets
 }
 
