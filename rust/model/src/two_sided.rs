@@ -2,14 +2,18 @@
 //! each site goes to the label next above or next below it.
 //!
 //! The benchmark times the library against this. Both read the sheet with all refusals, keep the table in the
-//! caller's work words, fill it once for the least cost and again for each halving of a site's cap, go through
-//! budgets block by block, and leave all work words zero. What is this one's own: the sites are sorted by y, so that
-//! those of a strip stand side by side.
+//! caller's work words, drop the bounds that can't bind, sort the sites by y, so that those of a strip stand side by
+//! side, fill the table once for the least cost and again for each halving of a site's cap, pass over a strip that has
+//! a site of a third colour, go through budgets block by block, and leave all work words zero. What is this one's own:
+//! the sites are sorted once, not for each fill.
 
 use crate::budgets::Budgets;
 use crate::costs::{Aim, NONE};
 use crate::places::{heights, FAR, PLACES};
 use crate::sheet::{Sheet, MOST_SITES};
+
+/// More than one colour.
+const SEVERAL: usize = usize::MAX;
 
 /// A site with the last place that it may be tied to. Colours count from 1 here; 0 is an edge's.
 #[derive(Clone, Copy, Default)]
@@ -114,11 +118,17 @@ impl<'a> Maker<'a> {
     /// Lowers a row by each label that may come next below. `lower` begins at the place below `above`.
     fn fill_row(&self, above: usize, above_colour: usize, lower: &[u32], row: &mut [u32]) {
         let label = self.aim.cost(1, self.sheet.width);
+        let mut other = 0;
         for below in above + 1..self.bottom {
+            other = self.other_colour(other, above_colour, below);
+            if other == SEVERAL {
+                return;
+            }
             if self.heights[below] - self.heights[above] < self.sheet.gap as i32 {
                 continue;
             }
-            for below_colour in 1..self.colours {
+            let below_colours = if other == 0 { 1..self.colours } else { other..other + 1 };
+            for below_colour in below_colours {
                 let strip = self.strip_cost(above, above_colour, below, below_colour);
                 if strip == NONE {
                     continue;
@@ -130,6 +140,16 @@ impl<'a> Maker<'a> {
     }
 
     /// In each block of budgets the first ones, as many as the draw, have no label of the colour left.
+    /// The colour, besides the upper label's, of the sites met down to a place: 0 for none.
+    fn other_colour(&self, mut other: usize, above_colour: usize, place: usize) -> usize {
+        for site in &self.sites[self.sites_above[place - 1]..self.sites_above[place]] {
+            if site.colour != above_colour && site.colour != other {
+                other = if other == 0 { site.colour } else { SEVERAL };
+            }
+        }
+        other
+    }
+
     fn lower_row(&self, row: &mut [u32], next: &[u32], step: u32, colour: usize) {
         let (draw, block) = (self.budgets.draw[colour], self.budgets.block[colour]);
         for (row, next) in row.chunks_exact_mut(block).zip(next.chunks_exact(block)) {
