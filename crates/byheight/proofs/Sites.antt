@@ -6,18 +6,19 @@ use mathlib.Core.List.{List, []}
 use Prim.Native.Nat.{ℕ, zero, suc, _+_, _-_, _≤_, _<_}
 use native.Mathlib.Omega.{arith}
 use lib.ListN.{length, getD, set, length-set}
-use lib.Seq.{getD-set-same, getD-set-other}
+use lib.Seq.{getD-set-same, getD-set-other, ext-getD}
 use Rattle.lists.proofs.Tests.{by-equal}
 use Rattle.search.specs.Cost.{plus}
 use Rattle.search.specs.Walk.{Process, best}
 use Rattle.search.specs.Sums.{sumTo, listing}
 use Rattle.search.proofs.CappedSums.{sum-cong}
+use Rattle.search.proofs.Sums.{listing-at, length-listing}
 use Rattle.optimum.specs.UsedSlots.{Instance, farUp, may, draw, strip, price, next, final, labels, State, below, T, value}
 use Rattle.arrays.specs.declared.Measures.{Measures}
 use Rattle.usedslots.specs.declared.Label.{Label}
 use Rattle.usedslots.specs.Table.{none, tableBy, capsIn, upperAt, lowerAt, siteOf, stripOf, Fits}
 use Rattle.usedslots.proofs.Strips.{strip-is}
-use Rattle.byheight.specs.Sites.{exchanged, SameSites}
+use Rattle.byheight.specs.Sites.{exchanged, Reorders, taken}
 
 -- ---- two neighbours exchanged
 
@@ -49,35 +50,77 @@ sum-exchanged f g i (suc n) h p q r =
     (λ e. rw e (two-terms (sumTo none g i) (sumTo none f i) (g i) (g (suc i)) (f i) (f (suc i)) p q (sum-cong none g f i (λ k l. r k (λ z. omega arith) (λ z. omega arith)))))
     (λ e. ap₂ (plus none) (sum-exchanged f g i n (omega (arith, e)) p q r) (r n (λ z. omega arith) e))
 
+-- ---- a list written place by place
+
+pub written : (l : List ℕ) (g : ℕ → ℕ) (i v : ℕ) → i < length l → v ≡ g i → ((j : ℕ) → j < i → getD l j 0 ≡ g j) → (j : ℕ) → j < i + 1 → getD (set l i v) j 0 ≡ g j
+written l g i v h e f j u =
+    by-equal j i
+    (λ z. rw z (getD-set-same l i v 0 h ∙ e))
+    (λ z. getD-set-other l i j v 0 z ∙ f j (omega (arith, z)))
+
+pub written-all : (l r : List ℕ) (i : ℕ) → length l ≡ length r → length r ≤ i → ((j : ℕ) → j < i → getD l j 0 ≡ getD r j 0) → l ≡ r
+written-all l r i e h f = ext-getD 0 l r e (λ j u. f j (omega (arith, e)))
+
+-- ---- orders
+
+pub reorders-first : (order : List ℕ) (n : ℕ) → length order ≡ n → ((j : ℕ) → j < n → getD order j 0 ≡ j) → Reorders order n
+reorders-first order n e h = record { long = e; sums = λ f. sum-cong none _ _ n (λ j l. ap f (h j l)) }
+
+pub reorders-exchanged : (order : List ℕ) (n i : ℕ) → suc i < n → Reorders order n → Reorders (exchanged order i) n
+reorders-exchanged order n i h r =
+    let l : suc i < length order = omega (arith, r .long) in
+    record {
+      long = exchanged-long order i l ∙ r .long;
+      sums = λ f.
+          sum-exchanged (λ j. f (getD order j 0)) (λ j. f (getD (exchanged order i) j 0)) i n h (ap f (at-first order i l)) (ap f (at-second order i l)) (λ k a b. ap f (at-other order i l k a b))
+          ∙ r .sums f;
+    }
+
+pub taken-long : (l order : List ℕ) → length (taken l order) ≡ length order
+taken-long l order = length-listing (λ j. getD l (getD order j 0) 0) 0 (length order)
+
+pub taken-at : (l order : List ℕ) (j : ℕ) → j < length order → getD (taken l order) j 0 ≡ getD l (getD order j 0) 0
+taken-at l order j h = listing-at (λ j. getD l (getD order j 0) 0) 0 (length order) j h ∙ ap (λ (i : ℕ). getD l (getD order i 0) 0) (omega arith)
+
 -- ---- the same sites
 
-pub same-none : (ys cs caps : List ℕ) → SameSites ys cs caps ys cs caps
-same-none ys cs caps = record { ys-long = refl; cs-long = refl; caps-long = refl; strips = λ q a b. refl }
+-- as many, and every strip costs the same
+record SameSites (ys cs caps ys₁ cs₁ caps₁ : List ℕ) : Type 0 where
+  ys-long : length ys₁ ≡ length ys
+  cs-long : length cs₁ ≡ length ys
+  caps-long : length caps₁ ≡ length ys
+  strips : (q : Measures) (above below : Label) → stripOf q above below ys₁ cs₁ caps₁ ≡ stripOf q above below ys cs caps
 
-pub same-more : (ys cs caps ys₁ cs₁ caps₁ ys₂ cs₂ caps₂ : List ℕ) → SameSites ys cs caps ys₁ cs₁ caps₁ → SameSites ys₁ cs₁ caps₁ ys₂ cs₂ caps₂ → SameSites ys cs caps ys₂ cs₂ caps₂
-same-more ys cs caps ys₁ cs₁ caps₁ ys₂ cs₂ caps₂ s t =
-    record { ys-long = t .ys-long ∙ s .ys-long; cs-long = t .cs-long ∙ s .cs-long; caps-long = t .caps-long ∙ s .caps-long; strips = λ q a b. t .strips q a b ∙ s .strips q a b }
-
-pub same-exchanged : (ys cs caps : List ℕ) (i : ℕ) → suc i < length ys → length cs ≡ length ys → length caps ≡ length ys →
-    SameSites ys cs caps (exchanged ys i) (exchanged cs i) (exchanged caps i)
+same-taken : (ys cs caps order : List ℕ) → Reorders order (length ys) → SameSites ys cs caps (taken ys order) (taken cs order) (taken caps order)
 unfolding stripOf
-same-exchanged ys cs caps i h c p =
-    let hc : suc i < length cs = omega arith in
-    let hp : suc i < length caps = omega arith in
+same-taken ys cs caps order r =
     record {
-      ys-long = exchanged-long ys i h;
-      cs-long = exchanged-long cs i hc;
-      caps-long = exchanged-long caps i hp;
+      ys-long = taken-long ys order ∙ r .long;
+      cs-long = taken-long cs order ∙ r .long;
+      caps-long = taken-long caps order ∙ r .long;
       strips = λ q a b.
-          rw (exchanged-long ys i h)
-          (sum-exchanged (λ k. siteOf q a b (getD ys k 0) (getD cs k 0) (getD caps k 0)) (λ k. siteOf q a b (getD (exchanged ys i) k 0) (getD (exchanged cs i) k 0) (getD (exchanged caps i) k 0)) i (length ys) h
-          (rw (at-first ys i h, at-first cs i hc, at-first caps i hp)) (rw (at-second ys i h, at-second cs i hc, at-second caps i hp))
-          (λ k n m. rw (at-other ys i h k n m, at-other cs i hc k n m, at-other caps i hp k n m)));
+          ap (sumTo none (λ i. siteOf q a b (getD (taken ys order) i 0) (getD (taken cs order) i 0) (getD (taken caps order) i 0))) (taken-long ys order ∙ r .long)
+          ∙ sum-cong none (λ i. siteOf q a b (getD (taken ys order) i 0) (getD (taken cs order) i 0) (getD (taken caps order) i 0))
+          (λ i. siteOf q a b (getD ys (getD order i 0) 0) (getD cs (getD order i 0) 0) (getD caps (getD order i 0) 0)) (length ys)
+          (λ i l. rw (taken-at ys order i (omega (arith, r .long)), taken-at cs order i (omega (arith, r .long)), taken-at caps order i (omega (arith, r .long))))
+          ∙ r .sums (λ i. siteOf q a b (getD ys i 0) (getD cs i 0) (getD caps i 0));
     }
 
 -- ---- they fit, and the least cost is the same
 
-module _ (q : Measures) (hs bs rs ds ys cs caps ys₁ cs₁ caps₁ : List ℕ) (s : SameSites ys cs caps ys₁ cs₁ caps₁) where
+module _ (q : Measures) (hs bs rs ds ys cs caps order : List ℕ) (r : Reorders order (length ys)) where
+  abbrev ys₁ : List ℕ
+  ys₁ = taken ys order
+
+  abbrev cs₁ : List ℕ
+  cs₁ = taken cs order
+
+  abbrev caps₁ : List ℕ
+  caps₁ = taken caps order
+
+  s : SameSites ys cs caps ys₁ cs₁ caps₁
+  s = same-taken ys cs caps order r
+
   pub fits-same : Fits q hs bs rs ds ys cs caps → Fits q hs bs rs ds ys₁ cs₁ caps₁
   fits-same f =
       record {
@@ -90,8 +133,8 @@ module _ (q : Measures) (hs bs rs ds ys cs caps ys₁ cs₁ caps₁ : List ℕ) 
         radices-long = f .radices-long;
         draws-long = f .draws-long;
         few-sites = (let e = s .ys-long in let l = f .few-sites in omega arith);
-        colours-long = s .cs-long ∙ f .colours-long ∙ sym (s .ys-long);
-        caps-long = s .caps-long ∙ f .caps-long ∙ sym (s .ys-long);
+        colours-long = s .cs-long ∙ sym (s .ys-long);
+        caps-long = s .caps-long ∙ sym (s .ys-long);
         draws = f .draws;
         whole = f .whole;
       }

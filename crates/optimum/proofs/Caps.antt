@@ -180,6 +180,16 @@ module _ (G : Instance) where
         go : (js : List ℕ) × (Ok js × Respects caps js × (cost js ≡ value G caps)) → value G (put caps r (suc k)) ≡ w
         go (js, (o, h, c)) = let a = slot js o r rn in passes caps r k js z v o h (c ∙ v) (omega arith)
 
+    -- with no cap does it fall
+    pub passes-low : (caps : ℕ → ℕ) (r k : ℕ) → caps r ≡ 0 → value G caps ≡ w → w ≤ value G (put caps r (suc k))
+    passes-low caps r k z v =
+        by-order top (value G (put caps r (suc k)))
+        (λ h. omega arith)
+        (λ h. go (attained (put caps r (suc k)) h))
+      where
+        go : (js : List ℕ) × (Ok js × Respects (put caps r (suc k)) js × (cost js ≡ value G (put caps r (suc k)))) → w ≤ value G (put caps r (suc k))
+        go (js, (o, h, c)) = let b = low caps js o (put-respects caps js r (suc k) z h) in omega arith
+
     choose-le : (caps : ℕ → ℕ) (r k : ℕ) → value G (put caps r (suc k)) ≡ w → choose G w caps r ≤ k
     unfolding choose
     choose-le caps r k e = first-le m (λ k. eqb (value G (put caps r (suc k))) w) k (eq-eqb _ _ e)

@@ -25,7 +25,7 @@ pub mod Chain
 pub mod Fits
 pub mod FitsLawful
 pub mod Caps
-pub mod Halve
+pub mod Steady
 pub mod Least
 pub mod Rows
 pub mod TwoSidedExamples

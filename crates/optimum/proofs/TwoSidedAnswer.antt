@@ -22,12 +22,11 @@ use Rattle.labelling.proofs.Maker.{First, best-some-iff, best-none-iff}
 use Rattle.search.specs.Sums.{listing}
 use Rattle.search.proofs.Sums.{listing-of, listing-same, listing-at, length-listing, tally-le}
 use Rattle.optimum.specs.UsedSlots.{put, value, choose, capAll, ties, answer}
+use Rattle.optimum.specs.Steady.{Steady}
 use Rattle.optimum.specs.CostWord.{topWord, countIn, lengthIn, layoutCost}
 use Rattle.optimum.specs.TwoSided.{instanceOf, twoSided}
 use Rattle.optimum.proofs.CostWord.{better-costs, layout-count, layout-length}
-use Rattle.optimum.proofs.Caps.{Respects, allows-uncapped, keeps, exact, none-ahead, passes-on, passes-last, chosen}
-use Rattle.optimum.specs.Halve.{halve}
-use Rattle.optimum.proofs.Halve.{halve-first}
+use Rattle.optimum.proofs.Caps.{Respects, allows-uncapped, keeps, exact, none-ahead, passes-on, passes-last, passes-low}
 use Rattle.optimum.proofs.LawfulFits.{cost, cost-is, cost-top, lawful-low, low-slot}
 use Rattle.optimum.proofs.FitsLawful.{lawful-attained}
 
@@ -41,10 +40,6 @@ ranks-differ ss d i j l u e =
     let q = listing-at (λ k. k) 0 (length ss) j u in
     let c = ap (λ (z : ℕ). slotAt z (tiedOf ss ns)) e in
     omega arith
-
--- so many halvings find one of at most 48 slots: 48 is below 2^6
-abbrev pub halvings : ℕ
-halvings = 6
 
 module _ (s : Sheet) (o : Sound s) (two : s .isTwoSided ≡ true) (coloured : all (colourLow (length (s .colours))) (s .sites) ≡ true) where
   price : List ℕ → ℕ
@@ -133,28 +128,14 @@ module _ (s : Sheet) (o : Sound s) (two : s .isTwoSided ≡ true) (coloured : al
             subst⁻¹ (λ (ks : List ℕ). (countOf s ks ≡ countIn s least) × (lengthOf s ks ≡ lengthIn s least)) (ties-are js ob h (e ∙ kept))
             (sym (ap (countIn s) (sym w) ∙ layout-count s o js), sym (ap (lengthIn s) (sym w) ∙ layout-length s o js))
 
-    -- at the states that the walk meets, the slot may be found by halving
-    pub choose-halved : (caps : ℕ → ℕ) (r : ℕ) → value (instanceOf s) caps ≡ least → r < length (s .sites) → caps r ≡ 0 →
-        choose (instanceOf s) least caps r ≡ halve (λ k. eqb (value (instanceOf s) (put caps r (suc k))) least) halvings 0 (length (s .slots) - 1)
-    unfolding choose
-    choose-halved caps r v l z = go (attained caps (rw v below))
-      where
-        on : (k j : ℕ) → eqb (value (instanceOf s) (put caps r (suc k))) least ≡ true → k ≤ j → eqb (value (instanceOf s) (put caps r (suc j))) least ≡ true
-        on k j h q = eq-eqb _ _ (passes-on (instanceOf s) (Obeys s) price slots-low low attained differ least below caps r k j l z v (eqb-true _ _ h) q)
-
-        go : (js : List ℕ) × (Obeys s js × Respects (instanceOf s) caps js × (price js ≡ value (instanceOf s) caps)) →
-            first (length (s .slots)) (λ k. eqb (value (instanceOf s) (put caps r (suc k))) least) ≡ halve (λ k. eqb (value (instanceOf s) (put caps r (suc k))) least) halvings 0 (length (s .slots) - 1)
-        go (js, (ob, h, e)) =
-            let a = slots-low js ob r l in
-            sym (halve-first (length (s .slots)) (λ k. eqb (value (instanceOf s) (put caps r (suc k))) least) on halvings 0 (length (s .slots) - 1) (omega arith)
-            (omega (arith, o .few-slots)) (omega arith)
-            (eq-eqb _ _ (passes-last (instanceOf s) (Obeys s) price slots-low low attained differ least below caps r (length (s .slots) - 1) l z v (omega arith)))
-            (λ j u. absurd (omega arith)))
-
-    -- and each step of the walk keeps the least cost
-    pub step-keeps : (caps : ℕ → ℕ) (r : ℕ) → value (instanceOf s) caps ≡ least → r < length (s .sites) → caps r ≡ 0 →
-        value (instanceOf s) (put caps r (suc (choose (instanceOf s) least caps r))) ≡ least
-    step-keeps caps r v l z = chosen (instanceOf s) (Obeys s) price slots-low low attained differ least below caps r l z v
+    -- at the states that the walk meets, a slot need not be found by trying all before it
+    pub steady : Steady (instanceOf s) least
+    steady =
+        record {
+          on = λ caps i k l h z v e q. passes-on (instanceOf s) (Obeys s) price slots-low low attained differ least below caps i k l h z v e q;
+          last = λ caps i k h z v e. passes-last (instanceOf s) (Obeys s) price slots-low low attained differ least below caps i k h z v e;
+          low = λ caps i k h z v. passes-low (instanceOf s) (Obeys s) price slots-low low attained differ least below caps i k z v;
+        }
 
   pub none-is : topWord ≤ least → best s ≡ none
   none-is h = best-none-iff s .1 (λ ks ok. absurd (let a = low uncapped ks ok (respect-uncapped ks) in omega (arith, price-top ks)))

@@ -6,7 +6,7 @@ pub mod Cells
 pub mod Reached
 pub mod UsedSlots
 pub mod Rows
-pub mod Halve
+pub mod Steady
 pub mod TwoSided
 pub mod Examples
 pub mod Optimum

@@ -1,10 +1,10 @@
 -- The layout of an accepted two-sided sheet from its arrays is what the maker is to answer. Assumes nothing.
-use mathlib.Core.Path.{_≡_, refl, sym, ap, ap₂, _∙_, fun-ext, subst}
+use mathlib.Core.Path.{_≡_, refl, sym, ap, ap₂, _∙_, fun-ext, subst, subst⁻¹}
 use mathlib.Core.Logic.{_≢_}
 use mathlib.Core.Bool.{Bool, true, false, cond, _&&_, _||_}
 use mathlib.Core.List.{List, [], _∷_, _++_}
 use Prim.Native.Nat.{ℕ, zero, suc, _+_, _*_, _-_, _/_, _%_, _^_, _≤_, _<_}
-use native.Mathlib.Nat.{mul-le-mul, mul-assoc, mul-comm, one-mul, mul-one}
+use native.Mathlib.Nat.{le-trans, le-of-eq, mul-le-mul, mul-assoc, mul-comm, one-mul, mul-one}
 use native.Mathlib.Omega.{arith}
 use native.Mathlib.Numerals.{add-one}
 use lib.Dec.{ltb, leb, eqb}
@@ -24,8 +24,8 @@ use Rattle.search.specs.Sums.{listing}
 use Rattle.optimum.specs.UsedSlots.{Instance, put, value, leftmost, choose, capAll, ties}
 use Rattle.optimum.specs.TwoSided.{radicesOf, instanceOf}
 use Rattle.optimum.specs.CostWord.{countIn, lengthIn}
-use Rattle.optimum.specs.Halve.{halve}
-use Rattle.optimum.proofs.TwoSidedAnswer.{choose-halved, step-keeps}
+use Rattle.optimum.specs.Steady.{Steady}
+use Rattle.optimum.proofs.TwoSidedAnswer.{steady}
 use Rattle.optimum.proofs.TwoSidedCall.{leastOf, capsOf, two-sided-call, two-sided-none}
 use Rattle.arrays.specs.declared.Measures.{Measures}
 use Rattle.arrays.specs.Arrays.{boundsOf, xsOf, ysOf, coloursOf, radicesBy, drawsBy, radixBy, measuresOf, padded, productBy}
@@ -34,7 +34,7 @@ use Rattle.arrays.proofs.Whole.{front}
 use Rattle.arrays.proofs.Ordered.{radices-long, draws-long, product-positive, product-are}
 use Rattle.usedslots.specs.Table.{none, unitOf, labelCost, instanceBy, tableBy, capsIn, Fits, tableWords}
 use Rattle.usedslots.proofs.Strips.{value-ranks}
-use Rattle.twosided.specs.Caps.{capHalved, countBy, lengthBy, wordsBy, uncapped, laidBy, Laid, Low}
+use Rattle.twosided.specs.Caps.{countBy, lengthBy, wordsBy, uncapped, laidBy, Laid, Low}
 
 -- ---- a call on arrays
 
@@ -54,6 +54,13 @@ module _ (q : Measures) (hs bs rs ys cs xs caps : List ℕ) (zeros : (i : ℕ) �
   pub least-is : (w : ℕ) → w ≡ value (tableBy q hs bs rs ys cs) (capsIn caps) → w ≡ value G uncapped
   least-is w e = e ∙ sym (value-ranks q hs bs rs ys cs xs (capsIn caps)) ∙ ap (value G) caps-none
 
+  -- what the walk asks of the table, at the least cost that was found
+  pub steady-at : (w : ℕ) → w ≡ value (tableBy q hs bs rs ys cs) (capsIn caps) → (w ≡ none → ⊥) → w ≤ none →
+      (value (tableBy q hs bs rs ys cs) uncapped < none → Steady (tableBy q hs bs rs ys cs) (value (tableBy q hs bs rs ys cs) uncapped)) → Steady (tableBy q hs bs rs ys cs) w
+  steady-at w e z b f =
+      let v : w ≡ value (tableBy q hs bs rs ys cs) uncapped = e ∙ ap (value (tableBy q hs bs rs ys cs)) caps-none in
+      subst⁻¹ (λ (k : ℕ). Steady (tableBy q hs bs rs ys cs) k) v (f (omega (arith, z)))
+
   pub low-none : Low caps
   low-none i = rw (zeros i) (omega arith)
 
@@ -68,19 +75,19 @@ module _ (q : Measures) (hs bs rs ys cs xs caps : List ℕ) (zeros : (i : ℕ) �
       record { fault-is = rw l; out-is = rw l; work-is = c ∙ cut words work now d }
 
   pub laid-some : (w head words : ℕ) (new work now zeroed out outs : List ℕ) → w ≡ value (tableBy q hs bs rs ys cs) (capsIn caps) → (w ≡ none → ⊥) → w ≤ none →
-      length new ≡ length ys → capsIn new ≡ capHalved G w (length ys) (capsIn caps) → head ≡ 8 * 268435456 + countBy q w * 2097152 + lengthBy q w →
+      length new ≡ length ys → capsIn new ≡ capAll G w (length ys) (capsIn caps) → head ≡ 8 * 268435456 + countBy q w * 2097152 + lengthBy q w →
       outs ≡ wordsBy head new ++ drop (length new + 1) out →
       drop words now ≡ drop words work → zeroed ≡ replicate words 0 ++ drop words now → Laid q G words work out 0 zeroed outs
   unfolding ties
   laid-some w head words new work now zeroed out outs e z b n h f o d c =
       let v : w ≡ value G uncapped = least-is w e in
       let l : ltb (value G uncapped) none ≡ true = lt-ltb (value G uncapped) none (omega (arith, z)) in
-      record { fault-is = rw l; out-is = rw l (o ∙ rw (n, f) (is ∙ ap (λ (z : ℕ). layoutWords (countBy q z) (lengthBy q z) (ties G (capHalved G z (length ys) uncapped)) ++ drop (length ys + 1) out) v)); work-is = c ∙ cut words work now d }
+      record { fault-is = rw l; out-is = rw l (o ∙ rw (n, f) (is ∙ ap (λ (z : ℕ). layoutWords (countBy q z) (lengthBy q z) (ties G (capAll G z (length ys) uncapped)) ++ drop (length ys + 1) out) v)); work-is = c ∙ cut words work now d }
     where
       is : layoutWords (countBy q w) (lengthBy q w) (listing (λ i. getD new i 0 - 1) 0 (length ys)) ++ drop (length ys + 1) out ≡
-          layoutWords (countBy q w) (lengthBy q w) (ties G (capHalved G w (length ys) uncapped)) ++ drop (length ys + 1) out
+          layoutWords (countBy q w) (lengthBy q w) (ties G (capAll G w (length ys) uncapped)) ++ drop (length ys + 1) out
       is = ap (λ (fx : ℕ → ℕ). layoutWords (countBy q w) (lengthBy q w) (listing (λ i. fx i - 1) 0 (length ys)) ++ drop (length ys + 1) out)
-          (h ∙ ap (capHalved G w (length ys)) caps-none)
+          (h ∙ ap (capAll G w (length ys)) caps-none)
 
 -- ---- the arrays of a sheet
 
@@ -134,30 +141,20 @@ unfolding xsOf
 xs-long [] = refl
 xs-long (s ∷ ss) = ap suc (xs-long ss)
 
--- ---- the walk by halving is the model's
+-- ---- the ranks have no part in what the walk asks of the table
 
--- the leftmost site without a cap has none
-leftmost-free : (G : Instance) (fx : ℕ → ℕ) (c : ℕ) → leftmost G fx c < G .n → fx (leftmost G fx c) ≡ 0
-unfolding leftmost
-leftmost-free G fx zero h = absurd (omega arith)
-leftmost-free G fx (suc c) h =
-    by-test (eqb (fx c) 0 && (leb (G .n) (leftmost G fx c) || ltb (G .x c) (G .x (leftmost G fx c))))
-    (λ e. rw e (eqb-true (fx c) 0 (and-l (eqb (fx c) 0) _ e)))
-    (λ e. rw e (leftmost-free G fx c (rw e at h)))
-
-module _ (s : Sheet) (o : Sound s) (two : s .isTwoSided ≡ true) (low : leastOf s < none) where
-  halved-all : (f : ℕ) (fx : ℕ → ℕ) → value (instanceOf s) fx ≡ leastOf s → capHalved (instanceOf s) (leastOf s) f fx ≡ capAll (instanceOf s) (leastOf s) f fx
-  unfolding capHalved capAll
-  halved-all zero fx v = refl
-  halved-all (suc f) fx v =
-      by-order (length (s .sites)) (leftmost (instanceOf s) fx (length (s .sites)))
-      (λ h. rw (le-ltb _ _ h))
-      (λ h.
-      let r : ℕ = leftmost (instanceOf s) fx (length (s .sites)) in
-      let z : fx r ≡ 0 = leftmost-free (instanceOf s) fx (length (s .sites)) h in
-      let e : choose (instanceOf s) (leastOf s) fx r ≡ halve (λ k. eqb (value (instanceOf s) (put fx r (suc k))) (leastOf s)) 6 0 (length (s .slots) - 1) =
-      choose-halved s o two (o .coloured) low fx r v h z in
-      rw (lt-ltb _ _ h, ← e) (halved-all f (put fx r (suc (choose (instanceOf s) (leastOf s) fx r))) (step-keeps s o two (o .coloured) low fx r v h z)))
+steady-ranks : (q : Measures) (hs bs rs ys cs xs : List ℕ) →
+    (value (instanceBy q hs bs rs ys cs xs) uncapped < none → Steady (instanceBy q hs bs rs ys cs xs) (value (instanceBy q hs bs rs ys cs xs) uncapped)) →
+    value (tableBy q hs bs rs ys cs) uncapped < none → Steady (tableBy q hs bs rs ys cs) (value (tableBy q hs bs rs ys cs) uncapped)
+steady-ranks q hs bs rs ys cs xs f h =
+    let same = value-ranks q hs bs rs ys cs xs in
+    let st : Steady (instanceBy q hs bs rs ys cs xs) (value (tableBy q hs bs rs ys cs) uncapped) =
+    subst (λ (w : ℕ). Steady (instanceBy q hs bs rs ys cs xs) w) (same uncapped) (f (rw (same uncapped) h)) in
+    record {
+      on = λ fx i k l a z v e b. sym (same (put fx i (suc l))) ∙ st .on fx i k l a z (same fx ∙ v) (same (put fx i (suc k)) ∙ e) b;
+      last = λ fx i k a z v e. sym (same (put fx i (suc k))) ∙ st .last fx i k a z (same fx ∙ v) e;
+      low = λ fx i k a z v. le-trans (st .low fx i k a z (same fx ∙ v)) (le-of-eq (same (put fx i (suc k))));
+    }
 
 -- ---- THE CALL
 
@@ -231,9 +228,7 @@ module _ (ws k o : List ℕ) (t : takesSheet ws k o) (two : (sheetIn ws) .isTwoS
       let b : ltb (leastOf (sheetIn ws)) none ≡ true = lt-ltb (leastOf (sheetIn ws)) none h in
       let e₁ : fault ≡ 0 = l .fault-is ∙ rw b in
       let e₂ : out ≡ laidBy (measuresOf (sheetIn ws)) (instanceOf (sheetIn ws)) ++ drop (length ((sheetIn ws) .sites) + 1) o = l .out-is ∙ rw b in
-      let e₃ : capHalved (instanceOf (sheetIn ws)) (leastOf (sheetIn ws)) (length ((sheetIn ws) .sites)) uncapped ≡ capsOf (sheetIn ws) =
-      halved-all (sheetIn ws) (sound ws (t .1)) two h (length ((sheetIn ws) .sites)) uncapped refl in
-      rw (e₁, e₂, l .work-is, e₃) (two-sided-call ws k o t two h))
+      rw (e₁, e₂, l .work-is) (two-sided-call ws k o t two h))
 
   table-words : workFor (sheetIn ws) ≡ tableWords (measuresOf (sheetIn ws)) ((sheetIn ws) .slots)
   table-words = rw two
@@ -246,6 +241,18 @@ module _ (ws k o : List ℕ) (t : takesSheet ws k o) (two : (sheetIn ws) .isTwoS
   made q hs bs rs ys cs xs fault work out e₁ e₂ e₃ e₄ e₅ e₆ e₇ l =
       let r : rs ≡ radicesBy (boundsOf ((sheetIn ws) .colours)) = rw e₃ at e₄ in
       made-from fault work out (rw (e₁, e₂, e₃, r, e₅, e₆, e₇, instance-is (sheetIn ws), ← table-words) at l)
+
+  -- what the walk over caps asks of the table
+  pub steady-made : (q : Measures) (hs bs rs ys cs : List ℕ) →
+      q ≡ measuresOf (sheetIn ws) → hs ≡ (sheetIn ws) .slots → bs ≡ boundsOf ((sheetIn ws) .colours) → rs ≡ radicesBy bs → ys ≡ ysOf ((sheetIn ws) .sites) →
+      cs ≡ coloursOf ((sheetIn ws) .sites) → value (tableBy q hs bs rs ys cs) uncapped < none → Steady (tableBy q hs bs rs ys cs) (value (tableBy q hs bs rs ys cs) uncapped)
+  steady-made q hs bs rs ys cs e₁ e₂ e₃ e₄ e₅ e₆ =
+      let s : Sheet = sheetIn ws in
+      let r : rs ≡ radicesBy (boundsOf (s .colours)) = rw e₃ at e₄ in
+      let st : value (instance s) uncapped < none → Steady (instance s) (value (instance s) uncapped) =
+      subst (λ (H : Instance). value H uncapped < none → Steady H (value H uncapped)) (sym (instance-is s)) (steady s (sound ws (t .1)) two (sites-coloured ws (t .1))) in
+      rw (e₁, e₂, e₃, r, e₅, e₆)
+      (steady-ranks (measuresOf s) (s .slots) (boundsOf (s .colours)) (radicesBy (boundsOf (s .colours))) (ysOf (s .sites)) (coloursOf (s .sites)) (xsOf (s .sites)) st)
 
 -- ---- parts of padded arrays
 

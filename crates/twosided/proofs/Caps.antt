@@ -4,25 +4,28 @@ use mathlib.Core.Logic.{_≢_}
 use mathlib.Core.Bool.{Bool, true, false, cond, _&&_, _||_}
 use mathlib.Core.List.{List, [], _∷_, _++_}
 use Prim.Native.Nat.{ℕ, zero, suc, _+_, _*_, _-_, _/_, _%_, _≤_, _<_}
+use native.Mathlib.Nat.{le-trans, le-of-eq}
 use native.Mathlib.Omega.{arith}
 use native.Mathlib.Numerals.{add-one}
 use lib.Dec.{ltb, leb, eqb}
 use lib.ListN.{length, getD, set, take, drop, length-set}
 use lib.Seq.{set-set, drop-set-lt, getD-set-same, getD-set-other}
-use borrow.Author.Tests.{lt-ltb, le-ltb}
-use Rattle.lists.proofs.Tests.{by-test, by-order, by-equal}
+use borrow.Author.Tests.{lt-ltb, le-ltb, leb-true, eqb-true, eqb-false}
+use Rattle.lists.proofs.Tests.{by-test, by-order, by-equal, and-l, clash}
 use Rattle.lists.proofs.Front.{front, front-more, front-all}
 use Rattle.labelling.specs.Layout.{tieWords}
 use Rattle.search.specs.Sums.{listing}
 use Rattle.search.proofs.Sums.{listing-at, length-listing}
-use Rattle.optimum.specs.UsedSlots.{Instance, put, value, leftmost}
-use Rattle.optimum.specs.Halve.{halve}
+use Rattle.search.proofs.Cost.{first-cong}
+use Rattle.optimum.specs.UsedSlots.{Instance, put, value, leftmost, choose, capAll}
+use Rattle.optimum.specs.Steady.{Steady}
 use Rattle.optimum.proofs.Rows.{put-set}
+use Rattle.optimum.proofs.Steady.{keeps, misses, choose-is, choose-keeps}
 use Rattle.arrays.specs.declared.Measures.{Measures}
 use Rattle.usedslots.specs.Table.{instanceBy, tableBy, capsIn, Fits}
 use Rattle.usedslots.proofs.Strips.{value-ranks}
 use Rattle.twosided.specs.declared.Range.{Range}
-use Rattle.twosided.specs.Caps.{leftmostBy, keepsCost, halfOf, capHalved, wordsBy, Low}
+use Rattle.twosided.specs.Caps.{leftmostBy, keepsCost, Reaches, Probed, wordsBy, Low}
 
 -- other caps, as many
 pub fits-set : (q : Measures) (hs bs rs ds ys cs caps new : List ℕ) → length new ≡ length caps → Fits q hs bs rs ds ys cs caps → Fits q hs bs rs ds ys cs new
@@ -54,44 +57,14 @@ unfolding leftmostBy leftmost
 leftmost-is q hs bs rs ys cs xs caps zero = refl
 leftmost-is q hs bs rs ys cs xs caps (suc c) = rw (leftmost-is q hs bs rs ys cs xs caps c)
 
--- ---- halving
-
--- a range within bounds stays there
-pub half-low : (t : ℕ → Bool) (r : Range) → r .low ≤ 48 → r .high ≤ 48 → ((halfOf t r) .low ≤ 48) × ((halfOf t r) .high ≤ 48)
-unfolding halfOf
-half-low t r h l =
-    by-order (r .high) (r .low)
-    (λ u. rw (le-ltb (r .low) (r .high) u) (h, l))
-    (λ u. rw (lt-ltb (r .low) (r .high) u) (by-test (t ((r .low + r .high) / 2)) (λ e. rw e (h, omega arith)) (λ e. rw e (omega arith, l))))
-
--- nothing left to halve
-pub half-done : (t : ℕ → Bool) (r : Range) → r .high ≤ r .low → r ≡ halfOf t r
-unfolding halfOf
-half-done t r u = rw (le-ltb (r .low) (r .high) u)
-
-pub half-lower : (t : ℕ → Bool) (r : Range) → r .low < r .high → t ((r .low + r .high) / 2) ≡ true → record { low = r .low; high = (r .low + r .high) / 2 } ≡ halfOf t r
-unfolding halfOf
-half-lower t r u e = rw (lt-ltb (r .low) (r .high) u, e)
-
-pub half-upper : (t : ℕ → Bool) (r : Range) → r .low < r .high → t ((r .low + r .high) / 2) ≡ false → record { low = (r .low + r .high) / 2 + 1; high = r .high } ≡ halfOf t r
-unfolding halfOf
-half-upper t r u e = rw (lt-ltb (r .low) (r .high) u, e, add-one)
-
-halve-still : (t : ℕ → Bool) (f lo hi : ℕ) → hi ≤ lo → halve t f lo hi ≡ lo
-unfolding halve
-halve-still t zero lo hi h = refl
-halve-still t (suc f) lo hi h = rw (le-ltb lo hi h)
-
-pub halve-step : (t : ℕ → Bool) (f : ℕ) (r : Range) → halve t (suc f) (r .low) (r .high) ≡ halve t f ((halfOf t r) .low) ((halfOf t r) .high)
-unfolding halve halfOf
-halve-step t f r =
-    by-order (r .high) (r .low)
-    (λ u. rw (le-ltb (r .low) (r .high) u) (sym (halve-still t f (r .low) (r .high) u)))
-    (λ u. rw (lt-ltb (r .low) (r .high) u) (by-test (t ((r .low + r .high) / 2)) (λ e. rw e) (λ e. rw e)))
-
--- the test does not see the site's own cap
-pub keeps-same : (G : Instance) (caps new : List ℕ) (w i : ℕ) → ((p : ℕ) → set new i p ≡ set caps i p) → keepsCost G new w i ≡ keepsCost G caps w i
-keeps-same G caps new w i h = fun-ext (λ k. ap (λ (l : List ℕ). eqb (value G (capsIn l)) w) (h (suc k)))
+-- the leftmost site without a cap has none
+leftmost-free : (G : Instance) (fx : ℕ → ℕ) (c : ℕ) → leftmost G fx c < G .n → fx (leftmost G fx c) ≡ 0
+unfolding leftmost
+leftmost-free G fx zero h = absurd (omega arith)
+leftmost-free G fx (suc c) h =
+    by-test (eqb (fx c) 0 && (leb (G .n) (leftmost G fx c) || ltb (G .x c) (G .x (leftmost G fx c))))
+    (λ e. rw e (eqb-true (fx c) 0 (and-l (eqb (fx c) 0) _ e)))
+    (λ e. rw e (leftmost-free G fx c (rw e at h)))
 
 pub low-set : (caps : List ℕ) (i p : ℕ) → i < length caps → p ≤ 49 → Low caps → Low (set caps i p)
 low-set caps i p l h low k =
@@ -105,26 +78,31 @@ module _ (q : Measures) (hs bs rs ys cs xs : List ℕ) (w : ℕ) where
   abbrev G : Instance
   G = instanceBy q hs bs rs ys cs xs
 
-  tests-same : (caps : List ℕ) (i : ℕ) → i < length caps → keepsCost (tableBy q hs bs rs ys cs) caps w i ≡ (λ k. eqb (value G (put (capsIn caps) i (suc k))) w)
-  tests-same caps i l =
-      fun-ext (λ k. ap (λ (v : ℕ). eqb v w) (sym (value-ranks q hs bs rs ys cs xs (capsIn (set caps i (suc k)))) ∙ ap (value G) (sym (put-set caps i (suc k) l))))
+  choose-ranks : (fx : ℕ → ℕ) (i : ℕ) → choose (tableBy q hs bs rs ys cs) w fx i ≡ choose G w fx i
+  unfolding choose
+  choose-ranks fx i = first-cong (length hs) _ _ (λ k. ap (λ (v : ℕ). eqb v w) (sym (value-ranks q hs bs rs ys cs xs (put fx i (suc k)))))
+
+  leftmost-at : (caps : List ℕ) (site : ℕ) → site ≡ leftmostBy (length caps) xs caps (length caps) → length caps ≡ length ys → leftmost G (capsIn caps) (length ys) ≡ site
+  leftmost-at caps site e n = sym ((rw n at e) ∙ leftmost-is q hs bs rs ys cs xs caps (length ys))
 
   pub caps-done : (caps : List ℕ) (f site : ℕ) → site ≡ leftmostBy (length caps) xs caps (length caps) → length caps ≡ length ys → length caps ≤ site →
-      capHalved G w f (capsIn caps) ≡ capsIn caps
-  unfolding capHalved
+      capAll G w f (capsIn caps) ≡ capsIn caps
+  unfolding capAll
   caps-done caps zero site e n l = refl
-  caps-done caps (suc f) site e n l =
-      let r : leftmost G (capsIn caps) (length ys) ≡ site = sym ((rw n at e) ∙ leftmost-is q hs bs rs ys cs xs caps (length ys)) in
-      rw (r, le-ltb site (length ys) (omega arith))
+  caps-done caps (suc f) site e n l = rw (leftmost-at caps site e n, le-ltb site (length ys) (omega arith))
 
   pub caps-step : (caps new : List ℕ) (f site : ℕ) → site ≡ leftmostBy (length caps) xs caps (length caps) → length caps ≡ length ys → site < length caps →
-      new ≡ set caps site (suc (halve (keepsCost (tableBy q hs bs rs ys cs) caps w site) 6 0 (length hs - 1))) →
-      capHalved G w (suc f) (capsIn caps) ≡ capHalved G w f (capsIn new)
-  unfolding capHalved
+      new ≡ set caps site (suc (choose (tableBy q hs bs rs ys cs) w (capsIn caps) site)) →
+      capAll G w (suc f) (capsIn caps) ≡ capAll G w f (capsIn new)
+  unfolding capAll
   caps-step caps new f site e n l h =
-      let r : leftmost G (capsIn caps) (length ys) ≡ site = sym ((rw n at e) ∙ leftmost-is q hs bs rs ys cs xs caps (length ys)) in
-      rw (r, lt-ltb site (length ys) (omega arith), h, tests-same caps site l)
-      (ap (capHalved G w f) (put-set caps site (suc (halve (λ k. eqb (value G (put (capsIn caps) site (suc k))) w) 6 0 (length hs - 1))) l))
+      rw (leftmost-at caps site e n, lt-ltb site (length ys) (omega arith), h, choose-ranks (capsIn caps) site)
+      (ap (capAll G w f) (put-set caps site (suc (choose G w (capsIn caps) site)) l))
+
+  pub site-free : (caps : List ℕ) (site : ℕ) → site ≡ leftmostBy (length caps) xs caps (length caps) → length caps ≡ length ys → site < length caps → getD caps site 0 ≡ 0
+  site-free caps site e n l =
+      let r = leftmost-at caps site e n in
+      rw r at (leftmost-free G (capsIn caps) (length ys) (omega arith))
 
 -- ---- the words
 
@@ -160,29 +138,130 @@ last-word d r h n e = front-all (set d 0 h) r (n + 1) (sym e) ∙ rw (e, drop-se
 
 -- ---- one site
 
--- what stays as the range is halved
-pub record Halving (G : Instance) (caps now : List ℕ) (w i steps slots : ℕ) (r : Range) : Type 0 where
-  pub low : r .low ≤ 48
-  pub high : r .high ≤ 48
+-- what is known of the slot that the walk takes while a range of slots is narrowed
+pub record Narrowed (G : Instance) (caps now : List ℕ) (w i slots : ℕ) (r : Range) : Type 0 where
+  pub ordered : r .low ≤ r .high
+  pub bounded : r .high ≤ slots
   pub others : (p : ℕ) → set now i p ≡ set caps i p
-  pub end : halve (keepsCost G caps w i) 6 0 slots ≡ halve (keepsCost G caps w i) steps (r .low) (r .high)
+  pub reached : Reaches G caps w i (r .high)
+  pub missed : (j : ℕ) → j < r .low → value G (capsIn (set caps i (suc j))) ≢ w
 
-pub halving-step : (G : Instance) (caps now new : List ℕ) (w i steps slots : ℕ) (r half : Range) → 0 < steps →
-    half ≡ halfOf (keepsCost G now w i) r → ((p : ℕ) → set new i p ≡ set now i p) → Halving G caps now w i steps slots r → Halving G caps new w i (steps - 1) slots half
-halving-step G caps now new w i steps slots r half pos e others h =
-    let t : half ≡ halfOf (keepsCost G caps w i) r = e ∙ ap (λ (t : ℕ → Bool). halfOf t r) (keeps-same G caps now w i (h .others)) in
-    let z : steps ≡ suc (steps - 1) = omega arith in
-    let b = half-low (keepsCost G caps w i) r (h .low) (h .high) in
-    record {
-      low = rw t (b .0);
-      high = rw t (b .1);
-      others = λ p. others p ∙ h .others p;
-      end = rw t (h .end ∙ ap (λ (s : ℕ). halve (keepsCost G caps w i) s (r .low) (r .high)) z ∙ halve-step (keepsCost G caps w i) (steps - 1) r);
-    }
+-- a site without a cap, where the least cost is w
+pub record Free (G : Instance) (w i : ℕ) (caps : List ℕ) : Type 0 where
+  pub inside : i < length caps
+  pub long : length caps ≡ G .n
+  pub free : getD caps i 0 ≡ 0
+  pub least : value G (capsIn caps) ≡ w
 
-pub halving-end : (G : Instance) (caps now : List ℕ) (w i steps slots : ℕ) (r : Range) → steps ≡ 0 → Halving G caps now w i steps slots r →
-    set now i (r .low + 1) ≡ set caps i (suc (halve (keepsCost G caps w i) 6 0 slots))
-unfolding halve
-halving-end G caps now w i steps slots r z h =
-    let e : halve (keepsCost G caps w i) 6 0 slots ≡ r .low = rw z at (h .end) in
-    h .others (r .low + 1) ∙ rw (add-one, ← e)
+module _ (G : Instance) (w : ℕ) (steady : Steady G w) (caps : List ℕ) (i : ℕ) (site : Free G w i caps) where
+  open Free site using (free, least)
+
+  at-set : (p : ℕ) → value G (put (capsIn caps) i p) ≡ value G (capsIn (set caps i p))
+  at-set p = ap (value G) (put-set caps i p (site .inside))
+
+  in-sites : i < G .n
+  in-sites = omega (arith, site .inside, site .long)
+
+  pub narrowed-first : (now : List ℕ) (high last : ℕ) → last ≡ G .m - 1 → ((high ≤ last) × (Reaches G caps w i last → Reaches G caps w i high)) → ((p : ℕ) → set now i p ≡ set caps i p) →
+      Narrowed G caps now w i (G .m - 1) (record { low = 0; high = high })
+  narrowed-first now high last z (h, f) o =
+      record {
+        ordered = omega arith;
+        bounded = omega arith;
+        others = o;
+        reached = f (le-of-eq (sym (at-set (suc last)) ∙ steady .last (capsIn caps) i last in-sites free least (omega arith)));
+        missed = λ j l. absurd (omega arith);
+      }
+
+  pub narrowed-step : (now new : List ℕ) (slots probe : ℕ) (r after : Range) → r .low ≤ probe → probe < r .high → Probed G now w i r probe after →
+      ((p : ℕ) → set new i p ≡ set now i p) → Narrowed G caps now w i slots r →
+      Narrowed G caps new w i slots after × (after .high - after .low < r .high - r .low)
+  narrowed-step now new slots probe r after a b t o n = by-test (keepsCost G now w i probe) kept lost
+    where
+      here : value G (capsIn (set now i (suc probe))) ≡ value G (capsIn (set caps i (suc probe)))
+      here = ap (λ (l : List ℕ). value G (capsIn l)) (n .others (suc probe))
+
+      kept : keepsCost G now w i probe ≡ true → Narrowed G caps new w i slots after × (after .high - after .low < r .high - r .low)
+      kept e =
+          let k = t .kept e in
+          let same : value G (capsIn (set now i (suc (after .high)))) ≡ value G (capsIn (set caps i (suc (after .high)))) = ap (λ (l : List ℕ). value G (capsIn l)) (n .others (suc (after .high))) in
+          let reach : Reaches G caps w i (after .high) = rw same at (k .2) in
+          let is : value G (capsIn (set caps i (suc (after .high)))) ≡ w =
+          sym (at-set (suc (after .high))) ∙ keeps G w steady (capsIn caps) i in-sites free least (after .high) (rw (at-set (suc (after .high))) reach) in
+          let up : after .low ≤ after .high = by-order (r .low) (after .high) (λ h. omega (arith, k .0)) (λ h. absurd (n .missed (after .high) h is)) in (
+            record {
+              ordered = up;
+              bounded = omega (arith, n .bounded, k .1);
+              others = λ p. o p ∙ n .others p;
+              reached = reach;
+              missed = λ j l. n .missed j (omega (arith, k .0));
+            },
+            omega (arith, k .0, k .1),
+          )
+
+      lost : keepsCost G now w i probe ≡ false → Narrowed G caps new w i slots after × (after .high - after .low < r .high - r .low)
+      lost e =
+          let k = t .lost e in
+          let no : value G (put (capsIn caps) i (suc probe)) ≢ w = (λ z. eqb-false _ _ e (here ∙ sym (at-set (suc probe)) ∙ z)) in (
+            record {
+              ordered = omega (arith, k .0, k .1);
+              bounded = omega (arith, n .bounded, k .1);
+              others = λ p. o p ∙ n .others p;
+              reached = rw (k .1) (n .reached);
+              missed = λ j l z. misses G w steady (capsIn caps) i in-sites free least j probe (omega (arith, k .0)) no (at-set (suc j) ∙ z);
+            },
+            omega (arith, k .0, k .1),
+          )
+
+  pub narrowed-end : (now : List ℕ) (r : Range) → r .high ≤ r .low → Narrowed G caps now w i (G .m - 1) r → set now i (r .low + 1) ≡ set caps i (suc (choose G w (capsIn caps) i))
+  narrowed-end now r h n =
+      let z : r .high ≡ r .low = omega (arith, n .ordered) in
+      let reach : value G (put (capsIn caps) i (suc (r .low))) ≤ w = rw (at-set (suc (r .low)), ← z) (n .reached) in
+      let e : choose G w (capsIn caps) i ≡ r .low =
+      choose-is G w steady (capsIn caps) i in-sites free least (r .low) (omega (arith, n .bounded)) reach (λ j l y. n .missed j l (sym (at-set (suc j)) ∙ y)) in
+      rw (e, add-one) (n .others (suc (r .low)))
+
+  pub narrowed-keeps : (new : List ℕ) → new ≡ set caps i (suc (choose G w (capsIn caps) i)) → value G (capsIn new) ≡ w
+  narrowed-keeps new e = rw e (sym (at-set (suc (choose G w (capsIn caps) i))) ∙ choose-keeps G w steady (capsIn caps) i in-sites free least)
+
+-- ---- labels that are known
+
+-- what is known of the highest slot while it is lowered
+pub record Lowering (G : Instance) (caps now : List ℕ) (w i high top : ℕ) : Type 0 where
+  pub under : top ≤ high
+  pub others : (p : ℕ) → set now i p ≡ set caps i p
+  pub reached : Reaches G caps w i high → Reaches G caps w i top
+
+pub lowering-step : (H : Instance) (caps now : List ℕ) (w i high low top middle cost low₁ top₁ : ℕ) (kept : Bool) → low < top → middle ≡ (low + top) / 2 →
+    kept ≡ leb cost w → value H (capsIn (set now i (middle + 1))) ≤ cost → low₁ ≡ cond kept low (middle + 1) → top₁ ≡ cond kept middle top →
+    Lowering H caps now w i high top → Lowering H caps (set now i (middle + 1)) w i high top₁ × (top₁ - low₁ < top - low)
+lowering-step H caps now w i high low top middle cost low₁ top₁ kept l m k c e₁ e₂ g =
+    by-test kept
+    (λ e.
+    let z₁ : low₁ ≡ low = e₁ ∙ rw e in
+    let z₂ : top₁ ≡ middle = e₂ ∙ rw e in
+    let y : middle + 1 ≡ suc middle = omega arith in
+    let same : value H (capsIn (set now i (middle + 1))) ≡ value H (capsIn (set caps i (suc middle))) =
+    ap (λ (l : List ℕ). value H (capsIn l)) (g .others (middle + 1)) ∙ ap (λ (z : ℕ). value H (capsIn (set caps i z))) y in
+    (record { under = omega (arith, g .under); others = others; reached = λ h. rw (z₂, ← same) (le-trans c (leb-true cost w (sym k ∙ e))) }, omega arith))
+    (λ e.
+    let z₁ : low₁ ≡ middle + 1 = e₁ ∙ rw e in
+    let z₂ : top₁ ≡ top = e₂ ∙ rw e in
+    (record { under = omega (arith, g .under); others = others; reached = λ h. rw z₂ (g .reached h) }, omega arith))
+  where
+    others : (p : ℕ) → set (set now i (middle + 1)) i p ≡ set caps i p
+    others p = set-set now i (middle + 1) p ∙ g .others p
+
+-- ---- a test by a fill
+
+module _ (H : Instance) (caps : List ℕ) (w i : ℕ) (range : Range) (probe : ℕ) where
+  pub probed-kept : (now : List ℕ) (high : ℕ) → now ≡ set caps i (suc probe) → keepsCost H caps w i probe ≡ true →
+      ((high ≤ probe) × (Reaches H now w i probe → Reaches H now w i high)) → Probed H caps w i range probe (record { low = range .low; high = high })
+  probed-kept now high e t (h, f) =
+      let same : (k : ℕ) → value H (capsIn (set now i (suc k))) ≡ value H (capsIn (set caps i (suc k))) =
+      (λ k. ap (λ (l : List ℕ). value H (capsIn l)) (ap (λ (l : List ℕ). set l i (suc k)) e ∙ set-set caps i (suc probe) (suc k))) in
+      let reach : Reaches H now w i probe = rw (same probe) (le-of-eq (eqb-true _ _ t)) in
+      record { kept = λ z. (refl, h, rw (same high) at (f reach)); lost = λ z. clash t z }
+
+  pub probed-lost : keepsCost H caps w i probe ≡ false → Probed H caps w i range probe (record { low = probe + 1; high = range .high })
+  probed-lost t = record { kept = λ z. clash z t; lost = λ z. (omega arith, refl) }

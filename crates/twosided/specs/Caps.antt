@@ -7,8 +7,7 @@ use mathlib.Core.Path.{_≡_}
 use lib.ListN.{length, getD, set, drop, replicate}
 use Rattle.labelling.specs.Layout.{tieWords, layoutWords}
 use Rattle.search.specs.Sums.{listing}
-use Rattle.optimum.specs.UsedSlots.{Instance, put, value, leftmost, ties}
-use Rattle.optimum.specs.Halve.{halve}
+use Rattle.optimum.specs.UsedSlots.{Instance, value, capAll, ties}
 use Rattle.arrays.specs.declared.Measures.{Measures}
 use Rattle.usedslots.specs.Table.{none, tableBy, capsIn}
 use Rattle.twosided.specs.declared.Range.{Range}
@@ -23,20 +22,14 @@ leftmostBy n xs caps (suc c) =
 abbrev pub keepsCost : Instance → (caps : List ℕ) → (least site k : ℕ) → Bool
 keepsCost G caps w i k = eqb (value G (capsIn (set caps i (suc k)))) w
 
--- a range of slots halved by a test
-unfoldable pub halfOf : (ℕ → Bool) → Range → Range
-halfOf t r =
-    cond (ltb (r .low) (r .high))
-    (cond (t ((r .low + r .high) / 2)) (record { low = r .low; high = (r .low + r .high) / 2 }) (record { low = suc ((r .low + r .high) / 2); high = r .high }))
-    r
+-- it is so much at most
+abbrev pub Reaches : Instance → (caps : List ℕ) → (least site k : ℕ) → Type 0
+Reaches G caps w i k = value G (capsIn (set caps i (suc k))) ≤ w
 
--- the caps at the end of the walk, each found by halving
-unfoldable pub capHalved : Instance → (least : ℕ) → (count : ℕ) → (caps : ℕ → ℕ) → ℕ → ℕ
-capHalved G w zero fx = fx
-capHalved G w (suc f) fx =
-    cond (ltb (leftmost G fx (G .n)) (G .n))
-    (capHalved G w f (put fx (leftmost G fx (G .n)) (suc (halve (λ k. eqb (value G (put fx (leftmost G fx (G .n)) (suc k))) w) 6 0 (G .m - 1)))))
-    fx
+-- a range of slots after a test at one of them
+pub record Probed (G : Instance) (caps : List ℕ) (least site : ℕ) (range : Range) (probe : ℕ) (after : Range) : Type 0 where
+  pub kept : keepsCost G caps least site probe ≡ true → (after .low ≡ range .low) × (after .high ≤ probe) × Reaches G caps least site (after .high)
+  pub lost : keepsCost G caps least site probe ≡ false → (after .low ≡ suc probe) × (after .high ≡ range .high)
 
 -- count and length in a cost
 abbrev pub countBy : Measures → (cost : ℕ) → ℕ
@@ -56,7 +49,7 @@ uncapped i = 0
 -- the layout of the least cost that comes first
 abbrev pub laidBy : Measures → Instance → List ℕ
 laidBy q G =
-    layoutWords (countBy q (value G uncapped)) (lengthBy q (value G uncapped)) (ties G (capHalved G (value G uncapped) (G .n) uncapped))
+    layoutWords (countBy q (value G uncapped)) (lengthBy q (value G uncapped)) (ties G (capAll G (value G uncapped) (G .n) uncapped))
 
 -- what a call on the arrays of a sheet answers and leaves
 pub record Laid (q : Measures) (G : Instance) (words : ℕ) (work out : List ℕ) (fault : ℕ) (works outs : List ℕ) : Type 0 where

@@ -8,10 +8,11 @@ ghost use lib.ListN.{length, getD, set, drop, replicate};
 ghost use Rattle.sheet.specs.Sheet.{sheetIn, productOf};
 ghost use Rattle.labelling.specs.Entry.{makeFault, makeWork, makeAnswer};
 ghost use Rattle.labelling.specs.Promise.{takesSheet};
-ghost use Rattle.optimum.specs.UsedSlots.{value};
-ghost use Rattle.optimum.specs.Halve.{halve};
+ghost use Rattle.optimum.specs.UsedSlots.{value, choose, capAll};
+ghost use Rattle.optimum.specs.Steady.{Steady};
+ghost use Rattle.byheight.specs.Sites.{Reorders};
 ghost use Rattle.usedslots.specs.Table.{instanceBy, tableBy, capsIn, Fits, tableWords};
-ghost use Rattle.twosided.specs.Caps.{leftmostBy, keepsCost, halfOf, capHalved, countBy, lengthBy, wordsBy, Low, Laid};
+ghost use Rattle.twosided.specs.Caps.{leftmostBy, keepsCost, Reaches, Probed, countBy, lengthBy, wordsBy, uncapped, Low, Laid};
 use arrays::Measures;
 use arrays::bounds_of;
 use arrays::colours_of;
@@ -21,7 +22,10 @@ use arrays::measures_of;
 use arrays::radices_of;
 use arrays::xs_of;
 use arrays::ys_of;
+use byheight::order_sites;
 use byheight::value_of;
+use labels::labels_cost;
+use labels::trace_labels;
 use words::NONE;
 use words::at_most;
 use words::both;
@@ -67,7 +71,7 @@ fn leftmost(ranks: &[u32], caps: &[u32]) -> u32
     best
 }
 
-// ---- the cap of a site, by halving
+// ---- the cap of a site
 
 // With the site's cap at k + 1 the least cost stays.
 fn keeps_cost(
@@ -78,6 +82,7 @@ fn keeps_cost(
     draws: &[u32],
     ys: &[u32],
     colours: &[u32],
+    order: &[u32],
     caps: &mut [u32],
     work: &mut [u32],
     least: u32,
@@ -85,17 +90,29 @@ fn keeps_cost(
     k: u32,
 ) -> bool
     requires { ⌜ Fits q (now heights) (now bounds) (now radices) (now draws) (now ys) (now colours) (now caps) ⌝ }
-    requires { ⌜ (tableWords q (now heights) ≤ length (now work)) × (site < length (now caps)) × (k ≤ 48) ⌝ }
+    requires { ⌜ (tableWords q (now heights) ≤ length (now work)) × (site < length (now caps)) × (k ≤ 48) × Reorders (now order) (length (now ys)) ⌝ }
     ensures { λ r. ⌜ r ≡ keepsCost (tableBy q (now (heights .entry)) (now (bounds .entry)) (now (radices .entry)) (now (ys .entry)) (now (colours .entry))) (now (caps .entry)) least site k ⌝ }
     ensures { λ _. ⌜ now (caps .exit) ≡ set (now (caps .entry)) site (suc k) ⌝ }
     ensures { λ _. ⌜ drop (tableWords q (now (heights .entry))) (now (work .exit)) ≡ drop (tableWords q (now (heights .entry))) (now (work .entry)) ⌝ }
 {
     caps[site] = k + 1;
-    value_of(q, heights, bounds, radices, draws, ys, colours, caps, work) == least
+    value_of(
+        q,
+        heights,
+        bounds,
+        radices,
+        draws,
+        ys,
+        colours,
+        order,
+        caps,
+        work,
+    )
+        == least
 }
 
-// Half of a range: the site's cap is lost, no other is.
-fn halved(
+// The highest slot that a site goes to, lowered as far as labels that are known keep the cost. The site is left without a cap.
+fn lowered(
     q: Measures,
     heights: &[u32],
     bounds: &[u32],
@@ -104,23 +121,64 @@ fn halved(
     ys: &[u32],
     colours: &[u32],
     caps: &mut [u32],
+    labels: &[u32],
+    least: u32,
+    site: usize,
+    high: u32,
+) -> u32
+    requires { ⌜ Fits q (now heights) (now bounds) (now radices) (now draws) (now ys) (now colours) (now caps) ⌝ }
+    requires { ⌜ (site < length (now caps)) × (high ≤ 48) ⌝ }
+    ensures { λ r. ⌜ (r ≤ high) × (Reaches (tableBy q (now (heights .entry)) (now (bounds .entry)) (now (radices .entry)) (now (ys .entry)) (now (colours .entry))) (now (caps .entry)) least site high → Reaches (tableBy q (now (heights .entry)) (now (bounds .entry)) (now (radices .entry)) (now (ys .entry)) (now (colours .entry))) (now (caps .entry)) least site r) ⌝ }
+    ensures { λ _. ⌜ now (caps .exit) ≡ set (now (caps .entry)) site 0 ⌝ }
+{
+    let mut low: u32 = 0;
+    let mut top = high;
+    while low < top {
+        let middle = (low + top) / 2;
+        caps[site] = middle + 1;
+        let keeps = labels_cost(
+            q,
+            heights,
+            bounds,
+            radices,
+            draws,
+            ys,
+            colours,
+            caps,
+            labels,
+        )
+            <= least;
+        low = choose(keeps, low, middle + 1);
+        top = choose(keeps, middle, top);
+    }
+    caps[site] = 0;
+    top
+}
+
+// A range of slots after a test at one of them by a fill: the site's cap is lost, no other is.
+fn probed(
+    q: Measures,
+    heights: &[u32],
+    bounds: &[u32],
+    radices: &[u32],
+    draws: &[u32],
+    ys: &[u32],
+    colours: &[u32],
+    order: &[u32],
+    caps: &mut [u32],
     work: &mut [u32],
+    labels: &mut [u32],
     least: u32,
     site: usize,
     range: Range,
+    probe: u32,
 ) -> Range
     requires { ⌜ Fits q (now heights) (now bounds) (now radices) (now draws) (now ys) (now colours) (now caps) ⌝ }
-    requires { ⌜ (tableWords q (now heights) ≤ length (now work)) × (site < length (now caps)) × (range .low ≤ 48) × (range .high ≤ 48) ⌝ }
-    ensures { λ r. ⌜ r ≡ halfOf (keepsCost (tableBy q (now (heights .entry)) (now (bounds .entry)) (now (radices .entry)) (now (ys .entry)) (now (colours .entry))) (now (caps .entry)) least site) range ⌝ }
+    requires { ⌜ (tableWords q (now heights) ≤ length (now work)) × (length (now labels) ≡ length (now heights)) × (site < length (now caps)) × (probe ≤ 48) × Reorders (now order) (length (now ys)) ⌝ }
+    ensures { λ r. ⌜ Probed (tableBy q (now (heights .entry)) (now (bounds .entry)) (now (radices .entry)) (now (ys .entry)) (now (colours .entry))) (now (caps .entry)) least site range probe r ⌝ }
     ensures { λ _. ⌜ ((p : ℕ) → set (now (caps .exit)) site p ≡ set (now (caps .entry)) site p) ⌝ }
     ensures { λ _. ⌜ drop (tableWords q (now (heights .entry))) (now (work .exit)) ≡ drop (tableWords q (now (heights .entry))) (now (work .entry)) ⌝ }
 {
-    let low = range.low;
-    let high = range.high;
-    if high <= low {
-        return range;
-    }
-    let middle = (low + high) / 2;
     if keeps_cost(
         q,
         heights,
@@ -129,50 +187,14 @@ fn halved(
         draws,
         ys,
         colours,
+        order,
         caps,
         work,
         least,
         site,
-        middle,
+        probe,
     ) {
-        return Range {
-            low: low,
-            high: middle,
-        };
-    }
-    Range {
-        low: middle + 1,
-        high: high,
-    }
-}
-
-// The least cap that keeps the cost.
-fn cap_site(
-    q: Measures,
-    heights: &[u32],
-    bounds: &[u32],
-    radices: &[u32],
-    draws: &[u32],
-    ys: &[u32],
-    colours: &[u32],
-    caps: &mut [u32],
-    work: &mut [u32],
-    least: u32,
-    site: usize,
-)
-    requires { ⌜ Fits q (now heights) (now bounds) (now radices) (now draws) (now ys) (now colours) (now caps) ⌝ }
-    requires { ⌜ (tableWords q (now heights) ≤ length (now work)) × (site < length (now caps)) ⌝ }
-    ensures { λ _. ⌜ now (caps .exit) ≡ set (now (caps .entry)) site (suc (halve (keepsCost (tableBy q (now (heights .entry)) (now (bounds .entry)) (now (radices .entry)) (now (ys .entry)) (now (colours .entry))) (now (caps .entry)) least site) 6 0 (length (now (heights .entry)) - 1))) ⌝ }
-    ensures { λ _. ⌜ (Low (now (caps .entry)) → Low (now (caps .exit))) ⌝ }
-    ensures { λ _. ⌜ drop (tableWords q (now (heights .entry))) (now (work .exit)) ≡ drop (tableWords q (now (heights .entry))) (now (work .entry)) ⌝ }
-{
-    let mut range = Range {
-        low: 0,
-        high: monus(heights.len() as u32, 1),
-    };
-    let mut steps: u32 = 6;
-    while steps > 0 {
-        range = halved(
+        trace_labels(
             q,
             heights,
             bounds,
@@ -182,11 +204,93 @@ fn cap_site(
             colours,
             caps,
             work,
+            labels,
+            least,
+        );
+        let high = lowered(
+            q,
+            heights,
+            bounds,
+            radices,
+            draws,
+            ys,
+            colours,
+            caps,
+            labels,
+            least,
+            site,
+            probe,
+        );
+        return Range {
+            low: range.low,
+            high: high,
+        };
+    }
+    Range {
+        low: probe + 1,
+        high: range.high,
+    }
+}
+
+// The least cap that keeps the cost: first the slot next above that of the labels, which mostly ends it, then by halving.
+fn cap_site(
+    q: Measures,
+    heights: &[u32],
+    bounds: &[u32],
+    radices: &[u32],
+    draws: &[u32],
+    ys: &[u32],
+    colours: &[u32],
+    order: &[u32],
+    caps: &mut [u32],
+    work: &mut [u32],
+    labels: &mut [u32],
+    least: u32,
+    site: usize,
+)
+    requires { ⌜ Fits q (now heights) (now bounds) (now radices) (now draws) (now ys) (now colours) (now caps) ⌝ }
+    requires { ⌜ (tableWords q (now heights) ≤ length (now work)) × (length (now labels) ≡ length (now heights)) × (site < length (now caps)) × (getD (now caps) site 0 ≡ 0) × Reorders (now order) (length (now ys)) ⌝ }
+    requires { ⌜ (value (tableBy q (now heights) (now bounds) (now radices) (now ys) (now colours)) (capsIn (now caps)) ≡ least) × Steady (tableBy q (now heights) (now bounds) (now radices) (now ys) (now colours)) least ⌝ }
+    ensures { λ _. ⌜ now (caps .exit) ≡ set (now (caps .entry)) site (suc (choose (tableBy q (now (heights .entry)) (now (bounds .entry)) (now (radices .entry)) (now (ys .entry)) (now (colours .entry))) least (capsIn (now (caps .entry))) site)) ⌝ }
+    ensures { λ _. ⌜ (Low (now (caps .entry)) → Low (now (caps .exit))) ⌝ }
+    ensures { λ _. ⌜ drop (tableWords q (now (heights .entry))) (now (work .exit)) ≡ drop (tableWords q (now (heights .entry))) (now (work .entry)) ⌝ }
+{
+    let last = monus(heights.len() as u32, 1);
+    let high = lowered(
+        q,
+        heights,
+        bounds,
+        radices,
+        draws,
+        ys,
+        colours,
+        caps,
+        labels,
+        least,
+        site,
+        last,
+    );
+    let mut range = Range { low: 0, high: high };
+    let mut probe = monus(high, 1);
+    while range.low < range.high {
+        range = probed(
+            q,
+            heights,
+            bounds,
+            radices,
+            draws,
+            ys,
+            colours,
+            order,
+            caps,
+            work,
+            labels,
             least,
             site,
             range,
+            probe,
         );
-        steps -= 1;
+        probe = (range.low + range.high) / 2;
     }
     caps[site] = range.low + 1;
 }
@@ -200,14 +304,17 @@ fn cap_all(
     draws: &[u32],
     ys: &[u32],
     colours: &[u32],
+    order: &[u32],
     ranks: &[u32],
     caps: &mut [u32],
     work: &mut [u32],
+    labels: &mut [u32],
     least: u32,
 )
     requires { ⌜ Fits q (now heights) (now bounds) (now radices) (now draws) (now ys) (now colours) (now caps) ⌝ }
-    requires { ⌜ tableWords q (now heights) ≤ length (now work) ⌝ }
-    ensures { λ _. ⌜ capsIn (now (caps .exit)) ≡ capHalved (instanceBy q (now (heights .entry)) (now (bounds .entry)) (now (radices .entry)) (now (ys .entry)) (now (colours .entry)) (now (ranks .entry))) least (length (now (ys .entry))) (capsIn (now (caps .entry))) ⌝ }
+    requires { ⌜ (tableWords q (now heights) ≤ length (now work)) × (length (now labels) ≡ length (now heights)) × Reorders (now order) (length (now ys)) ⌝ }
+    requires { ⌜ (value (tableBy q (now heights) (now bounds) (now radices) (now ys) (now colours)) (capsIn (now caps)) ≡ least) × Steady (tableBy q (now heights) (now bounds) (now radices) (now ys) (now colours)) least ⌝ }
+    ensures { λ _. ⌜ capsIn (now (caps .exit)) ≡ capAll (instanceBy q (now (heights .entry)) (now (bounds .entry)) (now (radices .entry)) (now (ys .entry)) (now (colours .entry)) (now (ranks .entry))) least (length (now (ys .entry))) (capsIn (now (caps .entry))) ⌝ }
     ensures { λ _. ⌜ (Low (now (caps .entry)) → Low (now (caps .exit))) ⌝ }
     ensures { λ _. ⌜ drop (tableWords q (now (heights .entry))) (now (work .exit)) ≡ drop (tableWords q (now (heights .entry))) (now (work .entry)) ⌝ }
 {
@@ -225,13 +332,109 @@ fn cap_all(
             draws,
             ys,
             colours,
+            order,
             caps,
             work,
+            labels,
             least,
             site,
         );
         left -= 1;
     }
+}
+
+// The same from the table that has the least cost: first it tells the labels of a cheapest layout.
+fn cap_traced(
+    q: Measures,
+    heights: &[u32],
+    bounds: &[u32],
+    radices: &[u32],
+    draws: &[u32],
+    ys: &[u32],
+    colours: &[u32],
+    order: &[u32],
+    ranks: &[u32],
+    caps: &mut [u32],
+    work: &mut [u32],
+    labels: &mut [u32],
+    least: u32,
+)
+    requires { ⌜ Fits q (now heights) (now bounds) (now radices) (now draws) (now ys) (now colours) (now caps) ⌝ }
+    requires { ⌜ (tableWords q (now heights) ≤ length (now work)) × (length (now labels) ≡ length (now heights)) × Reorders (now order) (length (now ys)) ⌝ }
+    requires { ⌜ (value (tableBy q (now heights) (now bounds) (now radices) (now ys) (now colours)) (capsIn (now caps)) ≡ least) × Steady (tableBy q (now heights) (now bounds) (now radices) (now ys) (now colours)) least ⌝ }
+    ensures { λ _. ⌜ capsIn (now (caps .exit)) ≡ capAll (instanceBy q (now (heights .entry)) (now (bounds .entry)) (now (radices .entry)) (now (ys .entry)) (now (colours .entry)) (now (ranks .entry))) least (length (now (ys .entry))) (capsIn (now (caps .entry))) ⌝ }
+    ensures { λ _. ⌜ (Low (now (caps .entry)) → Low (now (caps .exit))) ⌝ }
+    ensures { λ _. ⌜ drop (tableWords q (now (heights .entry))) (now (work .exit)) ≡ drop (tableWords q (now (heights .entry))) (now (work .entry)) ⌝ }
+{
+    trace_labels(
+        q,
+        heights,
+        bounds,
+        radices,
+        draws,
+        ys,
+        colours,
+        caps,
+        work,
+        labels,
+        least,
+    );
+    cap_all(
+        q,
+        heights,
+        bounds,
+        radices,
+        draws,
+        ys,
+        colours,
+        order,
+        ranks,
+        caps,
+        work,
+        labels,
+        least,
+    );
+}
+
+// The same with room for those labels.
+fn cap_sites(
+    q: Measures,
+    heights: &[u32],
+    bounds: &[u32],
+    radices: &[u32],
+    draws: &[u32],
+    ys: &[u32],
+    colours: &[u32],
+    order: &[u32],
+    ranks: &[u32],
+    caps: &mut [u32],
+    work: &mut [u32],
+    least: u32,
+)
+    requires { ⌜ Fits q (now heights) (now bounds) (now radices) (now draws) (now ys) (now colours) (now caps) ⌝ }
+    requires { ⌜ (tableWords q (now heights) ≤ length (now work)) × Reorders (now order) (length (now ys)) ⌝ }
+    requires { ⌜ (value (tableBy q (now heights) (now bounds) (now radices) (now ys) (now colours)) (capsIn (now caps)) ≡ least) × Steady (tableBy q (now heights) (now bounds) (now radices) (now ys) (now colours)) least ⌝ }
+    ensures { λ _. ⌜ capsIn (now (caps .exit)) ≡ capAll (instanceBy q (now (heights .entry)) (now (bounds .entry)) (now (radices .entry)) (now (ys .entry)) (now (colours .entry)) (now (ranks .entry))) least (length (now (ys .entry))) (capsIn (now (caps .entry))) ⌝ }
+    ensures { λ _. ⌜ (Low (now (caps .entry)) → Low (now (caps .exit))) ⌝ }
+    ensures { λ _. ⌜ drop (tableWords q (now (heights .entry))) (now (work .exit)) ≡ drop (tableWords q (now (heights .entry))) (now (work .entry)) ⌝ }
+{
+    let m = heights.len();
+    let mut labels = [0u32; 48];
+    cap_traced(
+        q,
+        heights,
+        bounds,
+        radices,
+        draws,
+        ys,
+        colours,
+        order,
+        ranks,
+        caps,
+        work,
+        &mut labels[..m],
+        least,
+    );
 }
 
 // ---- the layout's words
@@ -289,6 +492,7 @@ fn lay_capped(
     draws: &[u32],
     ys: &[u32],
     colours: &[u32],
+    order: &[u32],
     ranks: &[u32],
     caps: &mut [u32],
     work: &mut [u32],
@@ -296,16 +500,12 @@ fn lay_capped(
 ) -> u8
     requires { ⌜ Fits q (now heights) (now bounds) (now radices) (now draws) (now ys) (now colours) (now caps) ⌝ }
     requires { ⌜ ((i : ℕ) → getD (now caps) i 0 ≡ 0) ⌝ }
-    requires { ⌜ (tableWords q (now heights) ≤ length (now work)) × (length (now ys) + 1 ≤ length (now out)) ⌝ }
+    requires { ⌜ (tableWords q (now heights) ≤ length (now work)) × (length (now ys) + 1 ≤ length (now out)) × Reorders (now order) (length (now ys)) ⌝ }
+    requires { ⌜ (value (tableBy q (now heights) (now bounds) (now radices) (now ys) (now colours)) uncapped < 4294967295 → Steady (tableBy q (now heights) (now bounds) (now radices) (now ys) (now colours)) (value (tableBy q (now heights) (now bounds) (now radices) (now ys) (now colours)) uncapped)) ⌝ }
     ensures { λ r. ⌜ Laid q (instanceBy q (now (heights .entry)) (now (bounds .entry)) (now (radices .entry)) (now (ys .entry)) (now (colours .entry)) (now (ranks .entry))) (tableWords q (now (heights .entry))) (now (work .entry)) (now (out .entry)) r (now (work .exit)) (now (out .exit)) ⌝ }
 {
     let cells = table_words(q, heights.len());
-    let least = value_of(q, heights, bounds, radices, draws, ys, colours, caps, work);
-    if least == NONE {
-        clear(work, cells);
-        return 10;
-    }
-    cap_all(
+    let least = value_of(
         q,
         heights,
         bounds,
@@ -313,6 +513,23 @@ fn lay_capped(
         draws,
         ys,
         colours,
+        order,
+        caps,
+        work,
+    );
+    if least == NONE {
+        clear(work, cells);
+        return 10;
+    }
+    cap_sites(
+        q,
+        heights,
+        bounds,
+        radices,
+        draws,
+        ys,
+        colours,
+        order,
         ranks,
         caps,
         work,
@@ -321,6 +538,82 @@ fn lay_capped(
     write_layout(head_word(q, least), caps, out);
     clear(work, cells);
     0
+}
+
+// The same once the sites are ordered.
+fn lay_ordered(
+    q: Measures,
+    heights: &[u32],
+    bounds: &[u32],
+    radices: &[u32],
+    draws: &[u32],
+    ys: &[u32],
+    colours: &[u32],
+    order: &mut [u32],
+    ranks: &[u32],
+    caps: &mut [u32],
+    work: &mut [u32],
+    out: &mut [u32],
+) -> u8
+    requires { ⌜ Fits q (now heights) (now bounds) (now radices) (now draws) (now ys) (now colours) (now caps) ⌝ }
+    requires { ⌜ ((i : ℕ) → getD (now caps) i 0 ≡ 0) ⌝ }
+    requires { ⌜ (tableWords q (now heights) ≤ length (now work)) × (length (now ys) + 1 ≤ length (now out)) × (length (now order) ≡ length (now ys)) ⌝ }
+    requires { ⌜ (value (tableBy q (now heights) (now bounds) (now radices) (now ys) (now colours)) uncapped < 4294967295 → Steady (tableBy q (now heights) (now bounds) (now radices) (now ys) (now colours)) (value (tableBy q (now heights) (now bounds) (now radices) (now ys) (now colours)) uncapped)) ⌝ }
+    ensures { λ r. ⌜ Laid q (instanceBy q (now (heights .entry)) (now (bounds .entry)) (now (radices .entry)) (now (ys .entry)) (now (colours .entry)) (now (ranks .entry))) (tableWords q (now (heights .entry))) (now (work .entry)) (now (out .entry)) r (now (work .exit)) (now (out .exit)) ⌝ }
+{
+    order_sites(ys, order);
+    lay_capped(
+        q,
+        heights,
+        bounds,
+        radices,
+        draws,
+        ys,
+        colours,
+        order,
+        ranks,
+        caps,
+        work,
+        out,
+    )
+}
+
+// The same with room for that order.
+fn lay_sites(
+    q: Measures,
+    heights: &[u32],
+    bounds: &[u32],
+    radices: &[u32],
+    draws: &[u32],
+    ys: &[u32],
+    colours: &[u32],
+    ranks: &[u32],
+    caps: &mut [u32],
+    work: &mut [u32],
+    out: &mut [u32],
+) -> u8
+    requires { ⌜ Fits q (now heights) (now bounds) (now radices) (now draws) (now ys) (now colours) (now caps) ⌝ }
+    requires { ⌜ ((i : ℕ) → getD (now caps) i 0 ≡ 0) ⌝ }
+    requires { ⌜ (tableWords q (now heights) ≤ length (now work)) × (length (now ys) + 1 ≤ length (now out)) ⌝ }
+    requires { ⌜ (value (tableBy q (now heights) (now bounds) (now radices) (now ys) (now colours)) uncapped < 4294967295 → Steady (tableBy q (now heights) (now bounds) (now radices) (now ys) (now colours)) (value (tableBy q (now heights) (now bounds) (now radices) (now ys) (now colours)) uncapped)) ⌝ }
+    ensures { λ r. ⌜ Laid q (instanceBy q (now (heights .entry)) (now (bounds .entry)) (now (radices .entry)) (now (ys .entry)) (now (colours .entry)) (now (ranks .entry))) (tableWords q (now (heights .entry))) (now (work .entry)) (now (out .entry)) r (now (work .exit)) (now (out .exit)) ⌝ }
+{
+    let n = ys.len();
+    let mut order = [0u32; 32];
+    lay_ordered(
+        q,
+        heights,
+        bounds,
+        radices,
+        draws,
+        ys,
+        colours,
+        &mut order[..n],
+        ranks,
+        caps,
+        work,
+        out,
+    )
 }
 
 // What the layout maker does with an accepted two-sided sheet of these sizes, its areas long enough.
@@ -350,7 +643,7 @@ pub fn lay_two_sided(
     let ys = ys_of(sheet);
     let codes = colours_of(sheet);
     let mut caps = [0u32; 32];
-    lay_capped(
+    lay_sites(
         q,
         &heights[..slots],
         &bounds[..kinds],

@@ -92,7 +92,7 @@ module _ (q : Measures) (hs bs rs ds ys cs caps : List ℕ) (f : Fits q hs bs rs
       let z : skip ≡ place rs d = f .draws d in-colours ∙ rw e in
       rw (z, e, digit-flat rs d v (omega (arith, f .radices-long))) (digit-block (place rs d) (getD rs d 0) v (parts .0) (parts .1)))
 
-  draw-is : draw (tableBy q hs bs rs ys cs) (suc d) ≡ skip
+  pub draw-is : draw (tableBy q hs bs rs ys cs) (suc d) ≡ skip
   unfolding draw
   draw-is = sym (f .draws d in-colours)
 
@@ -103,7 +103,7 @@ module _ (q : Measures) (hs bs rs ds ys cs caps : List ℕ) (f : Fits q hs bs rs
     abbrev fx : ℕ → ℕ
     fx = capsIn caps
 
-    far-is : (k : ℕ) → farAt q hs a ca k (suc d) ≡ farUp G a ca k (suc d)
+    pub far-is : (k : ℕ) → farAt q hs a ca k (suc d) ≡ farUp G a ca k (suc d)
     unfolding farUp
     far-is k = go a
       where

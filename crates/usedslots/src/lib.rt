@@ -47,7 +47,7 @@ fn is_clear(q: Measures, upper: u32, lower: u32) -> bool
 }
 
 // The label at the place a, of one code, lets a label of another code be at slot k below it.
-fn is_far(q: Measures, heights: &[u32], a: u32, code: u32, k: u32, below: u32) -> bool
+pub fn is_far(q: Measures, heights: &[u32], a: u32, code: u32, k: u32, below: u32) -> bool
     ensures { λ r. ⌜ r ≡ farAt q (now (heights .entry)) a code k below ⌝ }
 {
     if a == 0 {
@@ -212,7 +212,7 @@ fn lower_label(heights: &[u32], k: u32, code: u32) -> Label
 }
 
 // The strip between the place a and slot k, or the bottom edge where k is m.
-fn strip_between(
+pub fn strip_between(
     q: Measures,
     heights: &[u32],
     ys: &[u32],
@@ -394,7 +394,7 @@ fn label_cost(q: Measures) -> u64
 }
 
 // A label and the strip above it.
-fn link_cost(q: Measures, strip: u32) -> u32
+pub fn link_cost(q: Measures, strip: u32) -> u32
     ensures { λ r. ⌜ r ≡ plus none (labelCost q) strip ⌝ }
 {
     let cost = label_cost(q);
@@ -465,7 +465,7 @@ fn link(
 // ---- the table
 
 // Where the row of a place and a code begins.
-fn row_start(q: Measures, a: u32, code: u32) -> usize
+pub fn row_start(q: Measures, a: u32, code: u32) -> usize
     requires { ⌜ (a ≤ 49) × (code ≤ 8) × (q .colours ≤ 8) × (q .budgets ≤ 64) ⌝ }
     ensures { λ r. ⌜ r ≡ cell (q .colours) (q .budgets) a code 0 ⌝ }
 {
@@ -474,7 +474,7 @@ fn row_start(q: Measures, a: u32, code: u32) -> usize
 }
 
 // The block of budgets in which a colour's digit takes each value once.
-fn block_size(budgets: u32, bound: u32, draw: u32, radix: u32) -> u32
+pub fn block_size(budgets: u32, bound: u32, draw: u32, radix: u32) -> u32
     requires { ⌜ draw * radix ≤ 64 ⌝ }
     ensures { λ r. ⌜ r ≡ sizeOf budgets bound draw radix ⌝ }
 {

@@ -3,9 +3,10 @@
 //!
 //! The benchmark times the library against this. Both read the sheet with all refusals, keep the table in the
 //! caller's work words, drop the bounds that can't bind, sort the sites by y, so that those of a strip stand side by
-//! side, fill the table once for the least cost and again for each halving of a site's cap, pass over a strip that has
-//! a site of a third colour, go through budgets block by block, and leave all work words zero. What is this one's own:
-//! the sites are sorted once, not for each fill.
+//! side, fill the table once for the least cost, read the labels of a cheapest layout off it, lower each site's cap as
+//! far as those labels keep the least cost and fill the table again for the slot before, and by halving where that one
+//! keeps it too, pass over a strip that has a site of a third colour, go through budgets block by block, and leave all
+//! work words zero. What is this one's own: the sites are sorted once, not for each fill.
 
 use crate::budgets::Budgets;
 use crate::costs::{Aim, NONE};
@@ -33,6 +34,8 @@ struct Maker<'a> {
     /// Sites by rising y, and how many of them lie above each place.
     sites: [Capped; MOST_SITES],
     sites_above: [usize; PLACES],
+    /// The colour at each place of a layout that cost the least when it was traced, 0 for none.
+    labels: [usize; PLACES],
 }
 
 /// Fills the work area and gives the first word of the layout and each site's slot, by rising x.
@@ -46,6 +49,7 @@ pub fn best(sheet: &Sheet, order: &[usize], work: &mut [u32]) -> Option<(u32, [u
     if least == NONE {
         return None;
     }
+    maker.trace(work);
     let mut slots = [0; MOST_SITES];
     for (rank, site) in order.iter().enumerate() {
         let index = by_y.iter().position(|other| other == site).unwrap_or(0);
@@ -77,23 +81,101 @@ impl<'a> Maker<'a> {
             colours: sheet.bounds.len() + 1,
             sites,
             sites_above,
+            labels: [0; PLACES],
         }
     }
 
-    /// Lowers a site's cap as far as the least cost allows. The cost falls as a cap rises, so halving finds it.
+    /// Lowers a site's cap as far as the least cost allows. The cost falls as a cap rises.
     fn lower_cap(&mut self, index: usize, least: u32, work: &mut [u32]) -> usize {
-        let (mut low, mut high) = (1, self.bottom - 1);
+        let mut low = 1;
+        let mut high = self.lower_by_labels(index, self.bottom - 1, least);
+        let mut probe = high - 1;
+        while low < high {
+            self.sites[index].cap = probe;
+            if self.fill(work) == least {
+                self.trace(work);
+                high = self.lower_by_labels(index, probe, least);
+            } else {
+                low = probe + 1;
+            }
+            probe = (low + high) / 2;
+        }
+        self.sites[index].cap = high;
+        high
+    }
+
+    /// The same as far as the known labels keep it.
+    fn lower_by_labels(&mut self, index: usize, from: usize, least: u32) -> usize {
+        let (mut low, mut high) = (1, from);
         while low < high {
             let middle = (low + high) / 2;
             self.sites[index].cap = middle;
-            if self.fill(work) == least {
+            if self.labels_cost() == least {
                 high = middle;
             } else {
                 low = middle + 1;
             }
         }
-        self.sites[index].cap = high;
         high
+    }
+
+    /// What the known labels cost within the caps.
+    fn labels_cost(&self) -> u32 {
+        let label = self.aim.cost(1, self.sheet.width);
+        let (mut above, mut above_colour, mut sum) = (0, 0, 0);
+        for place in 1..self.bottom {
+            let colour = self.labels[place];
+            if colour == 0 {
+                continue;
+            }
+            let strip = self.strip_cost(above, above_colour, place, colour);
+            if strip == NONE {
+                return NONE;
+            }
+            sum += strip + label;
+            (above, above_colour) = (place, colour);
+        }
+        let strip = self.strip_cost(above, above_colour, self.bottom, 0);
+        if strip == NONE {
+            return NONE;
+        }
+        sum + strip
+    }
+
+    /// Reads the labels of a cheapest layout off the table.
+    fn trace(&mut self, work: &[u32]) {
+        self.labels = [0; PLACES];
+        let (mut above, mut above_colour, mut budget) = (0, 0, self.budgets.count - 1);
+        while let Some((below, colour)) = self.next_label(above, above_colour, budget, work) {
+            self.labels[below] = colour;
+            budget -= self.budgets.draw[colour - 1];
+            (above, above_colour) = (below, colour);
+        }
+    }
+
+    /// The label next below one that the table goes on with.
+    fn next_label(&self, above: usize, above_colour: usize, budget: usize, work: &[u32]) -> Option<(usize, usize)> {
+        let label = self.aim.cost(1, self.sheet.width);
+        let cost = work[self.row(above, above_colour) + budget];
+        for below in above + 1..self.bottom {
+            if self.heights[below] - self.heights[above] < self.sheet.gap as i32 {
+                continue;
+            }
+            for colour in 1..self.colours {
+                if self.budgets.allowing[colour - 1] >> budget & 1 == 0 {
+                    continue;
+                }
+                let strip = self.strip_cost(above, above_colour, below, colour);
+                if strip == NONE {
+                    continue;
+                }
+                let next = work[self.row(below, colour) + budget - self.budgets.draw[colour - 1]];
+                if next.saturating_add(strip + label) == cost {
+                    return Some((below, colour));
+                }
+            }
+        }
+        None
     }
 
     fn row(&self, place: usize, colour: usize) -> usize {
@@ -139,7 +221,6 @@ impl<'a> Maker<'a> {
         }
     }
 
-    /// In each block of budgets the first ones, as many as the draw, have no label of the colour left.
     /// The colour, besides the upper label's, of the sites met down to a place: 0 for none.
     fn other_colour(&self, mut other: usize, above_colour: usize, place: usize) -> usize {
         for site in &self.sites[self.sites_above[place - 1]..self.sites_above[place]] {
@@ -150,6 +231,7 @@ impl<'a> Maker<'a> {
         other
     }
 
+    /// In each block of budgets the first ones, as many as the draw, have no label of the colour left.
     fn lower_row(&self, row: &mut [u32], next: &[u32], step: u32, colour: usize) {
         let (draw, block) = (self.budgets.draw[colour], self.budgets.block[colour]);
         for (row, next) in row.chunks_exact_mut(block).zip(next.chunks_exact(block)) {

@@ -29,8 +29,8 @@ slice-write-caps c = search needs
 -- src/lib.rt:68:5
 value-of-requires : tie.Need-value-of-requires
 value-of-requires c κs =
-    let a = c .before .before .before .before .before .before .before .before .before .before .args in let p = c .before .before .before .before .before .before .before .before .before .before .pre in
-    (fits-set (a .q) (a .heights .now) (a .bounds .now) (a .radices .now) (a .draws .now) (a .ys .now) (a .colours .now) (a .caps .now) (set (a .caps .now) (a .site) (a .k + 1)) (length-set (a .caps .now) (a .site) (a .k + 1)) (p .0), p .1 .0)
+    let a = c .before .before .before .before .before .before .before .before .before .before .before .args in let p = c .before .before .before .before .before .before .before .before .before .before .before .pre in
+    (fits-set (a .q) (a .heights .now) (a .bounds .now) (a .radices .now) (a .draws .now) (a .ys .now) (a .colours .now) (a .caps .now) (set (a .caps .now) (a .site) (a .k + 1)) (length-set (a .caps .now) (a .site) (a .k + 1)) (p .0), (p .1 .3, p .1 .0))
 
 -- src/lib.rt:47:1
 same-length : tie.Need-same-length

@@ -1,5 +1,5 @@
 use Rattle.usedslots.specs.Table.{tableWords}
-use Rattle.twosided.proofs.Answer.{laid-none, laid-some, low-none}
+use Rattle.twosided.proofs.Answer.{laid-none, laid-some, steady-at, low-none}
 use mathlib.Core.Path.{_≡_, refl, ap, sym, _∙_}
 use mathlib.Core.List.{List, [], _∷_, _++_}
 use mathlib.Core.Logic.{⊎-elim}
@@ -13,7 +13,7 @@ use Rattle.twosided.proofs.lay_capped.Statement.{statement}
 use Rattle.twosided.proofs.lay_capped.Tie as tie
 use Rattle.twosided.proofs.lay_capped.Reads as reads
 use Rattle.twosided.proofs.lay_capped.Lts as lts
-use Rattle.twosided.proofs.cap_all.Reads as cap-all-reads
+use Rattle.twosided.proofs.cap_sites.Reads as cap-sites-reads
 use Rattle.twosided.proofs.clear.Reads as clear-reads
 use Rattle.twosided.proofs.head_word.Reads as head-word-reads
 use Rattle.twosided.proofs.table_words.Reads as table-words-reads
@@ -43,13 +43,15 @@ same-length-2 c = search needs
 -- src/lib.rt:236:9
 returns : tie.Need-returns
 returns c =
-    let a = c .before .before .before .before .before .before .before .before .before .before .before .before .before .before .before .before .before .before .before .before .before .args in let p = c .before .before .before .before .before .before .before .before .before .before .before .before .before .before .before .before .before .before .before .before .before .pre in let v = c .before .before .before .before .before .before .before .value-of in
-    laid-none (a .q) (a .heights .now) (a .bounds .now) (a .radices .now) (a .ys .now) (a .colours .now) (a .ranks .now) (a .caps .now) (p .1 .0) (v .result) (tableWords (a .q) (a .heights .now)) (a .work .now) (v .last .1 .1 .1 .1 .1 .1 .1 .1 .0) (c .before .before .clear .last .0) (a .out .now) (v .ensures .0) (c .before .before .before .before .if1 .taken) (v .ensures .1)
+    let a = c .before .before .before .before .before .before .before .before .before .before .before .before .before .before .before .before .before .before .before .before .before .before .args in let p = c .before .before .before .before .before .before .before .before .before .before .before .before .before .before .before .before .before .before .before .before .before .before .pre in let v = c .before .before .before .before .before .before .before .value-of in
+    laid-none (a .q) (a .heights .now) (a .bounds .now) (a .radices .now) (a .ys .now) (a .colours .now) (a .ranks .now) (a .caps .now) (p .1 .0) (v .result) (tableWords (a .q) (a .heights .now)) (a .work .now) (v .last .1 .1 .1 .1 .1 .1 .1 .1 .1 .0) (c .before .before .clear .last .0) (a .out .now) (v .ensures .0) (c .before .before .before .before .if1 .taken) (v .ensures .1)
     (rw (c .before .before .before .before .before .before .before .before .before .before .table-words .ensures) at (c .before .before .clear .ensures))
 
 -- src/lib.rt:238:5
-cap-all-requires : tie.Need-cap-all-requires
-cap-all-requires c κs = search needs
+cap-sites-requires : tie.Need-cap-sites-requires
+cap-sites-requires c κs =
+    let a = c .before .before .before .before .before .before .before .before .before .before .before .before .before .before .before .before .before .before .before .before .args in let p = c .before .before .before .before .before .before .before .before .before .before .before .before .before .before .before .before .before .before .before .before .pre in let v = c .before .before .before .before .before .value-of in
+    (p .0, ((omega (arith, p .1 .1 .0 .0, v .kept .1 .1 .1 .1 .1 .1 .1 .1 .1 .0), p .1 .1 .0 .2), (sym (v .ensures .0), steady-at (a .q) (a .heights .now) (a .bounds .now) (a .radices .now) (a .ys .now) (a .colours .now) (a .ranks .now) (a .caps .now) (p .1 .0) (v .result) (v .ensures .0) (c .before .before .if1 .left) (omega (arith, v .ok)) (p .1 .1 .1))))
 
 -- src/lib.rt:239:18
 head-word-requires : tie.Need-head-word-requires
@@ -58,13 +60,13 @@ head-word-requires c κs = search needs
 -- src/lib.rt:239:5
 write-layout-requires : tie.Need-write-layout-requires
 write-layout-requires c κs =
-    let a = c .before .before .before .before .before .before .before .before .before .before .before .before .before .before .before .before .before .before .before .before .before .before .before .before .before .before .before .args in let p = c .before .before .before .before .before .before .before .before .before .before .before .before .before .before .before .before .before .before .before .before .before .before .before .before .before .before .before .pre in let k = c .before .before .before .before .before .before .before .cap-all in
-    (omega (arith, k .kept .1 .1 .1 .1 .1 .1 .1 .1 .0, p .0 .caps-long, p .1 .1), omega (arith, k .kept .1 .1 .1 .1 .1 .1 .1 .1 .0, p .0 .caps-long, p .0 .few-sites), k .ensures .1 .0 (low-none (a .q) (a .heights .now) (a .bounds .now) (a .radices .now) (a .ys .now) (a .colours .now) (a .ranks .now) (a .caps .now) (p .1 .0)))
+    let a = c .before .before .before .before .before .before .before .before .before .before .before .before .before .before .before .before .before .before .before .before .before .before .before .before .before .before .before .before .args in let p = c .before .before .before .before .before .before .before .before .before .before .before .before .before .before .before .before .before .before .before .before .before .before .before .before .before .before .before .before .pre in let k = c .before .before .before .before .before .before .before .cap-sites in
+    (omega (arith, k .kept .1 .1 .1 .1 .1 .1 .1 .1 .1 .0, p .0 .caps-long, p .1 .1 .0), omega (arith, k .kept .1 .1 .1 .1 .1 .1 .1 .1 .1 .0, p .0 .caps-long, p .0 .few-sites), k .ensures .1 .0 (low-none (a .q) (a .heights .now) (a .bounds .now) (a .radices .now) (a .ys .now) (a .colours .now) (a .ranks .now) (a .caps .now) (p .1 .0)))
 
 -- src/lib.rt:240:5
 clear-requires-2 : tie.Need-clear-requires-2
 clear-requires-2 c κs =
-    omega (arith, c .before .before .before .before .before .before .before .before .before .before .before .before .before .before .before .before .before .before .before .before .table-words .ensures, c .before .before .before .before .before .before .before .before .before .before .before .cap-all .kept .1 .1 .1 .1 .1 .1 .1 .1 .1 .0, c .before .before .before .before .before .before .before .before .before .before .before .before .before .before .before .before .before .value-of .kept .1 .1 .1 .1 .1 .1 .1 .1 .0, c .before .before .before .before .before .before .before .before .before .before .before .before .before .before .before .before .before .before .before .before .before .before .before .before .before .before .before .before .before .before .before .pre .1 .1)
+    omega (arith, c .before .before .before .before .before .before .before .before .before .before .before .before .before .before .before .before .before .before .before .before .table-words .ensures, c .before .before .before .before .before .before .before .before .before .before .before .cap-sites .kept .1 .1 .1 .1 .1 .1 .1 .1 .1 .1 .0, c .before .before .before .before .before .before .before .before .before .before .before .before .before .before .before .before .before .value-of .kept .1 .1 .1 .1 .1 .1 .1 .1 .1 .0, c .before .before .before .before .before .before .before .before .before .before .before .before .before .before .before .before .before .before .before .before .before .before .before .before .before .before .before .before .before .before .before .before .pre .1 .1 .0)
 
 -- src/lib.rt:214:1
 same-length-3 : tie.Need-same-length-3
@@ -81,9 +83,9 @@ same-length-5 c = search needs
 -- src/lib.rt:214:1
 returns-2 : tie.Need-returns-2
 returns-2 c =
-    let a = c .before .before .before .before .before .before .before .before .before .before .before .before .before .before .before .before .before .before .before .before .before .before .before .before .before .before .before .before .before .before .before .before .before .before .args in let p = c .before .before .before .before .before .before .before .before .before .before .before .before .before .before .before .before .before .before .before .before .before .before .before .before .before .before .before .before .before .before .before .before .before .before .pre in let v = c .before .before .before .before .before .before .before .before .before .before .before .before .before .before .before .before .before .before .before .before .value-of in let k = c .before .before .before .before .before .before .before .before .before .before .before .before .before .before .cap-all in
-    laid-some (a .q) (a .heights .now) (a .bounds .now) (a .radices .now) (a .ys .now) (a .colours .now) (a .ranks .now) (a .caps .now) (p .1 .0) (v .result) (c .before .before .before .before .before .before .before .before .before .head-word .result) (tableWords (a .q) (a .heights .now)) (k .last .1 .1 .1 .1 .1 .1 .1 .1 .0) (a .work .now) (k .last .1 .1 .1 .1 .1 .1 .1 .1 .1 .0) (c .before .before .clear2 .last .0) (a .out .now) (c .before .before .before .before .before .before .write-layout .last .1 .1 .0)
-    (v .ensures .0) (c .before .before .before .before .before .before .before .before .before .before .before .before .before .before .before .before .before .if1 .left) (omega (arith, v .ok)) (k .kept .1 .1 .1 .1 .1 .1 .1 .1 .0 ∙ p .0 .caps-long) (k .ensures .0) (c .before .before .before .before .before .before .before .before .before .head-word .ensures) (c .before .before .before .before .before .before .write-layout .ensures)
+    let a = c .before .before .before .before .before .before .before .before .before .before .before .before .before .before .before .before .before .before .before .before .before .before .before .before .before .before .before .before .before .before .before .before .before .before .before .args in let p = c .before .before .before .before .before .before .before .before .before .before .before .before .before .before .before .before .before .before .before .before .before .before .before .before .before .before .before .before .before .before .before .before .before .before .before .pre in let v = c .before .before .before .before .before .before .before .before .before .before .before .before .before .before .before .before .before .before .before .before .value-of in let k = c .before .before .before .before .before .before .before .before .before .before .before .before .before .before .cap-sites in
+    laid-some (a .q) (a .heights .now) (a .bounds .now) (a .radices .now) (a .ys .now) (a .colours .now) (a .ranks .now) (a .caps .now) (p .1 .0) (v .result) (c .before .before .before .before .before .before .before .before .before .head-word .result) (tableWords (a .q) (a .heights .now)) (k .last .1 .1 .1 .1 .1 .1 .1 .1 .1 .0) (a .work .now) (k .last .1 .1 .1 .1 .1 .1 .1 .1 .1 .1 .0) (c .before .before .clear2 .last .0) (a .out .now) (c .before .before .before .before .before .before .write-layout .last .1 .1 .0)
+    (v .ensures .0) (c .before .before .before .before .before .before .before .before .before .before .before .before .before .before .before .before .before .if1 .left) (omega (arith, v .ok)) (k .kept .1 .1 .1 .1 .1 .1 .1 .1 .1 .0 ∙ p .0 .caps-long) (k .ensures .0) (c .before .before .before .before .before .before .before .before .before .head-word .ensures) (c .before .before .before .before .before .before .write-layout .ensures)
     (k .ensures .1 .1 ∙ v .ensures .1) (rw (c .before .before .before .before .before .before .before .before .before .before .before .before .before .before .before .before .before .before .before .before .before .before .before .table-words .ensures) at (c .before .before .clear2 .ensures))
 
 pub lay-capped-spec : {M : Type 1} → statement M
@@ -96,7 +98,7 @@ lay-capped-spec =
     same-length
     same-length-2
     returns
-    cap-all-requires
+    cap-sites-requires
     head-word-requires
     write-layout-requires
     clear-requires-2

@@ -4,7 +4,7 @@ use Rattle.sheet.specs.Sheet.{sheetIn}
 use Rattle.sheet.proofs.Accepted.{sound}
 use Rattle.arrays.specs.Arrays.{boundsOf, xsOf, ysOf, coloursOf, radicesBy, drawsBy}
 use Rattle.arrays.proofs.Ordered.{radices-long, draws-long}
-use Rattle.twosided.proofs.Answer.{part-is, part-long, zero-part, bounds-long, ys-long, cs-long, xs-long, bounds-part, bounds-low, product-low, fits-from, areas-from, made}
+use Rattle.twosided.proofs.Answer.{part-is, part-long, zero-part, bounds-long, ys-long, cs-long, xs-long, bounds-part, bounds-low, product-low, fits-from, areas-from, steady-made, made}
 use mathlib.Core.Path.{_≡_, refl, ap, sym, _∙_}
 use mathlib.Core.List.{List, [], _∷_, _++_}
 use mathlib.Core.Logic.{⊎-elim}
@@ -26,7 +26,7 @@ use Rattle.arrays.proofs.measures_of.Reads as measures-of-reads
 use Rattle.arrays.proofs.radices_of.Reads as radices-of-reads
 use Rattle.arrays.proofs.xs_of.Reads as xs-of-reads
 use Rattle.arrays.proofs.ys_of.Reads as ys-of-reads
-use Rattle.twosided.proofs.lay_capped.Reads as lay-capped-reads
+use Rattle.twosided.proofs.lay_sites.Reads as lay-sites-reads
 
 -- src/lib.rt:253:9
 measures-of-requires : tie.Need-measures-of-requires
@@ -97,8 +97,8 @@ array-share-prefix-heights c =
     omega (arith, p .1 .1 .0, sound (a .sheet .now) (p .0 .1) .few-slots)
 
 -- src/lib.rt:265:9
-slice-aggregate-lay-capped : tie.Need-slice-aggregate-lay-capped
-slice-aggregate-lay-capped c =
+slice-aggregate-lay-sites : tie.Need-slice-aggregate-lay-sites
+slice-aggregate-lay-sites c =
     let a = c .before .before .before .before .before .before .before .before .before .before .before .before .before .before .args in let p = c .before .before .before .before .before .before .before .before .before .before .before .before .before .before .pre in
     part-long 48 ((sheetIn (a .sheet .now)) .slots) (c .before .before .before .before .before .before .before .before .before .heights-of .result) (a .slots) (c .before .before .before .before .before .before .before .before .before .heights-of .ensures) (p .1 .1 .0)
 
@@ -109,8 +109,8 @@ array-share-prefix-bounds-3 c =
     omega (arith, p .1 .1 .1, sound (a .sheet .now) (p .0 .1) .few-colours)
 
 -- src/lib.rt:266:9
-slice-aggregate-lay-capped-2 : tie.Need-slice-aggregate-lay-capped-2
-slice-aggregate-lay-capped-2 c =
+slice-aggregate-lay-sites-2 : tie.Need-slice-aggregate-lay-sites-2
+slice-aggregate-lay-sites-2 c =
     let a = c .before .before .before .before .before .before .before .before .before .before .before .before .before .before .before .args in let p = c .before .before .before .before .before .before .before .before .before .before .before .before .before .before .before .pre in
     part-long 8 (boundsOf ((sheetIn (a .sheet .now)) .colours)) (c .before .before .before .before .before .before .before .before .before .bounds-of .result) (a .colours) (c .before .before .before .before .before .before .before .before .before .bounds-of .ensures) (p .1 .1 .1 ∙ sym (bounds-long ((sheetIn (a .sheet .now)) .colours)))
 
@@ -121,8 +121,8 @@ array-share-prefix-radices c =
     omega (arith, p .1 .1 .1, sound (a .sheet .now) (p .0 .1) .few-colours)
 
 -- src/lib.rt:267:9
-slice-aggregate-lay-capped-3 : tie.Need-slice-aggregate-lay-capped-3
-slice-aggregate-lay-capped-3 c =
+slice-aggregate-lay-sites-3 : tie.Need-slice-aggregate-lay-sites-3
+slice-aggregate-lay-sites-3 c =
     let a = c .before .before .before .before .before .before .before .before .before .before .before .before .before .before .before .before .args in let p = c .before .before .before .before .before .before .before .before .before .before .before .before .before .before .before .before .pre in
     part-long 8 (radicesBy (take (a .colours) (c .before .before .before .before .before .before .before .before .before .before .bounds-of .result))) (c .before .before .before .before .before .before .before .before .radices-of .result) (a .colours) (c .before .before .before .before .before .before .before .before .radices-of .ensures) ((part-long 8 (boundsOf ((sheetIn (a .sheet .now)) .colours)) (c .before .before .before .before .before .before .before .before .before .before .bounds-of .result) (a .colours) (c .before .before .before .before .before .before .before .before .before .before .bounds-of .ensures) (p .1 .1 .1 ∙ sym (bounds-long ((sheetIn (a .sheet .now)) .colours)))) ∙ sym (radices-long (take (a .colours) (c .before .before .before .before .before .before .before .before .before .before .bounds-of .result))))
 
@@ -133,8 +133,8 @@ array-share-prefix-draws c =
     omega (arith, p .1 .1 .1, sound (a .sheet .now) (p .0 .1) .few-colours)
 
 -- src/lib.rt:268:9
-slice-aggregate-lay-capped-4 : tie.Need-slice-aggregate-lay-capped-4
-slice-aggregate-lay-capped-4 c =
+slice-aggregate-lay-sites-4 : tie.Need-slice-aggregate-lay-sites-4
+slice-aggregate-lay-sites-4 c =
     let a = c .before .before .before .before .before .before .before .before .before .before .before .before .before .before .before .before .before .args in let p = c .before .before .before .before .before .before .before .before .before .before .before .before .before .before .before .before .before .pre in
     part-long 8 (drawsBy 1 (take (a .colours) (c .before .before .before .before .before .before .before .before .before .before .before .bounds-of .result))) (c .before .before .before .before .before .before .before .draws-of .result) (a .colours) (c .before .before .before .before .before .before .before .draws-of .ensures) ((part-long 8 (boundsOf ((sheetIn (a .sheet .now)) .colours)) (c .before .before .before .before .before .before .before .before .before .before .before .bounds-of .result) (a .colours) (c .before .before .before .before .before .before .before .before .before .before .before .bounds-of .ensures) (p .1 .1 .1 ∙ sym (bounds-long ((sheetIn (a .sheet .now)) .colours)))) ∙ sym (draws-long 1 (take (a .colours) (c .before .before .before .before .before .before .before .before .before .before .before .bounds-of .result))))
 
@@ -145,8 +145,8 @@ array-share-prefix-ys c =
     omega (arith, p .1 .1 .2, sound (a .sheet .now) (p .0 .1) .few-sites)
 
 -- src/lib.rt:269:9
-slice-aggregate-lay-capped-5 : tie.Need-slice-aggregate-lay-capped-5
-slice-aggregate-lay-capped-5 c =
+slice-aggregate-lay-sites-5 : tie.Need-slice-aggregate-lay-sites-5
+slice-aggregate-lay-sites-5 c =
     let a = c .before .before .before .before .before .before .before .before .before .before .before .before .before .before .before .before .before .before .args in let p = c .before .before .before .before .before .before .before .before .before .before .before .before .before .before .before .before .before .before .pre in
     part-long 32 (ysOf ((sheetIn (a .sheet .now)) .sites)) (c .before .before .before .before .before .before .ys-of .result) (a .sites) (c .before .before .before .before .before .before .ys-of .ensures) (p .1 .1 .2 ∙ sym (ys-long ((sheetIn (a .sheet .now)) .sites)))
 
@@ -157,8 +157,8 @@ array-share-prefix-codes c =
     omega (arith, p .1 .1 .2, sound (a .sheet .now) (p .0 .1) .few-sites)
 
 -- src/lib.rt:270:9
-slice-aggregate-lay-capped-6 : tie.Need-slice-aggregate-lay-capped-6
-slice-aggregate-lay-capped-6 c =
+slice-aggregate-lay-sites-6 : tie.Need-slice-aggregate-lay-sites-6
+slice-aggregate-lay-sites-6 c =
     let a = c .before .before .before .before .before .before .before .before .before .before .before .before .before .before .before .before .before .before .before .args in let p = c .before .before .before .before .before .before .before .before .before .before .before .before .before .before .before .before .before .before .before .pre in
     part-long 32 (coloursOf ((sheetIn (a .sheet .now)) .sites)) (c .before .before .before .before .before .before .colours-of .result) (a .sites) (c .before .before .before .before .before .before .colours-of .ensures) (p .1 .1 .2 ∙ sym (cs-long ((sheetIn (a .sheet .now)) .sites)))
 
@@ -169,8 +169,8 @@ array-share-prefix-xs c =
     omega (arith, p .1 .1 .2, sound (a .sheet .now) (p .0 .1) .few-sites)
 
 -- src/lib.rt:271:9
-slice-aggregate-lay-capped-7 : tie.Need-slice-aggregate-lay-capped-7
-slice-aggregate-lay-capped-7 c =
+slice-aggregate-lay-sites-7 : tie.Need-slice-aggregate-lay-sites-7
+slice-aggregate-lay-sites-7 c =
     let a = c .before .before .before .before .before .before .before .before .before .before .before .before .before .before .before .before .before .before .before .before .args in let p = c .before .before .before .before .before .before .before .before .before .before .before .before .before .before .before .before .before .before .before .before .pre in
     part-long 32 (xsOf ((sheetIn (a .sheet .now)) .sites)) (c .before .before .before .before .before .before .before .before .before .xs-of .result) (a .sites) (c .before .before .before .before .before .before .before .before .before .xs-of .ensures) (p .1 .1 .2 ∙ sym (xs-long ((sheetIn (a .sheet .now)) .sites)))
 
@@ -181,18 +181,18 @@ array-borrow-prefix-caps c =
     omega (arith, p .1 .1 .2, sound (a .sheet .now) (p .0 .1) .few-sites)
 
 -- src/lib.rt:272:9
-slice-aggregate-lay-capped-8 : tie.Need-slice-aggregate-lay-capped-8
-slice-aggregate-lay-capped-8 c =
+slice-aggregate-lay-sites-8 : tie.Need-slice-aggregate-lay-sites-8
+slice-aggregate-lay-sites-8 c =
     let a = c .before .before .before .before .before .before .before .before .before .before .before .before .before .before .before .before .before .before .before .before .before .args in let p = c .before .before .before .before .before .before .before .before .before .before .before .before .before .before .before .before .before .before .before .before .before .pre in
     sym (length-take-le (a .sites) (replicate {A = ℕ} 32 0) (omega (arith, length-replicate {A = ℕ} 32 0, p .1 .1 .2, sound (a .sheet .now) (p .0 .1) .few-sites)))
 
 -- src/lib.rt:263:5
-lay-capped-requires : tie.Need-lay-capped-requires
-lay-capped-requires c κs =
+lay-sites-requires : tie.Need-lay-sites-requires
+lay-sites-requires c κs =
     let a = c .before .before .before .before .before .before .before .before .before .before .before .before .before .before .before .before .before .before .before .before .before .before .before .args in let p = c .before .before .before .before .before .before .before .before .before .before .before .before .before .before .before .before .before .before .before .before .before .before .before .pre in
     let n : length (take (a .sites) (replicate {A = ℕ} 32 0)) ≡ length ((sheetIn (a .sheet .now)) .sites) = length-take-le (a .sites) (replicate {A = ℕ} 32 0) (omega (arith, length-replicate {A = ℕ} 32 0, p .1 .1 .2, sound (a .sheet .now) (p .0 .1) .few-sites)) ∙ p .1 .1 .2 in (
       fits-from (a .sheet .now) (p .0 .1) (c .before .before .before .before .before .before .before .before .before .before .before .before .before .before .before .before .before .before .before .measures-of .result) (take (a .slots) (c .before .before .before .before .before .before .before .before .before .before .before .before .before .before .before .before .before .before .heights-of .result)) (take (a .colours) (c .before .before .before .before .before .before .before .before .before .before .before .before .before .before .before .before .before .bounds-of .result)) (take (a .colours) (c .before .before .before .before .before .before .before .before .before .before .before .before .before .before .before .radices-of .result)) (take (a .colours) (c .before .before .before .before .before .before .before .before .before .before .before .before .before .draws-of .result)) (take (a .sites) (c .before .before .before .before .before .before .before .before .before .before .before .ys-of .result)) (take (a .sites) (c .before .before .before .before .before .before .before .before .before .before .colours-of .result)) (take (a .sites) (replicate {A = ℕ} 32 0)) ((c .before .before .before .before .before .before .before .before .before .before .before .before .before .before .before .before .before .before .before .measures-of .ensures) ∙ rw (p .1 .1 .1, p .1 .1 .3)) (part-is 48 ((sheetIn (a .sheet .now)) .slots) (c .before .before .before .before .before .before .before .before .before .before .before .before .before .before .before .before .before .before .heights-of .result) (a .slots) (c .before .before .before .before .before .before .before .before .before .before .before .before .before .before .before .before .before .before .heights-of .ensures) (p .1 .1 .0)) (bounds-part (a .sheet .now) (p .0 .1) (c .before .before .before .before .before .before .before .before .before .before .before .before .before .before .before .before .before .bounds-of .result) (a .colours) (c .before .before .before .before .before .before .before .before .before .before .before .before .before .before .before .before .before .bounds-of .ensures) (p .1 .1 .1)) (part-is 8 (radicesBy (take (a .colours) (c .before .before .before .before .before .before .before .before .before .before .before .before .before .before .before .before .before .bounds-of .result))) (c .before .before .before .before .before .before .before .before .before .before .before .before .before .before .before .radices-of .result) (a .colours) (c .before .before .before .before .before .before .before .before .before .before .before .before .before .before .before .radices-of .ensures) ((part-long 8 (boundsOf ((sheetIn (a .sheet .now)) .colours)) (c .before .before .before .before .before .before .before .before .before .before .before .before .before .before .before .before .before .bounds-of .result) (a .colours) (c .before .before .before .before .before .before .before .before .before .before .before .before .before .before .before .before .before .bounds-of .ensures) (p .1 .1 .1 ∙ sym (bounds-long ((sheetIn (a .sheet .now)) .colours)))) ∙ sym (radices-long (take (a .colours) (c .before .before .before .before .before .before .before .before .before .before .before .before .before .before .before .before .before .bounds-of .result))))) (part-is 8 (drawsBy 1 (take (a .colours) (c .before .before .before .before .before .before .before .before .before .before .before .before .before .before .before .before .before .bounds-of .result))) (c .before .before .before .before .before .before .before .before .before .before .before .before .before .draws-of .result) (a .colours) (c .before .before .before .before .before .before .before .before .before .before .before .before .before .draws-of .ensures) ((part-long 8 (boundsOf ((sheetIn (a .sheet .now)) .colours)) (c .before .before .before .before .before .before .before .before .before .before .before .before .before .before .before .before .before .bounds-of .result) (a .colours) (c .before .before .before .before .before .before .before .before .before .before .before .before .before .before .before .before .before .bounds-of .ensures) (p .1 .1 .1 ∙ sym (bounds-long ((sheetIn (a .sheet .now)) .colours)))) ∙ sym (draws-long 1 (take (a .colours) (c .before .before .before .before .before .before .before .before .before .before .before .before .before .before .before .before .before .bounds-of .result))))) (part-is 32 (ysOf ((sheetIn (a .sheet .now)) .sites)) (c .before .before .before .before .before .before .before .before .before .before .before .ys-of .result) (a .sites) (c .before .before .before .before .before .before .before .before .before .before .before .ys-of .ensures) (p .1 .1 .2 ∙ sym (ys-long ((sheetIn (a .sheet .now)) .sites)))) (part-is 32 (coloursOf ((sheetIn (a .sheet .now)) .sites)) (c .before .before .before .before .before .before .before .before .before .before .colours-of .result) (a .sites) (c .before .before .before .before .before .before .before .before .before .before .colours-of .ensures) (p .1 .1 .2 ∙ sym (cs-long ((sheetIn (a .sheet .now)) .sites)))) n,
-      ((λ i. zero-part (a .sites) 32 i), areas-from (a .sheet .now) (a .work .now) (a .out .now) (p .0) (p .1 .0) (c .before .before .before .before .before .before .before .before .before .before .before .before .before .before .before .before .before .before .before .measures-of .result) (take (a .slots) (c .before .before .before .before .before .before .before .before .before .before .before .before .before .before .before .before .before .before .heights-of .result)) (take (a .sites) (c .before .before .before .before .before .before .before .before .before .before .before .ys-of .result)) ((c .before .before .before .before .before .before .before .before .before .before .before .before .before .before .before .before .before .before .before .measures-of .ensures) ∙ rw (p .1 .1 .1, p .1 .1 .3)) (part-is 48 ((sheetIn (a .sheet .now)) .slots) (c .before .before .before .before .before .before .before .before .before .before .before .before .before .before .before .before .before .before .heights-of .result) (a .slots) (c .before .before .before .before .before .before .before .before .before .before .before .before .before .before .before .before .before .before .heights-of .ensures) (p .1 .1 .0)) (part-is 32 (ysOf ((sheetIn (a .sheet .now)) .sites)) (c .before .before .before .before .before .before .before .before .before .before .before .ys-of .result) (a .sites) (c .before .before .before .before .before .before .before .before .before .before .before .ys-of .ensures) (p .1 .1 .2 ∙ sym (ys-long ((sheetIn (a .sheet .now)) .sites))))),
+      ((λ i. zero-part (a .sites) 32 i), (areas-from (a .sheet .now) (a .work .now) (a .out .now) (p .0) (p .1 .0) (c .before .before .before .before .before .before .before .before .before .before .before .before .before .before .before .before .before .before .before .measures-of .result) (take (a .slots) (c .before .before .before .before .before .before .before .before .before .before .before .before .before .before .before .before .before .before .heights-of .result)) (take (a .sites) (c .before .before .before .before .before .before .before .before .before .before .before .ys-of .result)) ((c .before .before .before .before .before .before .before .before .before .before .before .before .before .before .before .before .before .before .before .measures-of .ensures) ∙ rw (p .1 .1 .1, p .1 .1 .3)) (part-is 48 ((sheetIn (a .sheet .now)) .slots) (c .before .before .before .before .before .before .before .before .before .before .before .before .before .before .before .before .before .before .heights-of .result) (a .slots) (c .before .before .before .before .before .before .before .before .before .before .before .before .before .before .before .before .before .before .heights-of .ensures) (p .1 .1 .0)) (part-is 32 (ysOf ((sheetIn (a .sheet .now)) .sites)) (c .before .before .before .before .before .before .before .before .before .before .before .ys-of .result) (a .sites) (c .before .before .before .before .before .before .before .before .before .before .before .ys-of .ensures) (p .1 .1 .2 ∙ sym (ys-long ((sheetIn (a .sheet .now)) .sites)))), steady-made (a .sheet .now) (a .work .now) (a .out .now) (p .0) (p .1 .0) (c .before .before .before .before .before .before .before .before .before .before .before .before .before .before .before .before .before .before .before .measures-of .result) (take (a .slots) (c .before .before .before .before .before .before .before .before .before .before .before .before .before .before .before .before .before .before .heights-of .result)) (take (a .colours) (c .before .before .before .before .before .before .before .before .before .before .before .before .before .before .before .before .before .bounds-of .result)) (take (a .colours) (c .before .before .before .before .before .before .before .before .before .before .before .before .before .before .before .radices-of .result)) (take (a .sites) (c .before .before .before .before .before .before .before .before .before .before .before .ys-of .result)) (take (a .sites) (c .before .before .before .before .before .before .before .before .before .before .colours-of .result)) ((c .before .before .before .before .before .before .before .before .before .before .before .before .before .before .before .before .before .before .before .measures-of .ensures) ∙ rw (p .1 .1 .1, p .1 .1 .3)) (part-is 48 ((sheetIn (a .sheet .now)) .slots) (c .before .before .before .before .before .before .before .before .before .before .before .before .before .before .before .before .before .before .heights-of .result) (a .slots) (c .before .before .before .before .before .before .before .before .before .before .before .before .before .before .before .before .before .before .heights-of .ensures) (p .1 .1 .0)) (bounds-part (a .sheet .now) (p .0 .1) (c .before .before .before .before .before .before .before .before .before .before .before .before .before .before .before .before .before .bounds-of .result) (a .colours) (c .before .before .before .before .before .before .before .before .before .before .before .before .before .before .before .before .before .bounds-of .ensures) (p .1 .1 .1)) (part-is 8 (radicesBy (take (a .colours) (c .before .before .before .before .before .before .before .before .before .before .before .before .before .before .before .before .before .bounds-of .result))) (c .before .before .before .before .before .before .before .before .before .before .before .before .before .before .before .radices-of .result) (a .colours) (c .before .before .before .before .before .before .before .before .before .before .before .before .before .before .before .radices-of .ensures) ((part-long 8 (boundsOf ((sheetIn (a .sheet .now)) .colours)) (c .before .before .before .before .before .before .before .before .before .before .before .before .before .before .before .before .before .bounds-of .result) (a .colours) (c .before .before .before .before .before .before .before .before .before .before .before .before .before .before .before .before .before .bounds-of .ensures) (p .1 .1 .1 ∙ sym (bounds-long ((sheetIn (a .sheet .now)) .colours)))) ∙ sym (radices-long (take (a .colours) (c .before .before .before .before .before .before .before .before .before .before .before .before .before .before .before .before .before .bounds-of .result))))) (part-is 32 (ysOf ((sheetIn (a .sheet .now)) .sites)) (c .before .before .before .before .before .before .before .before .before .before .before .ys-of .result) (a .sites) (c .before .before .before .before .before .before .before .before .before .before .before .ys-of .ensures) (p .1 .1 .2 ∙ sym (ys-long ((sheetIn (a .sheet .now)) .sites)))) (part-is 32 (coloursOf ((sheetIn (a .sheet .now)) .sites)) (c .before .before .before .before .before .before .before .before .before .before .colours-of .result) (a .sites) (c .before .before .before .before .before .before .before .before .before .before .colours-of .ensures) (p .1 .1 .2 ∙ sym (cs-long ((sheetIn (a .sheet .now)) .sites)))))),
     )
 
 -- src/lib.rt:245:1
@@ -207,8 +207,8 @@ same-length-2 c = search needs
 returns : tie.Need-returns
 returns c =
     let a = c .before .before .before .before .before .before .before .before .before .before .before .before .before .before .before .before .before .before .before .before .before .before .before .before .before .before .before .before .before .args in let p = c .before .before .before .before .before .before .before .before .before .before .before .before .before .before .before .before .before .before .before .before .before .before .before .before .before .before .before .before .before .pre in
-    let r = made (a .sheet .now) (a .work .now) (a .out .now) (p .0) (p .1 .0) (c .before .before .before .before .before .before .before .before .before .before .before .before .before .before .before .before .before .before .before .before .before .before .before .before .before .measures-of .result) (take (a .slots) (c .before .before .before .before .before .before .before .before .before .before .before .before .before .before .before .before .before .before .before .before .before .before .before .before .heights-of .result)) (take (a .colours) (c .before .before .before .before .before .before .before .before .before .before .before .before .before .before .before .before .before .before .before .before .before .before .before .bounds-of .result)) (take (a .colours) (c .before .before .before .before .before .before .before .before .before .before .before .before .before .before .before .before .before .before .before .before .before .radices-of .result)) (take (a .sites) (c .before .before .before .before .before .before .before .before .before .before .before .before .before .before .before .before .before .ys-of .result)) (take (a .sites) (c .before .before .before .before .before .before .before .before .before .before .before .before .before .before .before .before .colours-of .result)) (take (a .sites) (c .before .before .before .before .before .before .before .before .before .before .before .before .before .before .before .before .before .before .xs-of .result)) (c .before .before .before .before .before .lay-capped .result) (c .before .before .before .before .before .lay-capped .last .1 .1 .1 .1 .1 .1 .1 .1 .1 .0) (c .before .before .before .before .before .lay-capped .last .1 .1 .1 .1 .1 .1 .1 .1 .1 .1 .0)
-    ((c .before .before .before .before .before .before .before .before .before .before .before .before .before .before .before .before .before .before .before .before .before .before .before .before .before .measures-of .ensures) ∙ rw (p .1 .1 .1, p .1 .1 .3)) (part-is 48 ((sheetIn (a .sheet .now)) .slots) (c .before .before .before .before .before .before .before .before .before .before .before .before .before .before .before .before .before .before .before .before .before .before .before .before .heights-of .result) (a .slots) (c .before .before .before .before .before .before .before .before .before .before .before .before .before .before .before .before .before .before .before .before .before .before .before .before .heights-of .ensures) (p .1 .1 .0)) (bounds-part (a .sheet .now) (p .0 .1) (c .before .before .before .before .before .before .before .before .before .before .before .before .before .before .before .before .before .before .before .before .before .before .before .bounds-of .result) (a .colours) (c .before .before .before .before .before .before .before .before .before .before .before .before .before .before .before .before .before .before .before .before .before .before .before .bounds-of .ensures) (p .1 .1 .1)) (part-is 8 (radicesBy (take (a .colours) (c .before .before .before .before .before .before .before .before .before .before .before .before .before .before .before .before .before .before .before .before .before .before .before .bounds-of .result))) (c .before .before .before .before .before .before .before .before .before .before .before .before .before .before .before .before .before .before .before .before .before .radices-of .result) (a .colours) (c .before .before .before .before .before .before .before .before .before .before .before .before .before .before .before .before .before .before .before .before .before .radices-of .ensures) ((part-long 8 (boundsOf ((sheetIn (a .sheet .now)) .colours)) (c .before .before .before .before .before .before .before .before .before .before .before .before .before .before .before .before .before .before .before .before .before .before .before .bounds-of .result) (a .colours) (c .before .before .before .before .before .before .before .before .before .before .before .before .before .before .before .before .before .before .before .before .before .before .before .bounds-of .ensures) (p .1 .1 .1 ∙ sym (bounds-long ((sheetIn (a .sheet .now)) .colours)))) ∙ sym (radices-long (take (a .colours) (c .before .before .before .before .before .before .before .before .before .before .before .before .before .before .before .before .before .before .before .before .before .before .before .bounds-of .result))))) (part-is 32 (ysOf ((sheetIn (a .sheet .now)) .sites)) (c .before .before .before .before .before .before .before .before .before .before .before .before .before .before .before .before .before .ys-of .result) (a .sites) (c .before .before .before .before .before .before .before .before .before .before .before .before .before .before .before .before .before .ys-of .ensures) (p .1 .1 .2 ∙ sym (ys-long ((sheetIn (a .sheet .now)) .sites)))) (part-is 32 (coloursOf ((sheetIn (a .sheet .now)) .sites)) (c .before .before .before .before .before .before .before .before .before .before .before .before .before .before .before .before .colours-of .result) (a .sites) (c .before .before .before .before .before .before .before .before .before .before .before .before .before .before .before .before .colours-of .ensures) (p .1 .1 .2 ∙ sym (cs-long ((sheetIn (a .sheet .now)) .sites)))) (part-is 32 (xsOf ((sheetIn (a .sheet .now)) .sites)) (c .before .before .before .before .before .before .before .before .before .before .before .before .before .before .before .before .before .before .xs-of .result) (a .sites) (c .before .before .before .before .before .before .before .before .before .before .before .before .before .before .before .before .before .before .xs-of .ensures) (p .1 .1 .2 ∙ sym (xs-long ((sheetIn (a .sheet .now)) .sites)))) (c .before .before .before .before .before .lay-capped .ensures) in
+    let r = made (a .sheet .now) (a .work .now) (a .out .now) (p .0) (p .1 .0) (c .before .before .before .before .before .before .before .before .before .before .before .before .before .before .before .before .before .before .before .before .before .before .before .before .before .measures-of .result) (take (a .slots) (c .before .before .before .before .before .before .before .before .before .before .before .before .before .before .before .before .before .before .before .before .before .before .before .before .heights-of .result)) (take (a .colours) (c .before .before .before .before .before .before .before .before .before .before .before .before .before .before .before .before .before .before .before .before .before .before .before .bounds-of .result)) (take (a .colours) (c .before .before .before .before .before .before .before .before .before .before .before .before .before .before .before .before .before .before .before .before .before .radices-of .result)) (take (a .sites) (c .before .before .before .before .before .before .before .before .before .before .before .before .before .before .before .before .before .ys-of .result)) (take (a .sites) (c .before .before .before .before .before .before .before .before .before .before .before .before .before .before .before .before .colours-of .result)) (take (a .sites) (c .before .before .before .before .before .before .before .before .before .before .before .before .before .before .before .before .before .before .xs-of .result)) (c .before .before .before .before .before .lay-sites .result) (c .before .before .before .before .before .lay-sites .last .1 .1 .1 .1 .1 .1 .1 .1 .1 .0) (c .before .before .before .before .before .lay-sites .last .1 .1 .1 .1 .1 .1 .1 .1 .1 .1 .0)
+    ((c .before .before .before .before .before .before .before .before .before .before .before .before .before .before .before .before .before .before .before .before .before .before .before .before .before .measures-of .ensures) ∙ rw (p .1 .1 .1, p .1 .1 .3)) (part-is 48 ((sheetIn (a .sheet .now)) .slots) (c .before .before .before .before .before .before .before .before .before .before .before .before .before .before .before .before .before .before .before .before .before .before .before .before .heights-of .result) (a .slots) (c .before .before .before .before .before .before .before .before .before .before .before .before .before .before .before .before .before .before .before .before .before .before .before .before .heights-of .ensures) (p .1 .1 .0)) (bounds-part (a .sheet .now) (p .0 .1) (c .before .before .before .before .before .before .before .before .before .before .before .before .before .before .before .before .before .before .before .before .before .before .before .bounds-of .result) (a .colours) (c .before .before .before .before .before .before .before .before .before .before .before .before .before .before .before .before .before .before .before .before .before .before .before .bounds-of .ensures) (p .1 .1 .1)) (part-is 8 (radicesBy (take (a .colours) (c .before .before .before .before .before .before .before .before .before .before .before .before .before .before .before .before .before .before .before .before .before .before .before .bounds-of .result))) (c .before .before .before .before .before .before .before .before .before .before .before .before .before .before .before .before .before .before .before .before .before .radices-of .result) (a .colours) (c .before .before .before .before .before .before .before .before .before .before .before .before .before .before .before .before .before .before .before .before .before .radices-of .ensures) ((part-long 8 (boundsOf ((sheetIn (a .sheet .now)) .colours)) (c .before .before .before .before .before .before .before .before .before .before .before .before .before .before .before .before .before .before .before .before .before .before .before .bounds-of .result) (a .colours) (c .before .before .before .before .before .before .before .before .before .before .before .before .before .before .before .before .before .before .before .before .before .before .before .bounds-of .ensures) (p .1 .1 .1 ∙ sym (bounds-long ((sheetIn (a .sheet .now)) .colours)))) ∙ sym (radices-long (take (a .colours) (c .before .before .before .before .before .before .before .before .before .before .before .before .before .before .before .before .before .before .before .before .before .before .before .bounds-of .result))))) (part-is 32 (ysOf ((sheetIn (a .sheet .now)) .sites)) (c .before .before .before .before .before .before .before .before .before .before .before .before .before .before .before .before .before .ys-of .result) (a .sites) (c .before .before .before .before .before .before .before .before .before .before .before .before .before .before .before .before .before .ys-of .ensures) (p .1 .1 .2 ∙ sym (ys-long ((sheetIn (a .sheet .now)) .sites)))) (part-is 32 (coloursOf ((sheetIn (a .sheet .now)) .sites)) (c .before .before .before .before .before .before .before .before .before .before .before .before .before .before .before .before .colours-of .result) (a .sites) (c .before .before .before .before .before .before .before .before .before .before .before .before .before .before .before .before .colours-of .ensures) (p .1 .1 .2 ∙ sym (cs-long ((sheetIn (a .sheet .now)) .sites)))) (part-is 32 (xsOf ((sheetIn (a .sheet .now)) .sites)) (c .before .before .before .before .before .before .before .before .before .before .before .before .before .before .before .before .before .before .xs-of .result) (a .sites) (c .before .before .before .before .before .before .before .before .before .before .before .before .before .before .before .before .before .before .xs-of .ensures) (p .1 .1 .2 ∙ sym (xs-long ((sheetIn (a .sheet .now)) .sites)))) (c .before .before .before .before .before .lay-sites .ensures) in
     (sym (r .fault-is), (sym (r .work-is), sym (r .out-is)))
 
 pub lay-two-sided-spec : {M : Type 1} → statement M
@@ -228,22 +228,22 @@ lay-two-sided-spec =
     ys-of-requires
     colours-of-requires
     array-share-prefix-heights
-    slice-aggregate-lay-capped
+    slice-aggregate-lay-sites
     array-share-prefix-bounds-3
-    slice-aggregate-lay-capped-2
+    slice-aggregate-lay-sites-2
     array-share-prefix-radices
-    slice-aggregate-lay-capped-3
+    slice-aggregate-lay-sites-3
     array-share-prefix-draws
-    slice-aggregate-lay-capped-4
+    slice-aggregate-lay-sites-4
     array-share-prefix-ys
-    slice-aggregate-lay-capped-5
+    slice-aggregate-lay-sites-5
     array-share-prefix-codes
-    slice-aggregate-lay-capped-6
+    slice-aggregate-lay-sites-6
     array-share-prefix-xs
-    slice-aggregate-lay-capped-7
+    slice-aggregate-lay-sites-7
     array-borrow-prefix-caps
-    slice-aggregate-lay-capped-8
-    lay-capped-requires
+    slice-aggregate-lay-sites-8
+    lay-sites-requires
     same-length
     same-length-2
     returns)

@@ -1,0 +1,44 @@
+use Rattle.usedslots.specs.Table.{tableBy, capsIn}
+use Rattle.labels.proofs.Least.{least-skip, least-lost}
+use mathlib.Core.Path.{_≡_, refl, ap, sym, _∙_}
+use mathlib.Core.List.{List, [], _∷_, _++_}
+use mathlib.Core.Logic.{⊎-elim}
+use Prim.Native.Nat.{ℕ, zero, suc, _+_, _-_, _*_, _<_, _≤_}
+use native.Mathlib.Omega.{arith}
+use native.Mathlib.Numerals.{add-one}
+use lib.ListN.{length, getD, take, drop, set, length-set}
+use borrow.Author.Tests.{eq-eqb, ne-eqb, lt-ltb, le-ltb, le-leb, lt-leb}
+use borrow.Author.Needs.{needs}
+use Rattle.labels.proofs.after_slot.Statement.{statement}
+use Rattle.labels.proofs.after_slot.Tie as tie
+use Rattle.labels.proofs.after_slot.Reads as reads
+use Rattle.labels.proofs.after_slot.Lts as lts
+use Rattle.labels.proofs.with_label.Reads as with-label-reads
+
+-- src/lib.rt:109:9
+returns : tie.Need-returns
+returns c =
+    let a = c .before .before .before .before .before .before .before .before .args in
+    least-skip (tableBy (a .q) (a .heights .now) (a .bounds .now) (a .radices .now) (a .ys .now) (a .colours .now)) (capsIn (a .caps .now)) (a .s) (a .k) (c .before .before .before .before .before .before .before .before .pre .1)
+
+-- src/lib.rt:112:9
+returns-2 : tie.Need-returns-2
+returns-2 c =
+    let a = c .before .before .before .before .before .before .before .before .before .before .args in
+    least-lost (tableBy (a .q) (a .heights .now) (a .bounds .now) (a .radices .now) (a .ys .now) (a .colours .now)) (capsIn (a .caps .now)) (a .s) _ (a .k) (suc (a .k)) refl
+
+-- src/lib.rt:130:9
+sub-with-label : tie.Need-sub-with-label
+sub-with-label c = search needs
+
+-- src/lib.rt:119:5
+with-label-requires : tie.Need-with-label-requires
+with-label-requires c κs = search needs
+
+-- src/lib.rt:91:1
+returns-3 : tie.Need-returns-3
+returns-3 c = search needs
+
+pub after-slot-spec : {M : Type 1} → statement M
+after-slot-spec =
+    tie.close (tie.spec returns returns-2 sub-with-label with-label-requires returns-3)

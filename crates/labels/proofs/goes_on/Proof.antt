@@ -1,0 +1,54 @@
+use Rattle.usedslots.proofs.Links.{start-low}
+use mathlib.Core.Path.{_≡_, refl, ap, sym, _∙_}
+use mathlib.Core.List.{List, [], _∷_, _++_}
+use mathlib.Core.Logic.{⊎-elim}
+use Prim.Native.Nat.{ℕ, zero, suc, _+_, _-_, _*_, _<_, _≤_}
+use native.Mathlib.Omega.{arith}
+use native.Mathlib.Numerals.{add-one}
+use lib.ListN.{length, getD, take, drop, set, length-set}
+use borrow.Author.Tests.{eq-eqb, ne-eqb, lt-ltb, le-ltb, le-leb, lt-leb}
+use borrow.Author.Needs.{needs}
+use Rattle.labels.proofs.goes_on.Statement.{statement}
+use Rattle.labels.proofs.goes_on.Tie as tie
+use Rattle.labels.proofs.goes_on.Reads as reads
+use Rattle.labels.proofs.goes_on.Lts as lts
+use Rattle.usedslots.proofs.row_start.Reads as row-start-reads
+use Rattle.words.proofs.get.Reads as get-reads
+use Rattle.words.proofs.plus_of.Reads as plus-of-reads
+
+-- src/lib.rt:196:17
+row-start-requires : tie.Need-row-start-requires
+row-start-requires c κs = search needs
+
+-- src/lib.rt:196:17
+cast-start : tie.Need-cast-start
+cast-start c =
+    let a = c .before .before .args in let p = c .before .before .pre in
+    omega (arith, c .row-start .ensures, start-low (a .q .colours) (a .q .budgets) (a .a) (a .code) (p .0) (p .1) (p .2) (p .3))
+
+-- src/lib.rt:197:29
+plus-of-requires : tie.Need-plus-of-requires
+plus-of-requires c κs = search needs
+
+-- src/lib.rt:197:19
+get-requires : tie.Need-get-requires
+get-requires c κs = search needs
+
+-- src/lib.rt:197:5
+plus-of-requires-2 : tie.Need-plus-of-requires-2
+plus-of-requires-2 c κs = search needs
+
+-- src/lib.rt:193:1
+returns : tie.Need-returns
+returns c = search needs
+
+pub goes-on-spec : {M : Type 1} → statement M
+goes-on-spec =
+    tie.close
+    (tie.spec
+    row-start-requires
+    cast-start
+    plus-of-requires
+    get-requires
+    plus-of-requires-2
+    returns)

@@ -1,0 +1,101 @@
+use native.Mathlib.Nat.{le-trans}
+use Rattle.optimum.specs.UsedSlots.{value}
+use Rattle.usedslots.specs.Table.{tableBy, capsIn}
+use Rattle.labels.specs.Labels.{leastAfter}
+use Rattle.labels.proofs.Least.{least-first, cost-above}
+use mathlib.Core.Path.{_≡_, refl, ap, sym, _∙_}
+use mathlib.Core.List.{List, [], _∷_, _++_}
+use mathlib.Core.Logic.{⊎-elim}
+use Prim.Native.Nat.{ℕ, zero, suc, _+_, _-_, _*_, _<_, _≤_}
+use native.Mathlib.Omega.{arith}
+use native.Mathlib.Numerals.{add-one}
+use lib.ListN.{length, getD, take, drop, set, length-set}
+use borrow.Author.Tests.{eq-eqb, ne-eqb, lt-ltb, le-ltb, le-leb, lt-leb}
+use borrow.Author.Needs.{needs}
+use Rattle.labels.proofs.labels_cost.Statement.{statement}
+use Rattle.labels.proofs.labels_cost.Tie as tie
+use Rattle.labels.proofs.labels_cost.Reads as reads
+use Rattle.labels.proofs.labels_cost.Lts as lts
+use Rattle.labels.proofs.after_slot.Reads as after-slot-reads
+use Rattle.usedslots.proofs.strip_between.Reads as strip-between-reads
+use Rattle.words.proofs.get.Reads as get-reads
+use Rattle.words.proofs.plus_of.Reads as plus-of-reads
+
+abbrev Inv-loop : tie.InvT-loop
+Inv-loop q heights bounds radices draws ys colours caps labels m all s₀ k₀ s k = (k ≤ m) × (value (tableBy q heights bounds radices ys colours) (capsIn caps) ≤ leastAfter (tableBy q heights bounds radices ys colours) (capsIn caps) s k)
+
+abbrev μ-loop : tie.MeasureT-loop
+μ-loop q heights bounds radices draws ys colours caps labels m all s₀ k₀ s k = m - k
+
+-- src/lib.rt:149:13
+cast-m : tie.Need-cast-m Inv-loop μ-loop
+cast-m c = search needs
+
+-- src/lib.rt:150:15
+cast-all : tie.Need-cast-all Inv-loop μ-loop
+cast-all c = search needs
+
+-- src/lib.rt:154:17
+sub-t16 : tie.Need-sub-t16 Inv-loop μ-loop
+sub-t16 c = search needs
+
+-- src/lib.rt:158:5
+loop-holds : tie.Need-loop-holds Inv-loop μ-loop
+loop-holds c =
+    let a = c .before .before .before .before .before .before .before .before .before .args in
+    (omega arith, least-first (tableBy (a .q) (a .heights .now) (a .bounds .now) (a .radices .now) (a .ys .now) (a .colours .now)) (capsIn (a .caps .now)) _ refl refl refl refl)
+
+-- src/lib.rt:170:13
+get-requires : tie.Need-get-requires Inv-loop μ-loop
+get-requires c κs = search needs
+
+-- src/lib.rt:159:9
+after-slot-requires : tie.Need-after-slot-requires Inv-loop μ-loop
+after-slot-requires c κs = search needs
+
+-- src/lib.rt:172:9
+add-k : tie.Need-add-k Inv-loop μ-loop
+add-k c = search needs
+
+-- src/lib.rt:158:5
+loop-less : tie.Need-loop-less Inv-loop μ-loop
+loop-less c = search needs
+
+-- src/lib.rt:158:5
+loop-again : tie.Need-loop-again Inv-loop μ-loop
+loop-again c =
+    let a = c .before .before .before .before .before .before .before .before .before .before .before .before .before .args in let l = c .before .before .before .loop in
+    (omega arith, rw add-one (le-trans (l .inv .1) (c .after-slot .ensures)))
+
+-- src/lib.rt:174:9
+strip-between-requires : tie.Need-strip-between-requires Inv-loop μ-loop
+strip-between-requires c κs = search needs
+
+-- src/lib.rt:187:5
+plus-of-requires : tie.Need-plus-of-requires Inv-loop μ-loop
+plus-of-requires c κs = search needs
+
+-- src/lib.rt:135:1
+returns : tie.Need-returns Inv-loop μ-loop
+returns c =
+    let a = c .before .before .before .before .before .before .before .before .before .before .before .before .before .args in let l = c .before .before .before .loop in
+    rw (c .plus-of .ensures) (cost-above (a .q) (a .heights .now) (a .bounds .now) (a .radices .now) (a .draws .now) (a .ys .now) (a .colours .now) (a .caps .now) (c .before .before .before .before .before .before .before .before .before .before .before .before .before .pre) _ (c .before .strip-between .result) (l .s) (l .k) _ refl (l .inv .0) (c .before .before .loop-test .left) (l .inv .1) (c .before .strip-between .ensures))
+
+pub labels-cost-spec : {M : Type 1} → statement M
+labels-cost-spec =
+    tie.close
+    (tie.spec
+    Inv-loop
+    μ-loop
+    cast-m
+    cast-all
+    sub-t16
+    loop-holds
+    get-requires
+    after-slot-requires
+    add-k
+    loop-less
+    loop-again
+    strip-between-requires
+    plus-of-requires
+    returns)

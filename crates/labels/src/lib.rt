@@ -1,0 +1,284 @@
+// Labels of a two-sided layout, slot by slot: what they cost, and those of a cheapest layout as the table tells them.
+ghost use mathlib.Core.Path.{_≡_};
+ghost use Prim.Native.Nat.{ℕ, suc, _+_, _*_, _-_, _%_, _<_, _≤_};
+ghost use lib.Dec.{leb};
+ghost use lib.ListN.{length, getD};
+ghost use Rattle.optimum.specs.UsedSlots.{value};
+ghost use Rattle.usedslots.specs.Table.{tableBy, capsIn, Fits};
+ghost use Rattle.labels.specs.Labels.{leastAfter};
+use arrays::Measures;
+use usedslots::block_size;
+use usedslots::is_far;
+use usedslots::link_cost;
+use usedslots::row_start;
+use usedslots::strip_between;
+use words::NONE;
+use words::get;
+use words::monus;
+use words::plus_of;
+
+// The labels down to a slot: the last one's place and code, the budget that is left, and what they cost with the strips above them.
+pub struct Chosen {
+    pub place: u32,
+    pub code: u32,
+    pub budget: u32,
+    pub cost: u32,
+}
+
+// A colour has a label left in the budget: skip is what it draws, size its block of budgets.
+fn has_left(budget: u32, skip: u32, size: u32) -> bool
+    requires { ⌜ 0 < size ⌝ }
+    ensures { λ r. ⌜ r ≡ leb skip (budget % size) ⌝ }
+{
+    skip <= budget % size
+}
+
+// A label of colour d at slot k.
+fn with_label(
+    q: Measures,
+    heights: &[u32],
+    bounds: &[u32],
+    radices: &[u32],
+    draws: &[u32],
+    ys: &[u32],
+    colours: &[u32],
+    caps: &[u32],
+    s: Chosen,
+    k: u32,
+    d: u32,
+) -> Chosen
+    requires { ⌜ Fits q (now heights) (now bounds) (now radices) (now draws) (now ys) (now colours) (now caps) ⌝ }
+    requires { ⌜ (k < length (now heights)) × (d < q .colours) ⌝ }
+    ensures { λ r. ⌜ leastAfter (tableBy q (now (heights .entry)) (now (bounds .entry)) (now (radices .entry)) (now (ys .entry)) (now (colours .entry))) (capsIn (now (caps .entry))) s k ≤ leastAfter (tableBy q (now (heights .entry)) (now (bounds .entry)) (now (radices .entry)) (now (ys .entry)) (now (colours .entry))) (capsIn (now (caps .entry))) r (suc k) ⌝ }
+{
+    let lost = Chosen {
+        place: s.place,
+        code: s.code,
+        budget: s.budget,
+        cost: NONE,
+    };
+    if !is_far(q, heights, s.place, s.code, k, d + 1) {
+        return lost;
+    }
+    let skip = get(draws, d);
+    let size = block_size(q.budgets, get(bounds, d), skip, get(radices, d));
+    if !has_left(s.budget, skip, size) {
+        return lost;
+    }
+    let all = ys.len() as u32;
+    let strip = strip_between(
+        q,
+        heights,
+        ys,
+        colours,
+        caps,
+        s.place,
+        s.code,
+        k,
+        d + 1,
+        0,
+        all,
+    );
+    Chosen {
+        place: k + 1,
+        code: d + 1,
+        budget: monus(s.budget, skip),
+        cost: plus_of(s.cost, link_cost(q, strip)),
+    }
+}
+
+// A label of a code at slot k, or none.
+fn after_slot(
+    q: Measures,
+    heights: &[u32],
+    bounds: &[u32],
+    radices: &[u32],
+    draws: &[u32],
+    ys: &[u32],
+    colours: &[u32],
+    caps: &[u32],
+    s: Chosen,
+    k: u32,
+    code: u32,
+) -> Chosen
+    requires { ⌜ Fits q (now heights) (now bounds) (now radices) (now draws) (now ys) (now colours) (now caps) ⌝ }
+    requires { ⌜ k < length (now heights) ⌝ }
+    ensures { λ r. ⌜ leastAfter (tableBy q (now (heights .entry)) (now (bounds .entry)) (now (radices .entry)) (now (ys .entry)) (now (colours .entry))) (capsIn (now (caps .entry))) s k ≤ leastAfter (tableBy q (now (heights .entry)) (now (bounds .entry)) (now (radices .entry)) (now (ys .entry)) (now (colours .entry))) (capsIn (now (caps .entry))) r (suc k) ⌝ }
+{
+    if code == 0 {
+        return s;
+    }
+    if q.colours < code {
+        return Chosen {
+            place: s.place,
+            code: s.code,
+            budget: s.budget,
+            cost: NONE,
+        };
+    }
+    with_label(
+        q,
+        heights,
+        bounds,
+        radices,
+        draws,
+        ys,
+        colours,
+        caps,
+        s,
+        k,
+        code - 1,
+    )
+}
+
+// What labels cost, given by their codes slot by slot: at least the least cost.
+pub fn labels_cost(
+    q: Measures,
+    heights: &[u32],
+    bounds: &[u32],
+    radices: &[u32],
+    draws: &[u32],
+    ys: &[u32],
+    colours: &[u32],
+    caps: &[u32],
+    labels: &[u32],
+) -> u32
+    requires { ⌜ Fits q (now heights) (now bounds) (now radices) (now draws) (now ys) (now colours) (now caps) ⌝ }
+    ensures { λ r. ⌜ value (tableBy q (now (heights .entry)) (now (bounds .entry)) (now (radices .entry)) (now (ys .entry)) (now (colours .entry))) (capsIn (now (caps .entry))) ≤ r ⌝ }
+{
+    let m = heights.len() as u32;
+    let all = ys.len() as u32;
+    let mut s = Chosen {
+        place: 0,
+        code: 0,
+        budget: q.budgets - 1,
+        cost: 0,
+    };
+    let mut k: u32 = 0;
+    while k < m {
+        s = after_slot(
+            q,
+            heights,
+            bounds,
+            radices,
+            draws,
+            ys,
+            colours,
+            caps,
+            s,
+            k,
+            get(labels, k),
+        );
+        k += 1;
+    }
+    let last = strip_between(q, heights, ys, colours, caps, s.place, s.code, m, 0, 0, all);
+    plus_of(s.cost, last)
+}
+
+// ---- the labels of a cheapest layout
+
+// With what the table has for the place a, a code and a budget, a cost comes to the least.
+fn goes_on(q: Measures, work: &[u32], a: u32, code: u32, budget: u32, cost: u32, least: u32) -> bool
+    requires { ⌜ (a ≤ 49) × (code ≤ 8) × (q .colours ≤ 8) × (q .budgets ≤ 64) ⌝ }
+{
+    let start = row_start(q, a, code) as u32;
+    plus_of(cost, get(work, plus_of(start, budget))) == least
+}
+
+// The code of a label at slot k that the table goes on from, or 0.
+fn code_at(
+    q: Measures,
+    heights: &[u32],
+    bounds: &[u32],
+    radices: &[u32],
+    draws: &[u32],
+    ys: &[u32],
+    colours: &[u32],
+    caps: &[u32],
+    work: &[u32],
+    s: Chosen,
+    k: u32,
+    least: u32,
+) -> u32
+    requires { ⌜ Fits q (now heights) (now bounds) (now radices) (now draws) (now ys) (now colours) (now caps) ⌝ }
+    requires { ⌜ k < length (now heights) ⌝ }
+{
+    let mut d: u32 = 0;
+    while d < q.colours {
+        let t = with_label(
+            q,
+            heights,
+            bounds,
+            radices,
+            draws,
+            ys,
+            colours,
+            caps,
+            s,
+            k,
+            d,
+        );
+        if goes_on(q, work, k + 1, d + 1, t.budget, t.cost, least) {
+            return d + 1;
+        }
+        d += 1;
+    }
+    0
+}
+
+// The codes of a cheapest layout's labels, slot by slot. Nothing rests on them: whoever uses them asks for their cost.
+pub fn trace_labels(
+    q: Measures,
+    heights: &[u32],
+    bounds: &[u32],
+    radices: &[u32],
+    draws: &[u32],
+    ys: &[u32],
+    colours: &[u32],
+    caps: &[u32],
+    work: &[u32],
+    labels: &mut [u32],
+    least: u32,
+)
+    requires { ⌜ Fits q (now heights) (now bounds) (now radices) (now draws) (now ys) (now colours) (now caps) ⌝ }
+    requires { ⌜ length (now labels) ≡ length (now heights) ⌝ }
+{
+    let mut s = Chosen {
+        place: 0,
+        code: 0,
+        budget: q.budgets - 1,
+        cost: 0,
+    };
+    let mut k: usize = 0;
+    while k < labels.len() {
+        let code = code_at(
+            q,
+            heights,
+            bounds,
+            radices,
+            draws,
+            ys,
+            colours,
+            caps,
+            work,
+            s,
+            k as u32,
+            least,
+        );
+        labels[k] = code;
+        s = after_slot(
+            q,
+            heights,
+            bounds,
+            radices,
+            draws,
+            ys,
+            colours,
+            caps,
+            s,
+            k as u32,
+            code,
+        );
+        k += 1;
+    }
+}

@@ -1,0 +1,54 @@
+use lib.ListN.{replicate, length-replicate}
+use lib.Seq.{length-take-le}
+use mathlib.Core.Path.{_≡_, refl, ap, sym, _∙_}
+use mathlib.Core.List.{List, [], _∷_, _++_}
+use mathlib.Core.Logic.{⊎-elim}
+use Prim.Native.Nat.{ℕ, zero, suc, _+_, _-_, _*_, _<_, _≤_}
+use native.Mathlib.Omega.{arith}
+use native.Mathlib.Numerals.{add-one}
+use lib.ListN.{length, getD, take, drop, set, length-set}
+use borrow.Author.Tests.{eq-eqb, ne-eqb, lt-ltb, le-ltb, le-leb, lt-leb}
+use borrow.Author.Needs.{needs}
+use Rattle.twosided.proofs.cap_sites.Statement.{statement}
+use Rattle.twosided.proofs.cap_sites.Tie as tie
+use Rattle.twosided.proofs.cap_sites.Reads as reads
+use Rattle.twosided.proofs.cap_sites.Lts as lts
+use Rattle.twosided.proofs.cap_traced.Reads as cap-traced-reads
+
+-- src/lib.rt:410:9
+array-borrow-prefix-labels : tie.Need-array-borrow-prefix-labels
+array-borrow-prefix-labels c = search needs
+
+-- src/lib.rt:410:9
+slice-aggregate-cap-traced : tie.Need-slice-aggregate-cap-traced
+slice-aggregate-cap-traced c =
+    sym (length-take-le (length (c .before .before .before .before .before .before .before .before .before .before .before .before .before .args .heights .now)) (replicate {A = ℕ} 48 0) (omega (arith, length-replicate {A = ℕ} 48 0, c .before .before .before .before .before .before .before .before .before .before .before .before .before .pre .0 .few-slots)))
+
+-- src/lib.rt:399:5
+cap-traced-requires : tie.Need-cap-traced-requires
+cap-traced-requires c κs =
+    let p = c .before .before .before .before .before .before .before .before .before .before .before .before .before .pre in
+    (p .0, ((p .1 .0 .0, length-take-le (length (c .before .before .before .before .before .before .before .before .before .before .before .before .before .args .heights .now)) (replicate {A = ℕ} 48 0) (omega (arith, length-replicate {A = ℕ} 48 0, p .0 .few-slots)), p .1 .0 .1), p .1 .1))
+
+-- src/lib.rt:377:1
+same-length : tie.Need-same-length
+same-length c = search needs
+
+-- src/lib.rt:377:1
+same-length-2 : tie.Need-same-length-2
+same-length-2 c = search needs
+
+-- src/lib.rt:377:1
+returns : tie.Need-returns
+returns c = search needs
+
+pub cap-sites-spec : {M : Type 1} → statement M
+cap-sites-spec =
+    tie.close
+    (tie.spec
+    array-borrow-prefix-labels
+    slice-aggregate-cap-traced
+    cap-traced-requires
+    same-length
+    same-length-2
+    returns)
