@@ -32,7 +32,8 @@ use Rattle.optimum.proofs.Pays.{isOf, pays-e, pays-i}
 use Rattle.optimum.proofs.Budgets.{bound-of, bounded-low, full-digit}
 use Rattle.optimum.proofs.CostWord.{layout-low, better-costs}
 use Rattle.optimum.proofs.Order.{Rise, ordered, gather, scatter-long, gather-scatter}
-use Rattle.optimum.proofs.Instance.{good, tip-clear, not-held, linear, budgeted}
+use Rattle.optimum.proofs.Distances.{good}
+use Rattle.optimum.proofs.Instance.{tip-clear, not-held, linear, budgeted}
 use Rattle.optimum.proofs.RankedPairs.{AllPairs, pairs-rising, rising-pairs, list-e, list-i}
 use Rattle.optimum.proofs.Counts.{shares-drops, count-is, lead-is, colour-is}
 pub use Rattle.optimum.specs.Budgets.{fullBudget}

@@ -21,6 +21,7 @@ use Rattle.labelling.proofs.Rules.{siteAt}
 use Rattle.labelling.proofs.Members.{rise-at}
 use Rattle.labelling.proofs.Maker.{Result, cleared}
 use Rattle.search.specs.Sums.{listing}
+use Rattle.optimum.specs.Slots.{farEnough, sheetSlots}
 use Rattle.optimum.specs.UsedSlots.{Instance, put, value, leftmost, choose, capAll, ties}
 use Rattle.optimum.specs.TwoSided.{radicesOf, instanceOf}
 use Rattle.optimum.specs.CostWord.{countIn, lengthIn}
@@ -174,20 +175,17 @@ module _ (s : Sheet) where
   radices-same (k ∷ ks) = ap (λ (l : List ℕ). radixBy (k .bound) ∷ l) (radices-same ks)
 
   instance-is : instance ≡ instanceOf s
-  unfolding siteShare rankOf
+  unfolding farEnough siteShare rankOf
   instance-is = λ i. record {
+    slots = sheetSlots s;
     top = none;
-    m = length (s .slots);
     n = ys-long (s .sites) i;
     colours = length (s .colours);
-    dist = s .gap;
     each = labelCost (measuresOf s);
     unit = unitOf (measuresOf s);
-    share = siteShare s;
     budget = productOf (s .colours) - 1;
     radices = radices-same (s .colours) i;
     unbounded = λ c. eqb (bound-at (s .colours) c i) 255;
-    height = λ k. getD (s .slots) k 0;
     x = λ j. xs-at (s .sites) j i;
     y = λ j. ys-at (s .sites) j i;
     colour = λ j. colours-at (s .sites) j i;

@@ -35,7 +35,7 @@ unfoldable pub capHalved : Instance → (least : ℕ) → (count : ℕ) → (cap
 capHalved G w zero fx = fx
 capHalved G w (suc f) fx =
     cond (ltb (leftmost G fx (G .n)) (G .n))
-    (capHalved G w f (put fx (leftmost G fx (G .n)) (suc (halve (λ k. eqb (value G (put fx (leftmost G fx (G .n)) (suc k))) w) 6 0 (G .m - 1)))))
+    (capHalved G w f (put fx (leftmost G fx (G .n)) (suc (halve (λ k. eqb (value G (put fx (leftmost G fx (G .n)) (suc k))) w) 6 0 (G .slots .m - 1)))))
     fx
 
 -- count and length in a cost
