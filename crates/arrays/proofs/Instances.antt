@@ -9,20 +9,19 @@ use lib.ListN.{length, getD}
 use Rattle.lists.proofs.Tests.{by-order}
 use Rattle.sheet.specs.Sheet.{Site, Colour, Sheet}
 use Rattle.search.proofs.Sums.{listing-first, listing-past}
-use Rattle.labelling.specs.Layout.{siteShare}
+use Rattle.labelling.specs.Layout.{noColour, siteShare}
 use Rattle.labelling.proofs.Members.{noSite}
-use Rattle.optimum.specs.Budgets.{unboundedColour}
 use Rattle.optimum.specs.Slots.{farEnough, sheetSlots}
 use Rattle.optimum.specs.OneSided.{leadOf, mayOpen, tipClear, turnOf, heldOf, radicesOf, drawsOf, wordOf, topWord, instanceOf, pointsAt}
 use Rattle.arrays.specs.Arrays.{measuresOf, boundsOf, drawsList, xsOf, ysOf, coloursOf, gathered, instanceBy, pointsBy}
 
-pub bounds-at : (ks : List Colour) (c : ℕ) → getD (boundsOf ks) c 255 ≡ (getD ks c unboundedColour) .bound
+pub bounds-at : (ks : List Colour) (c : ℕ) → getD (boundsOf ks) c 255 ≡ (getD ks c noColour) .bound
 unfolding boundsOf
 bounds-at [] c = refl
 bounds-at (k ∷ ks) zero = refl
 bounds-at (k ∷ ks) (suc c) = bounds-at ks c
 
-past : (ks : List Colour) (c : ℕ) → length ks ≤ c → (getD ks c unboundedColour) .bound ≡ 255
+past : (ks : List Colour) (c : ℕ) → length ks ≤ c → (getD ks c noColour) .bound ≡ 255
 past [] c h = refl
 past (k ∷ ks) zero h = absurd (omega arith)
 past (k ∷ ks) (suc c) h = past ks c (omega arith)

@@ -14,7 +14,7 @@ use Rattle.search.specs.Cost.{plus}
 use Rattle.search.specs.Radix.{digitOf}
 use Rattle.sheet.specs.Sheet.{all, Sheet}
 use Rattle.sheet.proofs.Accepted.{Sound, colourLow}
-use Rattle.labelling.specs.Layout.{isFar, isClear, tied, heightOf, noColour, isUsed, usedOf, slotsOf, drops, countOf}
+use Rattle.labelling.specs.Layout.{isFar, isClear, tied, heightOf, isUsed, usedOf, slotsOf, drops, countOf}
 use Rattle.labelling.specs.Lawful.{Miss}
 use Rattle.labelling.proofs.Members.{at-all, at-used}
 use Rattle.labelling.proofs.Best.{below, Obeys}
@@ -25,16 +25,16 @@ use Rattle.search.proofs.Sums.{tally-mono}
 use Rattle.optimum.specs.Slots.{farFrom, farEnough, sheetSlots}
 use Rattle.optimum.specs.UsedSlots.{value}
 use Rattle.optimum.specs.TwoSided.{radicesOf, countUnit, lengthUnit, instanceOf}
-use Rattle.optimum.specs.Budgets.{fullBudget}
+use Rattle.optimum.specs.Budgets.{boundOf, isUnbounded, fullBudget}
 use Rattle.optimum.specs.CostWord.{topWord}
 use Rattle.optimum.proofs.Chain.{is-label}
 use Rattle.optimum.proofs.Distances.{far-sym, good}
 use Rattle.optimum.proofs.Slots.{far-e}
-use Rattle.optimum.proofs.Budgets.{draws}
+use Rattle.optimum.proofs.Budgets.{full-digit, draws}
 use Rattle.optimum.proofs.Fits.{coded}
 use Rattle.optimum.proofs.Least.{comes, Attained, value-attained}
 use Rattle.optimum.proofs.Caps.{Respects}
-use Rattle.optimum.proofs.LawfulFits.{length-used, drops-sum, cost, cost-top, bound-digit, lawful-low}
+use Rattle.optimum.proofs.LawfulFits.{length-used, drops-sum, cost, cost-top, lawful-low}
 
 module _ (s : Sheet) (o : Sound s) (two : s .isTwoSided ≡ true) (coloured : all (colourLow (length (s .colours))) (s .sites) ≡ true) (caps : ℕ → ℕ)
     (h : Attained (instanceOf s) caps (draws s) (good s o)) where
@@ -78,17 +78,17 @@ module _ (s : Sheet) (o : Sound s) (two : s .isTwoSided ≡ true) (coloured : al
   unfolding code
   far p q l m x y = h .fit .apart p q (omega arith) l (omega arith) x y
 
-  budgeted : (e : ℕ) → eqb ((getD (s .colours) e noColour) .bound) 255 ≡ false →
+  budgeted : (e : ℕ) → isUnbounded s e ≡ false →
       tally (λ j. eqb (code j) (suc e)) 0 (length (s .slots)) ≤ digitOf (radicesOf (s .colours)) e (fullBudget s)
   unfolding code
   budgeted e b = h .fit .within e b
 
-  two-kept : (c : ℕ) → c < length (s .colours) → eqb ((getD (s .colours) c noColour) .bound) 255 ≡ false →
-      length (usedOf s (slotsOf c (tied s js))) ≤ (getD (s .colours) c noColour) .bound
+  two-kept : (c : ℕ) → c < length (s .colours) → isUnbounded s c ≡ false →
+      length (usedOf s (slotsOf c (tied s js))) ≤ boundOf s c
   two-kept c l b =
       le-trans (le-of-eq (length-used (length (s .slots)) 0 (slotsOf c (tied s js))))
       (le-trans (tally-mono (λ j. isUsed j (slotsOf c (tied s js))) (λ j. eqb (code j) (suc c)) 0 (length (s .slots)) (λ j p q u. mine j (at-slots c j (s .sites) js long u)))
-      (le-trans (budgeted c b) (le-of-eq (bound-digit s o two coloured c l b))))
+      (le-trans (budgeted c b) (le-of-eq (full-digit s c b))))
     where
       mine : (j : ℕ) → (i : ℕ) × (i < length (s .sites)) × (getD js i 0 ≡ j) × ((siteAt s i) .colour ≡ c) → eqb (code j) (suc c) ≡ true
       mine j (i, u, e, z) = eq-eqb (code j) (suc c) (sym (ap code e) ∙ own i u ∙ ap suc z)
@@ -104,7 +104,7 @@ module _ (s : Sheet) (o : Sound s) (two : s .isTwoSided ≡ true) (coloured : al
   lawful =
       record {
         one = λ i j l u e. let a = own i l in let b = own j u in let c = ap code e in omega arith;
-        two = λ c l. by-test (eqb ((getD (s .colours) c noColour) .bound) 255) (λ b. inl (eqb-true _ _ b)) (λ b. inr (two-kept c l b));
+        two = λ c l. by-test (isUnbounded s c) (λ b. inl (eqb-true _ _ b)) (λ b. inr (two-kept c l b));
         three = λ i j l u n. by-order (getD js i 0) (getD js j 0)
             (λ q. one-way i j l u (omega (arith, n)))
             (λ q. far-sym s (getD js j 0) ((siteAt s j) .colour) (getD js i 0) ((siteAt s i) .colour) (one-way j i u l q));

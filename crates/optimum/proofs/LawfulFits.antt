@@ -13,7 +13,7 @@ use borrow.Author.Tests.{ltb-true, eqb-true, eqb-false, le-leb}
 use Rattle.lists.proofs.Tests.{by-test, clash}
 use Rattle.search.specs.Cost.{plus}
 use Rattle.search.specs.Radix.{digitOf, place}
-use Rattle.sheet.specs.Sheet.{all, Site, Colour, Sheet}
+use Rattle.sheet.specs.Sheet.{all, Site, Sheet}
 use Rattle.sheet.proofs.Accepted.{Sound, colourLow}
 use Rattle.labelling.specs.Layout.{isClear, tiedOf, tied, heightOf, noColour, siteShare, isUsed, usedFrom, usedOf, leastX, leftEnd, slotsOf, backbones, drops, countOf, lengthOf}
 use Rattle.labelling.specs.Lawful.{Miss}
@@ -27,11 +27,11 @@ use Rattle.search.proofs.CappedSums.{sum-head}
 use Rattle.optimum.specs.Slots.{farFrom, farEnough, sheetSlots}
 use Rattle.optimum.specs.UsedSlots.{Instance, value}
 use Rattle.optimum.specs.TwoSided.{radicesOf, countUnit, lengthUnit, instanceOf}
-use Rattle.optimum.specs.Budgets.{fullBudget}
+use Rattle.optimum.specs.Budgets.{boundOf, isUnbounded, fullBudget}
 use Rattle.optimum.specs.CostWord.{topWord, layoutCost}
 use Rattle.optimum.proofs.Slots.{far-i}
 use Rattle.optimum.proofs.Distances.{good}
-use Rattle.optimum.proofs.Budgets.{bound-of, full-digit, draws}
+use Rattle.optimum.proofs.Budgets.{full-digit, draws}
 use Rattle.optimum.proofs.CostWord.{word-units, layout-low}
 use Rattle.optimum.proofs.Chain.{is-label}
 use Rattle.optimum.proofs.Fits.{Anchored, fits-from}
@@ -117,10 +117,6 @@ module _ (s : Sheet) (o : Sound s) (two : s .isTwoSided ≡ true) (coloured : al
   pub cost-top : (js : List ℕ) → cost js < topWord
   cost-top js = rw (cost-is js) (layout-low s o js)
 
-  pub bound-digit : (e : ℕ) → e < length (s .colours) → eqb ((getD (s .colours) e noColour) .bound) 255 ≡ false →
-      digitOf (radicesOf (s .colours)) e (fullBudget s) ≡ (getD (s .colours) e noColour) .bound
-  bound-digit e l h = let q = bound-of s e noColour l in full-digit s e (rw q at h) ∙ ap (λ (k : Colour). k .bound) (sym q)
-
   -- ---- a lawful layout
 
   module _ (js : List ℕ) (ob : Obeys s js) where
@@ -172,16 +168,16 @@ module _ (s : Sheet) (o : Sound s) (two : s .isTwoSided ≡ true) (coloured : al
         let x : leftEnd s js q ≤ (siteAt s i) .x = subst⁻¹ (λ (t : ℕ). t ≤ (siteAt s i) .x) (left-zero js q) (omega arith) in
         (le-leb _ _ (r .five i q l u e x), r .four i q l u e x)
 
-    within : (e : ℕ) → e < length (s .colours) → eqb ((getD (s .colours) e noColour) .bound) 255 ≡ false →
+    within : (e : ℕ) → e < length (s .colours) → isUnbounded s e ≡ false →
         tally (λ j. eqb (codes j) (suc e)) 0 (length (s .slots)) ≤ digitOf (radicesOf (s .colours)) e (fullBudget s)
-    within e l h = rw (bound-digit e l h) (go (r .two e l))
+    within e l h = rw (full-digit s e h) (go (r .two e l))
       where
         mine : (j : ℕ) → codes j ≡ suc e → View j (s .sites) js → isUsed j (slotsOf e (tied s js)) ≡ true
         mine j c (inl (z, f)) = absurd (omega arith)
         mine j c (inr (i, (u, q, z))) =
             subst (λ (t : ℕ). isUsed t (slotsOf e (tied s js)) ≡ true) q (slots-at e (getD js i 0) (s .sites) js i (ob .long) u refl (omega arith))
 
-        go : Bounded s js e (getD (s .colours) e noColour) → tally (λ j. eqb (codes j) (suc e)) 0 (length (s .slots)) ≤ (getD (s .colours) e noColour) .bound
+        go : Bounded s js e (getD (s .colours) e noColour) → tally (λ j. eqb (codes j) (suc e)) 0 (length (s .slots)) ≤ boundOf s e
         go (inl q) = absurd (eqb-false _ _ h q)
         go (inr q) =
             le-trans (tally-mono (λ j. eqb (codes j) (suc e)) (λ j. isUsed j (slotsOf e (tied s js))) 0 (length (s .slots))

@@ -2,12 +2,11 @@
 use mathlib.Core.Option.{Option}
 use mathlib.Core.List.{List}
 use Prim.Native.Nat.{ℕ, _+_, _*_}
-use lib.Dec.{eqb}
-use lib.ListN.{length, getD}
+use lib.ListN.{length}
 use Rattle.sheet.specs.Sheet.{Sheet}
-use Rattle.labelling.specs.Layout.{siteAt, noColour}
+use Rattle.labelling.specs.Layout.{siteAt}
 use Rattle.labelling.specs.Lawful.{rankAt}
-use Rattle.optimum.specs.Budgets.{fullBudget}
+use Rattle.optimum.specs.Budgets.{isUnbounded, fullBudget}
 use Rattle.optimum.specs.CostWord.{topWord}
 use Rattle.optimum.specs.Slots.{sheetSlots}
 use Rattle.optimum.specs.UsedSlots.{Instance, answer}
@@ -24,7 +23,7 @@ instanceOf s = record {
   unit = lengthUnit s;
   budget = fullBudget s;
   radices = radicesOf (s .colours);
-  unbounded = λ c. eqb ((getD (s .colours) c noColour) .bound) 255;
+  unbounded = isUnbounded s;
   x = rankAt s;
   y = λ i. (siteAt s i) .y;
   colour = λ i. (siteAt s i) .colour;

@@ -1,8 +1,8 @@
 -- The decisions' equations, and that radices and draws have no part in them. Assumes nothing.
 use mathlib.Core.Path.{_≡_, refl, sym, ap, ap₂, _∙_}
 use mathlib.Core.Bool.{Bool, true, false, not, _&&_, _||_}
-use mathlib.Core.List.{List, [], _∷_}
-use Prim.Native.Nat.{ℕ, zero, suc, _+_, _<_}
+use mathlib.Core.List.{List}
+use Prim.Native.Nat.{ℕ, suc, _+_}
 use native.Mathlib.Omega.{arith}
 use lib.Dec.{eqb, ltb}
 use lib.ListN.{length, getD}
@@ -56,11 +56,6 @@ opens-split q hs bs p s k =
     regroup true true true true true true false h = refl
     regroup true true true true true true true false = refl
     regroup true true true true true true true true = refl
-
-pub default-any : (l : List ℕ) (i d e : ℕ) → i < length l → getD l i d ≡ getD l i e
-default-any [] i d e h = absurd (omega arith)
-default-any (x ∷ l) zero d e h = refl
-default-any (x ∷ l) (suc i) d e h = default-any l i d e (omega arith)
 
 pub joins-down-by : (q : Measures) (hs bs : List ℕ) (p : Strip) (s : Point) (k : ℕ)
     → joinsDown (instanceOn q hs bs) p s k ≡ eqb (p .b) (k + 1) && ltb k (length hs) && eqb (p .cb) (s .c + 1) && clearFrom (slotsBy q hs) (p .a) (s .y)

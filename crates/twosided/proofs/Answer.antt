@@ -14,7 +14,7 @@ use Rattle.lists.proofs.Tests.{by-test, by-order, and-l}
 use Rattle.search.specs.Radix.{place}
 use Rattle.sheet.specs.Sheet.{Site, Colour, Sheet, sheetIn, sheetFault, bodyOf, coloursIn, kindOf, rankOf, productOf, workFor}
 use Rattle.sheet.proofs.Accepted.{Sound, sound, sites-coloured}
-use Rattle.labelling.specs.Layout.{tieWords, layoutWords, noColour, siteShare}
+use Rattle.labelling.specs.Layout.{tieWords, layoutWords, siteShare}
 use Rattle.labelling.specs.Entry.{makeFault, makeWork, makeAnswer}
 use Rattle.labelling.specs.Promise.{takesSheet}
 use Rattle.labelling.proofs.Rules.{siteAt}
@@ -30,7 +30,7 @@ use Rattle.optimum.proofs.TwoSidedAnswer.{choose-halved, step-keeps}
 use Rattle.optimum.proofs.TwoSidedCall.{leastOf, capsOf, two-sided-call, two-sided-none}
 use Rattle.arrays.specs.declared.Measures.{Measures}
 use Rattle.arrays.specs.Arrays.{boundsOf, xsOf, ysOf, coloursOf, radicesBy, drawsBy, radixBy, measuresOf, padded, productBy}
-use Rattle.arrays.proofs.Instances.{xs-at, ys-at, colours-at}
+use Rattle.arrays.proofs.Instances.{bounds-at, xs-at, ys-at, colours-at}
 use Rattle.arrays.proofs.Whole.{front}
 use Rattle.arrays.proofs.Ordered.{radices-long, draws-long, product-positive, product-are}
 use Rattle.usedslots.specs.Table.{none, unitOf, labelCost, instanceBy, tableBy, capsIn, Fits, tableWords}
@@ -114,12 +114,6 @@ unfolding boundsOf
 bounds-long [] = refl
 bounds-long (k ∷ ks) = ap suc (bounds-long ks)
 
-bound-at : (ks : List Colour) (c : ℕ) → getD (boundsOf ks) c 0 ≡ (getD ks c noColour) .bound
-unfolding boundsOf
-bound-at [] c = refl
-bound-at (k ∷ ks) zero = refl
-bound-at (k ∷ ks) (suc c) = bound-at ks c
-
 pub ys-long : (ss : List Site) → length (ysOf ss) ≡ length ss
 unfolding ysOf
 ys-long [] = refl
@@ -185,7 +179,7 @@ module _ (s : Sheet) where
     unit = unitOf (measuresOf s);
     budget = productOf (s .colours) - 1;
     radices = radices-same (s .colours) i;
-    unbounded = λ c. eqb (bound-at (s .colours) c i) 255;
+    unbounded = λ c. eqb (bounds-at (s .colours) c i) 255;
     x = λ j. xs-at (s .sites) j i;
     y = λ j. ys-at (s .sites) j i;
     colour = λ j. colours-at (s .sites) j i;

@@ -11,6 +11,7 @@ use lib.Dec.{ltb, leb, eqb}
 use lib.ListN.{length, getD}
 use lib.Arith.{mod-mul}
 use borrow.Author.Tests.{le-leb, lt-leb, lt-ltb, le-ltb, eq-eqb, ne-eqb}
+use Rattle.lists.proofs.Places.{default-any}
 use Rattle.lists.proofs.Tests.{by-test, by-equal}
 use Rattle.search.specs.Cost.{plus}
 use Rattle.search.specs.Radix.{place}
@@ -84,19 +85,23 @@ module _ (q : Measures) (hs bs rs ds ys cs caps : List ℕ) (f : Fits q hs bs rs
       q .budgets ≤ row → from + q .budgets ≤ work → Blocks row work from (q .budgets) sk sz
   blocks-of row work from sk sz e₁ e₂ h l = let z : sz ≡ size = rw e₁ at e₂ in rw (e₁, z) (blocks row work from h l)
 
+  -- the colour's bound, which stands in the array
+  bound-in : getD bs d 255 ≡ getD bs d 0
+  bound-in = default-any bs d 255 0 (omega (arith, f .bounds-long))
+
   -- a label may be opened just at the places of a block that are not skipped
   pub may-is : (v : ℕ) → may (tableBy q hs bs rs ys cs) (suc d) v ≡ leb skip (v % size)
   unfolding may
   may-is v =
       by-test (eqb (getD bs d 0) 255)
-      (λ e. let z : skip ≡ 0 = f .draws d in-colours ∙ rw e in rw (z, e) (sym (le-leb 0 (v % q .budgets) (omega arith))))
+      (λ e. let z : skip ≡ 0 = f .draws d in-colours ∙ rw e in rw (bound-in, z, e) (sym (le-leb 0 (v % q .budgets) (omega arith))))
       (λ e.
       let z : skip ≡ place rs d = f .draws d in-colours ∙ rw e in
-      rw (z, e, digit-flat rs d v (omega (arith, f .radices-long))) (digit-block (place rs d) (getD rs d 0) v (parts .0) (parts .1)))
+      rw (bound-in, z, e, digit-flat rs d v (omega (arith, f .radices-long))) (digit-block (place rs d) (getD rs d 0) v (parts .0) (parts .1)))
 
   draw-is : draw (tableBy q hs bs rs ys cs) (suc d) ≡ skip
   unfolding draw
-  draw-is = sym (f .draws d in-colours)
+  draw-is = rw bound-in (sym (f .draws d in-colours))
 
   module _ (a ca j : ℕ) where
     abbrev G : Instance

@@ -1,5 +1,5 @@
 use Rattle.strips.specs.Strips.{siteOpens}
-use Rattle.strips.proofs.Decisions.{default-any}
+use Rattle.lists.proofs.Places.{default-any}
 use mathlib.Core.Path.{_≡_, refl, ap, sym, _∙_}
 use mathlib.Core.List.{List, [], _∷_, _++_}
 use mathlib.Core.Logic.{⊎-elim}
