@@ -9,19 +9,19 @@ use lib.ListN.{length, getD}
 use Rattle.lists.proofs.Tests.{by-order}
 use Rattle.sheet.specs.Sheet.{Site, Colour, Sheet}
 use Rattle.search.proofs.Sums.{listing-first, listing-past}
-use Rattle.labelling.specs.Layout.{heightOf, siteShare}
+use Rattle.labelling.specs.Layout.{noColour, siteShare}
 use Rattle.labelling.proofs.Members.{noSite}
-use Rattle.optimum.specs.Budgets.{unboundedColour}
-use Rattle.optimum.specs.OneSided.{farEnough, clearOf, shareOf, leadOf, mayOpen, tipClear, turnOf, heldOf, radicesOf, drawsOf, wordOf, topWord, instanceOf, pointsAt}
+use Rattle.optimum.specs.Slots.{farEnough, sheetSlots}
+use Rattle.optimum.specs.OneSided.{leadOf, mayOpen, tipClear, turnOf, heldOf, radicesOf, drawsOf, wordOf, topWord, instanceOf, pointsAt}
 use Rattle.arrays.specs.Arrays.{measuresOf, boundsOf, drawsList, xsOf, ysOf, coloursOf, gathered, instanceBy, pointsBy}
 
-pub bounds-at : (ks : List Colour) (c : ℕ) → getD (boundsOf ks) c 255 ≡ (getD ks c unboundedColour) .bound
+pub bounds-at : (ks : List Colour) (c : ℕ) → getD (boundsOf ks) c 255 ≡ (getD ks c noColour) .bound
 unfolding boundsOf
 bounds-at [] c = refl
 bounds-at (k ∷ ks) zero = refl
 bounds-at (k ∷ ks) (suc c) = bounds-at ks c
 
-past : (ks : List Colour) (c : ℕ) → length ks ≤ c → (getD ks c unboundedColour) .bound ≡ 255
+past : (ks : List Colour) (c : ℕ) → length ks ≤ c → (getD ks c noColour) .bound ≡ 255
 past [] c h = refl
 past (k ∷ ks) zero h = absurd (omega arith)
 past (k ∷ ks) (suc c) h = past ks c (omega arith)
@@ -34,14 +34,10 @@ draws-at s c =
 
 -- THE ONE-SIDED INSTANCE
 pub instance-by : (s : Sheet) → instanceBy (measuresOf s) (s .slots) (boundsOf (s .colours)) (radicesOf (s .colours)) (drawsList s) ≡ instanceOf s
-unfolding farEnough clearOf shareOf siteShare leadOf mayOpen tipClear turnOf heldOf wordOf
+unfolding farEnough siteShare leadOf mayOpen tipClear turnOf heldOf wordOf
 instance-by s = λ i. record {
-  m = length (s .slots);
+  slots = sheetSlots s;
   top = topWord;
-  height = heightOf s;
-  far = farEnough s;
-  clear = clearOf s;
-  share = shareOf s;
   lead = leadOf s;
   may = λ t k. not (eqb (bounds-at (s .colours) (t .c) i) 0);
   tip = tipClear s;

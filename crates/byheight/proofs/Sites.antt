@@ -13,7 +13,8 @@ use Rattle.search.specs.Walk.{Process, best}
 use Rattle.search.specs.Sums.{sumTo, listing}
 use Rattle.search.proofs.CappedSums.{sum-cong}
 use Rattle.search.proofs.Sums.{listing-at, length-listing}
-use Rattle.optimum.specs.UsedSlots.{Instance, farUp, may, draw, strip, price, next, final, labels, State, below, T, value}
+use Rattle.optimum.specs.Slots.{farFrom}
+use Rattle.optimum.specs.UsedSlots.{Instance, may, draw, strip, price, next, final, labels, State, below, T, value}
 use Rattle.arrays.specs.declared.Measures.{Measures}
 use Rattle.usedslots.specs.declared.Label.{Label}
 use Rattle.usedslots.specs.Table.{none, tableBy, capsIn, upperAt, lowerAt, siteOf, stripOf, Fits}
@@ -144,7 +145,7 @@ module _ (q : Measures) (hs bs rs ds ys cs caps order : List ℕ) (r : Reorders 
       sym (strip-is q hs bs rs ys₁ cs₁ [] caps₁ a ca k cb) ∙ s .strips q (upperAt hs a ca) (lowerAt hs k cb) ∙ strip-is q hs bs rs ys cs [] caps a ca k cb
 
   price-same : (t : State (tableBy q hs bs rs ys cs) (capsIn caps)) (k c : ℕ) → price (tableBy q hs bs rs ys₁ cs₁) (capsIn caps₁) t k c ≡ price (tableBy q hs bs rs ys cs) (capsIn caps) t k c
-  unfolding price farUp may
+  unfolding price farFrom may
   price-same t k zero = refl
   price-same t k (suc c) = rw (strip-same (t .0) (t .1) k (suc c))
 

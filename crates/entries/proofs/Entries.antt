@@ -29,7 +29,7 @@ use Rattle.entries.proofs.Joins.{opening, opens-of, shut, up-at, down-a
 use Rattle.entries.specs.Rows.{rowOf, rowIn, Lies, openBy, upperPart, lowerPart, joinLeast, noPart, slotTerm, slotsLeast, insideEntry, entryBy, entryIn}
 
 -- the place of a cell, by its row
-pub cell-row : (P : Instance) (C R : ℕ) (p : Strip) (v : ℕ) → P .kinds ≡ 1 → p .d ≡ 0 → cellOf P C R p v ≡ rowOf (P .m) C p * R + v
+pub cell-row : (P : Instance) (C R : ℕ) (p : Strip) (v : ℕ) → P .kinds ≡ 1 → p .d ≡ 0 → cellOf P C R p v ≡ rowOf (P .slots .m) C p * R + v
 unfolding cellOf
 cell-row P C R p v k d = rw (k, d) (ap (λ (z : ℕ). z * R + v) (omega arith))
 

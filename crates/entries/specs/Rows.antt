@@ -124,4 +124,4 @@ pub record Single (n : ℕ) (parts counts left : List ℕ) : Type 0 where
 -- the same by the model, from the level that begins at the word `low`: C colours, budgets below R
 abbrev pub entryIn : (P : Instance) (C R : ℕ) → (work : List ℕ) → (low : ℕ) → Strip → Point → (v : ℕ) → ℕ
 entryIn P C R work low p s v =
-    cond (inside P p s) (least (P .top) (P .m) (λ k. stepCell P C R (drop low work) p s k v)) (getD (drop low work) (cellOf P C R p v) 0)
+    cond (inside P p s) (least (P .top) (P .slots .m) (λ k. stepCell P C R (drop low work) p s k v)) (getD (drop low work) (cellOf P C R p v) 0)

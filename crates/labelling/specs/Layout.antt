@@ -13,12 +13,13 @@ use Rattle.sheet.specs.Sheet.{all, kindOf, bits, Site, Colour, Sheet, rankOf, r
 abbrev pub apart : ℕ → ℕ → ℕ
 apart a b = (a - b) + (b - a)
 
--- what stands where a list has no item: no rule asks for it
+-- what stands where a list has no item: no rule asks for it. A colour that the sheet does not have is unbounded, so that no budget has a
+-- digit for it
 abbrev pub noSite : Site
 noSite = record { x = 0; y = 0; colour = 0 }
 
 abbrev pub noColour : Colour
-noColour = record { bound = 0; sites = 0 }
+noColour = record { bound = 255; sites = 0 }
 
 -- the site of a number
 abbrev pub siteAt : Sheet → ℕ → Site

@@ -3,41 +3,47 @@ use mathlib.Core.Path.{_≡_, refl, sym, ap, _∙_}
 use mathlib.Core.Bool.{true}
 use mathlib.Core.List.{List, []}
 use Prim.Native.Nat.{ℕ, suc, _+_, _-_, _%_, _≤_, _<_, min}
-use native.Mathlib.Nat.{le-of-eq}
+use native.Mathlib.Nat.{le-trans, le-of-eq}
 use native.Mathlib.Omega.{arith}
 use native.Mathlib.Numerals.{add-one}
 use lib.Dec.{leb}
 use lib.ListN.{length, getD}
 use Rattle.search.specs.Cost.{plus, least}
 use Rattle.search.proofs.Cost.{plus-le, plus-past, plus-mono, plus-assoc, plus-zero, least-le}
-use Rattle.optimum.specs.UsedSlots.{Instance, farUp, may, draw, strip, below, T, value}
+use Rattle.optimum.specs.Slots.{Slots, farFrom}
+use Rattle.optimum.specs.UsedSlots.{Instance, may, draw, strip, below, T, value}
 use Rattle.optimum.specs.Rows.{link}
 use Rattle.optimum.proofs.Rows.{below-le, below-end, below-step, link-is}
 use Rattle.arrays.specs.declared.Measures.{Measures}
-use Rattle.usedslots.specs.Table.{none, labelCost, tableBy, capsIn, farAt, upperAt, lowerAt, stripOf, sizeOf, Fits}
+use Rattle.arrays.specs.Arrays.{slotsBy}
+use Rattle.usedslots.specs.Table.{none, labelCost, tableBy, capsIn, upperAt, lowerAt, stripOf, sizeOf, Fits}
 use Rattle.usedslots.proofs.Strips.{strip-is}
-use Rattle.usedslots.proofs.Links.{far-is, may-is, draw-is}
+use Rattle.usedslots.proofs.Links.{may-is, draw-is}
 use Rattle.labels.specs.declared.Chosen.{Chosen}
 use Rattle.labels.specs.Labels.{leastAfter}
 
 module _ (G : Instance) (caps : ℕ → ℕ) where
-  open Instance G using (top, m, colours, each, budget)
+  open Instance G using (top, slots, colours, each, budget)
+  open Slots slots using (m)
 
-  slots : (k : ℕ) → k < m → m - k ≡ suc (m - suc k)
-  slots k h = omega arith
+  slots-from : (k : ℕ) → k < m → m - k ≡ suc (m - suc k)
+  slots-from k h = omega arith
 
   -- no label at slot k
   pub least-skip : (s : Chosen) (k : ℕ) → k < m → leastAfter G caps s k ≤ leastAfter G caps s (suc k)
   least-skip s k h =
       plus-mono top (s .cost) _ _
-      (rw (slots k h) (let e = below-step G caps (m - suc k) k (s .place) (s .code) (s .budget) (omega arith) in omega arith))
+      (rw (slots-from k h) (let e = below-step G caps (m - suc k) k (s .place) (s .code) (s .budget) (omega arith) in omega arith))
 
   -- what is lost costs none
   pub least-lost : (s t : Chosen) (k j : ℕ) → t .cost ≡ top → leastAfter G caps s k ≤ leastAfter G caps t j
   least-lost s t k j e = rw (e, plus-past top top (below G caps j (m - j) (t .place) (t .code) (t .budget)) (omega arith)) (plus-le top _ _)
 
+  pub least-none : (w : ℕ) (s : Chosen) (k : ℕ) → w ≤ leastAfter G caps s k → w ≤ top
+  least-none w s k h = le-trans h (plus-le top _ _)
+
   -- a label of colour d there
-  pub least-label : (s t : Chosen) (k d : ℕ) → k < m → d < colours → farUp G (s .place) (s .code) k (suc d) ≡ true → may G (suc d) (s .budget) ≡ true →
+  pub least-label : (s t : Chosen) (k d : ℕ) → k < m → d < colours → farFrom slots (s .place) (s .code) k (suc d) ≡ true → may G (suc d) (s .budget) ≡ true →
       t .place ≡ suc k → t .code ≡ suc d → t .budget ≡ s .budget - draw G (suc d) →
       t .cost ≡ plus top (s .cost) (plus top each (strip G caps (s .place) (s .code) (suc k) (suc d))) → leastAfter G caps s k ≤ leastAfter G caps t (suc k)
   unfolding T
@@ -47,7 +53,7 @@ module _ (G : Instance) (caps : ℕ → ℕ) where
       let i : link G caps (s .place) (s .code) (s .budget) k d ≡ plus top a b = link-is G caps (s .place) (s .code) (s .budget) k d far left in
       let j = least-le top colours (λ d. link G caps (s .place) (s .code) (s .budget) k d) d l in
       let e = below-step G caps (m - suc k) k (s .place) (s .code) (s .budget) (omega arith) in
-      let z : below G caps k (m - k) (s .place) (s .code) (s .budget) ≤ plus top a b = rw (slots k h) (omega arith) in
+      let z : below G caps k (m - k) (s .place) (s .code) (s .budget) ≤ plus top a b = rw (slots-from k h) (omega arith) in
       rw (e₁, e₂, e₃, e₄, plus-assoc top (s .cost) a b) (plus-mono top (s .cost) _ _ z)
 
   -- before the first slot, and after the last
@@ -67,7 +73,7 @@ module _ (q : Measures) (hs bs rs ds ys cs caps : List ℕ) (f : Fits q hs bs rs
   H = tableBy q hs bs rs ys cs
 
   pub label-chosen : (s t : Chosen) (k d skip size cost : ℕ) → k < length hs → d < q .colours →
-      farAt q hs (s .place) (s .code) k (d + 1) ≡ true → skip ≡ getD ds d 0 → size ≡ sizeOf (q .budgets) (getD bs d 0) skip (getD rs d 0) →
+      farFrom (slotsBy q hs) (s .place) (s .code) k (d + 1) ≡ true → skip ≡ getD ds d 0 → size ≡ sizeOf (q .budgets) (getD bs d 0) skip (getD rs d 0) →
       leb skip (s .budget % size) ≡ true → cost ≡ stripOf q (upperAt hs (s .place) (s .code)) (lowerAt hs k (d + 1)) ys cs caps →
       t .place ≡ k + 1 → t .code ≡ d + 1 → t .budget ≡ s .budget - skip → t .cost ≡ plus none (s .cost) (plus none (labelCost q) cost) →
       leastAfter H (capsIn caps) s k ≤ leastAfter H (capsIn caps) t (suc k)
@@ -76,7 +82,7 @@ module _ (q : Measures) (hs bs rs ds ys cs caps : List ℕ) (f : Fits q hs bs rs
       let z : leb (getD ds d 0) (s .budget % sizeOf (q .budgets) (getD bs d 0) (getD ds d 0) (getD rs d 0)) ≡ true = rw (e₁, z₂) at left in
       let c : cost ≡ stripOf q (upperAt hs (s .place) (s .code)) (lowerAt hs k (suc d)) ys cs caps = rw add-one at e₃ in
       least-label H (capsIn caps) s t k d h l
-      (sym (far-is q hs bs rs ds ys cs caps f d l (s .place) (s .code) k k) ∙ (rw add-one at far))
+      (rw add-one at far)
       (may-is q hs bs rs ds ys cs caps f d l (s .budget) ∙ z)
       (e₄ ∙ omega arith) (e₅ ∙ omega arith)
       (e₆ ∙ rw (e₁, draw-is q hs bs rs ds ys cs caps f d l))

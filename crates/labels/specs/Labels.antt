@@ -6,4 +6,4 @@ use Rattle.labels.specs.declared.Chosen.{Chosen}
 
 -- the least cost of a layout that has these labels down to slot k, which is next
 abbrev pub leastAfter : Instance → (caps : ℕ → ℕ) → Chosen → (k : ℕ) → ℕ
-leastAfter G caps s k = plus (G .top) (s .cost) (below G caps k (G .m - k) (s .place) (s .code) (s .budget))
+leastAfter G caps s k = plus (G .top) (s .cost) (below G caps k (G .slots .m - k) (s .place) (s .code) (s .budget))

@@ -7,12 +7,14 @@ ghost use Rattle.optimum.specs.UsedSlots.{value};
 ghost use Rattle.usedslots.specs.Table.{tableBy, capsIn, Fits};
 ghost use Rattle.labels.specs.Labels.{leastAfter};
 use arrays::Measures;
+use places::is_far;
 use usedslots::block_size;
-use usedslots::is_far;
 use usedslots::link_cost;
 use usedslots::row_start;
 use usedslots::strip_between;
 use words::NONE;
+use words::at_most;
+use words::both;
 use words::get;
 use words::monus;
 use words::plus_of;
@@ -57,7 +59,8 @@ fn with_label(
         budget: s.budget,
         cost: NONE,
     };
-    if !is_far(q, heights, s.place, s.code, k, d + 1) {
+    let there = at_most(s.place, heights.len() as u32);
+    if !both(there, is_far(q, heights, s.place, s.code, k, d + 1)) {
         return lost;
     }
     let skip = get(draws, d);
@@ -170,6 +173,9 @@ pub fn labels_cost(
             get(labels, k),
         );
         k += 1;
+    }
+    if m < s.place {
+        return NONE;
     }
     let last = strip_between(q, heights, ys, colours, caps, s.place, s.code, m, 0, 0, all);
     plus_of(s.cost, last)

@@ -8,7 +8,8 @@ use native.Mathlib.Numerals.{add-one}
 use lib.ListN.{length, getD}
 use borrow.Author.Tests.{lt-ltb, ne-eqb}
 use Rattle.lists.proofs.Tests.{by-test, by-either, by-order}
-use Rattle.optimum.specs.Strips.{Point, Strip, Instance, inside, over, under, farFrom, clearFrom, opens, joinsUp, joinsDown, children}
+use Rattle.optimum.specs.Slots.{over, under, farFrom, clearFrom}
+use Rattle.optimum.specs.Strips.{Point, Strip, Instance, inside, opens, joinsUp, joinsDown, children}
 use Rattle.optimum.specs.Reached.{Asks, Reached, noPoint, wholeSheet}
 use Rattle.arrays.specs.declared.Measures.{Measures}
 use Rattle.arrays.specs.Arrays.{instanceBy, pointsBy}

@@ -61,7 +61,7 @@ pub record Ready (q : Measures) (heights bounds : List ℕ) (area base low : ℕ
 -- if the strip p is marked in the level at the word `base`, all that it asks for is marked in the level at the word `low`
 abbrev pub Led : (P : Instance) → Measures → (old new : List ℕ) → (base low : ℕ) → Point → Strip → Type 0
 Led P q old new base low s p =
-    Marked old base (P .m) (q .colours) (q .budgets) p → (x : Strip) → Asks P p s x → Marked new low (P .m) (q .colours) (q .budgets) x
+    Marked old base (P .slots .m) (q .colours) (q .budgets) p → (x : Strip) → Asks P p s x → Marked new low (P .slots .m) (q .colours) (q .budgets) x
 
 -- the sites of a sheet, as three arrays of one length
 pub record Sites (q : Measures) (xs ys cs : List ℕ) : Type 0 where
@@ -74,4 +74,4 @@ pub record Sites (q : Measures) (xs ys cs : List ℕ) : Type 0 where
 -- ALL THAT THE WHOLE SHEET LEADS TO IS MARKED, at the first so many levels; levels of `size` words
 abbrev pub ReachMarked : (P : Instance) → Measures → List Point → (work : List ℕ) → (size levels : ℕ) → Type 0
 ReachMarked P q ss work size levels =
-    (i : ℕ) → i < levels → (p : Strip) → Reached P ss i p → Marked work (i * size) (P .m) (q .colours) (q .budgets) p
+    (i : ℕ) → i < levels → (p : Strip) → Reached P ss i p → Marked work (i * size) (P .slots .m) (q .colours) (q .budgets) p

@@ -16,7 +16,7 @@ use Rattle.walk.specs.Walk.{WalkArrays}
 
 -- no label is open, and the budget is full: R budgets
 abbrev pub emptySheet : (P : Instance) → (R : ℕ) → State P
-emptySheet P R = (replicate (P .m) 0, R - 1, replicate (suc (P .m)) 0)
+emptySheet P R = (replicate (P .slots .m) 0, R - 1, replicate (suc (P .slots .m)) 0)
 
 abbrev pub leastCost : (P : Instance) → (R : ℕ) → List Point → ℕ
 leastCost P R points = value P (emptySheet P R) points
@@ -41,8 +41,8 @@ laidOut P q points order out = cond (ltb (leastCost P (q .budgets) points) topWo
 -- the work area: the words of all levels wiped
 abbrev pub wiped : (P : Instance) → Measures → List Point → (work : List ℕ) → List ℕ
 wiped P q points work =
-    replicate ((length points + 1) * levelSize (P .m) (q .colours) (q .budgets)) 0
-    ++ drop ((length points + 1) * levelSize (P .m) (q .colours) (q .budgets)) work
+    replicate ((length points + 1) * levelSize (P .slots .m) (q .colours) (q .budgets)) 0
+    ++ drop ((length points + 1) * levelSize (P .slots .m) (q .colours) (q .budgets)) work
 
 -- what is asked where the table stands filled: the arrays are the sheet's, the heights rise, no label is open, there is room for the answer
 pub record TableFilled (q : Measures) (heights bounds radices draws parts counts work xs ys colours order labels out : List ℕ) : Type 0 where

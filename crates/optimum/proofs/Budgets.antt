@@ -11,13 +11,8 @@ use Rattle.lists.proofs.Tests.{by-test, by-order}
 use Rattle.search.specs.Radix.{place}
 use Rattle.search.proofs.Digits.{Positive, product, product-pos, digit-full, Drawn, drawn}
 use Rattle.sheet.specs.Sheet.{Colour, Sheet, productOf}
-use Rattle.optimum.specs.Budgets.{unboundedColour, boundOf, isUnbounded, radixOf, radicesOf, digitIn, drawsOf, fullBudget}
-
--- what stands past the end of a list has no part within it
-in-range : {A : Type 0} (l : List A) (i : ℕ) (d e : A) → i < length l → getD l i d ≡ getD l i e
-in-range [] i d e h = absurd (omega arith)
-in-range (x ∷ l) zero d e h = refl
-in-range (x ∷ l) (suc i) d e h = in-range l i d e (omega arith)
+use Rattle.labelling.specs.Layout.{noColour}
+use Rattle.optimum.specs.Budgets.{boundOf, isUnbounded, radixOf, radicesOf, digitIn, drawsOf, fullBudget}
 
 -- ---- radices
 
@@ -26,7 +21,7 @@ unfolding Positive radicesOf
 positive [] = tt
 positive (k ∷ ks) = (by-test (eqb (k .bound) 255) (λ e. rw e (omega arith)) (λ e. rw e (omega arith)), positive ks)
 
-pub radix-at : (ks : List Colour) (c : ℕ) → getD (radicesOf ks) c 1 ≡ radixOf (getD ks c unboundedColour)
+pub radix-at : (ks : List Colour) (c : ℕ) → getD (radicesOf ks) c 1 ≡ radixOf (getD ks c noColour)
 unfolding radicesOf
 radix-at [] c = refl
 radix-at (k ∷ ks) zero = refl
@@ -45,15 +40,12 @@ product-is (k ∷ ks) = rw (product-is ks) (by-test (eqb (k .bound) 255) (λ e. 
 pub full-low : (s : Sheet) → fullBudget s < productOf (s .colours)
 full-low s = rw (product-is (s .colours)) (omega (arith, product-pos _ (positive (s .colours))))
 
--- ---- a colour's bound, whatever stands where there is no colour
-
-pub bound-of : (s : Sheet) (c : ℕ) (d : Colour) → c < length (s .colours) → getD (s .colours) c d ≡ getD (s .colours) c unboundedColour
-bound-of s c d h = in-range (s .colours) c d unboundedColour h
+-- ---- a colour's bound
 
 pub bounded-low : (s : Sheet) (c : ℕ) → isUnbounded s c ≡ false → c < length (s .colours)
 bounded-low s c u =
     by-order (length (s .colours)) c
-    (λ h. absurd (eqb-false (boundOf s c) 255 u (ap (λ (k : Colour). k .bound) (List·getD-eq-default (s .colours) unboundedColour h))))
+    (λ h. absurd (eqb-false (boundOf s c) 255 u (ap (λ (k : Colour). k .bound) (List·getD-eq-default (s .colours) noColour h))))
     (λ h. h)
 
 -- THE FULL BUDGET's digits are the bounds

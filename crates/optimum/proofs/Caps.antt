@@ -14,6 +14,7 @@ use Rattle.lists.proofs.Tests.{by-test, by-order, by-either, by-equal}
 use Rattle.search.proofs.Cost.{first-le, first-is}
 use Rattle.search.specs.Sums.{tally}
 use Rattle.search.proofs.Sums.{tally-in, tally-out}
+use Rattle.optimum.specs.Slots.{Slots}
 use Rattle.optimum.specs.UsedSlots.{Instance, put, allows, value, leftmost, choose, capAll}
 
 pub put-same : (caps : ℕ → ℕ) (i p : ℕ) → put caps i p i ≡ p
@@ -50,7 +51,8 @@ tally-none t (suc c) k h j l u =
     (λ w. by-equal j k (λ e. ap t e ∙ w) (λ e. tally-none t c (suc k) (omega (arith, tally-out t k c w)) j (omega arith) (omega arith)))
 
 module _ (G : Instance) where
-  open Instance G using (top, m, n, x)
+  open Instance G using (slots, top, n, x)
+  open Slots slots using (m)
 
   abbrev pub Respects : (ℕ → ℕ) → List ℕ → Type 0
   Respects caps js = (i : ℕ) → i < n → allows G caps i (suc (getD js i 0)) ≡ true

@@ -19,7 +19,7 @@ use Rattle.labelling.proofs.Earlier.{rankAt}
 use Rattle.labelling.proofs.LeftEnd.{left-end}
 use Rattle.labelling.proofs.Counted.{slots-at, at-slots, sumOver, length-over, backbones-over}
 use Rattle.optimum.specs.Strips.{Point}
-use Rattle.optimum.specs.OneSided.{shareOf, leadOf, xOf, order, pointAt, pointsAt, instanceOf}
+use Rattle.optimum.specs.OneSided.{leadOf, xOf, order, pointAt, pointsAt, instanceOf}
 use Rattle.optimum.proofs.Steps.{Steps, isFree, opened, shares}
 use Rattle.optimum.proofs.Pairs.{zeros}
 use Rattle.optimum.proofs.Opened.{firstOf, opened-sum}
@@ -55,7 +55,7 @@ drops-sum s (t ∷ ss) (j ∷ js) l =
     ap (λ (z : ℕ). siteShare s (heightOf s j) (t .y) + z) (drops-sum s ss js (omega arith)) ∙ sym (sum-front (length ss) (λ i. siteShare s (heightOf s (getD (j ∷ js) i 0)) ((getD (t ∷ ss) i noSite) .y)))
 
 shares-sum : (s : Sheet) (js is : List ℕ) → shares (instanceOf s) (pointsAt s is) (gather js is) ≡ sumOver (λ i. siteShare s (heightOf s (getD js i 0)) (yOf s i)) is
-unfolding shares pointsAt gather sumOver shareOf
+unfolding shares pointsAt gather sumOver
 shares-sum s js [] = refl
 shares-sum s js (i ∷ is) = ap (λ (z : ℕ). siteShare s (heightOf s (getD js i 0)) (yOf s i) + z) (shares-sum s js is)
 

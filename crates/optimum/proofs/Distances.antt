@@ -2,11 +2,16 @@
 -- No other proof of this crate spells them out.
 use mathlib.Core.Path.{_≡_}
 use mathlib.Core.Bool.{true}
-use Prim.Native.Nat.{ℕ, _+_, _≤_, _<_}
+use Prim.Native.Nat.{ℕ, _-_, _≤_, _<_}
 use native.Mathlib.Omega.{arith}
+use lib.ListN.{length}
 use borrow.Author.Tests.{leb-true, le-leb}
 use Rattle.sheet.specs.Sheet.{Sheet}
+use Rattle.sheet.proofs.Accepted.{Sound}
 use Rattle.labelling.specs.Layout.{apart, heightOf, isFar, isClear}
+use Rattle.labelling.proofs.Members.{rise-at}
+use Rattle.optimum.specs.Slots.{farEnough, sheetSlots}
+use Rattle.optimum.proofs.Slots.{Good}
 
 -- ---- of heights at least d apart
 
@@ -38,13 +43,6 @@ module _ (s : Sheet) where
   far-trans i c j d k e p q f g =
       le-leb (s .gap) _ (added (s .gap) (heightOf s i) (heightOf s j) (heightOf s k) p q (leb-true (s .gap) _ f) (leb-true (s .gap) _ g))
 
-  -- the upper one and the gap come to the lower at most
-  pub far-down : (j c k d : ℕ) → heightOf s j < heightOf s k → isFar s j c k d ≡ true → heightOf s j + s .gap ≤ heightOf s k
-  far-down j c k d p f = let h = leb-true (s .gap) _ f in omega arith
-
-  pub down-far : (j c k d : ℕ) → heightOf s j + s .gap ≤ heightOf s k → isFar s j c k d ≡ true
-  down-far j c k d h = le-leb (s .gap) (apart (heightOf s j) (heightOf s k)) (omega arith)
-
   -- ---- a label and a site beyond another label
 
   pub far-above : (j c k d y : ℕ) → heightOf s j < heightOf s k → isFar s j c k d ≡ true → heightOf s k ≤ y → isClear s j y ≡ true
@@ -62,3 +60,20 @@ module _ (s : Sheet) where
   -- a label that is clear of a site is not at its height
   pub clear-off : (k y : ℕ) → 0 < s .gap → isClear s k y ≡ true → heightOf s k ≡ y → ⊥
   clear-off k y g f e = let h = leb-true (s .gap) _ f in omega arith
+
+-- ---- A SHEET'S SLOTS keep them, by slots
+pub good : (s : Sheet) → Sound s → Good (sheetSlots s)
+unfolding farEnough
+good s o = record {
+  rising = up;
+  far-sym = λ i c k d e. far-sym s i (c - 1) k (d - 1) e;
+  far-trans = λ i c j d k e p q l f g. far-trans s i (c - 1) j (d - 1) k (e - 1) (up i j p (omega arith)) (up j k q l) f g;
+  far-above = λ j c k d y p l f q. far-above s j (c - 1) k (d - 1) y (up j k p l) f q;
+  far-below = λ j c k d y p l f q. far-below s j (c - 1) k (d - 1) y (up k j p l) f q;
+  clear-above = λ j k y p l q f. clear-above s j k y (up j k p l) q f;
+  clear-below = λ j k y p l q f. clear-below s j k y (up k j p l) q f;
+  clear-off = λ k y f e. clear-off s k y (o .gapped) f e;
+}
+  where
+    up : (j k : ℕ) → j < k → k < length (s .slots) → heightOf s j < heightOf s k
+    up j k p l = rise-at (s .slots) (o .rise) j k p l

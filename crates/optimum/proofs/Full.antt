@@ -11,7 +11,8 @@ use Rattle.sheet.specs.Sheet.{Colour, productOf}
 use Rattle.optimum.specs.Strips.{Point, Strip, Instance, rulesOf}
 use Rattle.optimum.specs.Budgets.{radicesOf}
 use Rattle.optimum.proofs.Budgets.{positive, product-is}
-use Rattle.optimum.proofs.StripsHeld.{Rising, laws}
+use Rattle.optimum.proofs.Slots.{Rising}
+use Rattle.optimum.proofs.StripsHeld.{laws}
 
 -- each of the first R budgets may be taken from the budget `full`
 abbrev pub Holds : (radices : List ℕ) → (R full : ℕ) → Type 0
@@ -21,7 +22,7 @@ Holds rs R full = (v : ℕ) → v < R → below rs v full ≡ true
 pub full-holds : (ks : List Colour) → Holds (radicesOf ks) (productOf ks) (productOf ks - 1)
 full-holds ks = rw (product-is ks) (below-full (radicesOf ks) (positive ks))
 
-module _ (P : Instance) (rising : Rising P) where
+module _ (P : Instance) (rising : Rising (P .slots)) where
   open Instance P using (top, radices)
 
   -- a larger budget never costs more

@@ -1,47 +1,24 @@
--- An accepted sheet obeys what the steps ask of an instance: its distances, its costs and its budget.
+-- An accepted sheet obeys what the steps ask of an instance beside its slots: its costs and its budget.
 use mathlib.Core.Path.{_≡_, refl, ap}
 use mathlib.Core.Logic.{_⊎_, inl, inr}
 use mathlib.Core.Bool.{true, not, false}
-use Prim.Native.Nat.{ℕ, _+_, _-_, _<_}
+use Prim.Native.Nat.{ℕ, _+_, _<_}
 use native.Mathlib.Omega.{arith}
 use lib.Dec.{eqb}
-use lib.ListN.{length, getD}
+use lib.ListN.{getD}
 use borrow.Author.Tests.{eqb-true, eqb-false, ne-eqb}
 use Rattle.lists.proofs.Tests.{by-test, by-either, clash, not-f}
 use Rattle.search.specs.Radix.{below}
 use Rattle.search.proofs.Radix.{digit-le, sharing}
 use Rattle.search.proofs.Digits.{place-same, digit-wide}
-use Rattle.sheet.specs.Sheet.{Sheet, rising}
-use Rattle.sheet.proofs.Accepted.{Sound}
-use Rattle.labelling.specs.Layout.{heightOf}
-use Rattle.labelling.proofs.Members.{rise-at}
+use Rattle.sheet.specs.Sheet.{Sheet}
 use Rattle.optimum.specs.Strips.{Strip, Point}
 use Rattle.optimum.specs.Budgets.{boundOf, isUnbounded, radicesOf, digitIn, drawsOf}
-use Rattle.optimum.specs.OneSided.{farEnough, clearOf, mayOpen, tipClear, turnOf, heldOf, instanceOf}
-use Rattle.optimum.proofs.Neighbours.{Good}
-use Rattle.optimum.proofs.Distances.{far-sym, far-trans, far-above, far-below, clear-above, clear-below, clear-off}
+use Rattle.optimum.specs.OneSided.{mayOpen, tipClear, turnOf, heldOf, instanceOf}
 use Rattle.optimum.proofs.Steps.{Linear}
 use Rattle.optimum.proofs.Budgets.{positive, radix-at, draws-none, draws-one, draws}
 use Rattle.optimum.proofs.CostWord.{word-nothing, word-adds}
 use Rattle.optimum.proofs.Pays.{Budgeted}
-
--- ---- distances
-
-pub good : (s : Sheet) → Sound s → Good (instanceOf s)
-unfolding farEnough clearOf
-good s o = record {
-  rising = up;
-  far-sym = λ i c k d e. far-sym s i (c - 1) k (d - 1) e;
-  far-trans = λ i c j d k e p q l f g. far-trans s i (c - 1) j (d - 1) k (e - 1) (up i j p (omega arith)) (up j k q l) f g;
-  far-above = λ j c k d y p l f q. far-above s j (c - 1) k (d - 1) y (up j k p l) f q;
-  far-below = λ j c k d y p l f q. far-below s j (c - 1) k (d - 1) y (up k j p l) f q;
-  clear-above = λ j k y p l q f. clear-above s j k y (up j k p l) q f;
-  clear-below = λ j k y p l q f. clear-below s j k y (up k j p l) q f;
-  clear-off = λ k y f e. clear-off s k y (o .gapped) f e;
-}
-  where
-    up : (j k : ℕ) → j < k → k < length (s .slots) → heightOf s j < heightOf s k
-    up j k p l = rise-at (s .slots) (o .rise) j k p l
 
 -- ---- what is asked of a step beside them: nothing; a site leaves no mark
 

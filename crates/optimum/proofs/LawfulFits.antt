@@ -10,25 +10,28 @@ use native.Mathlib.Omega.{arith}
 use lib.Dec.{ltb, eqb}
 use lib.ListN.{length, getD}
 use borrow.Author.Tests.{ltb-true, eqb-true, eqb-false, le-leb}
-use Rattle.lists.proofs.Tests.{by-test, by-either, clash}
+use Rattle.lists.proofs.Tests.{by-test, clash}
 use Rattle.search.specs.Cost.{plus}
 use Rattle.search.specs.Radix.{digitOf, place}
-use Rattle.sheet.specs.Sheet.{all, Site, Colour, Sheet}
+use Rattle.sheet.specs.Sheet.{all, Site, Sheet}
 use Rattle.sheet.proofs.Accepted.{Sound, colourLow}
-use Rattle.labelling.specs.Layout.{isFar, tiedOf, tied, heightOf, noColour, siteShare, isUsed, usedFrom, usedOf, leastX, leftEnd, slotsOf, backbones, drops, countOf, lengthOf}
-use Rattle.labelling.proofs.Members.{rise-at, all-at, used-at, noSite}
+use Rattle.labelling.specs.Layout.{isClear, tiedOf, tied, heightOf, noColour, siteShare, isUsed, usedFrom, usedOf, leastX, leftEnd, slotsOf, backbones, drops, countOf, lengthOf}
+use Rattle.labelling.specs.Lawful.{Miss}
+use Rattle.labelling.proofs.Members.{all-at, used-at, noSite}
 use Rattle.labelling.proofs.Best.{Obeys}
 use Rattle.labelling.proofs.Rules.{Rules, Bounded, siteAt, obeys-rules}
 use Rattle.labelling.proofs.Counted.{slots-at}
 use Rattle.search.specs.Sums.{tally, sumTo}
 use Rattle.search.proofs.Sums.{tally-mono}
 use Rattle.search.proofs.CappedSums.{sum-head}
-use Rattle.optimum.specs.UsedSlots.{Instance, farUp, value}
+use Rattle.optimum.specs.Slots.{farFrom, farEnough, sheetSlots}
+use Rattle.optimum.specs.UsedSlots.{Instance, value}
 use Rattle.optimum.specs.TwoSided.{radicesOf, countUnit, lengthUnit, instanceOf}
-use Rattle.optimum.specs.Budgets.{fullBudget}
+use Rattle.optimum.specs.Budgets.{boundOf, isUnbounded, fullBudget}
 use Rattle.optimum.specs.CostWord.{topWord, layoutCost}
-use Rattle.optimum.proofs.Distances.{far-down}
-use Rattle.optimum.proofs.Budgets.{bound-of, full-digit, draws}
+use Rattle.optimum.proofs.Slots.{far-i}
+use Rattle.optimum.proofs.Distances.{good}
+use Rattle.optimum.proofs.Budgets.{full-digit, draws}
 use Rattle.optimum.proofs.CostWord.{word-units, layout-low}
 use Rattle.optimum.proofs.Chain.{is-label}
 use Rattle.optimum.proofs.Fits.{Anchored, fits-from}
@@ -114,10 +117,6 @@ module _ (s : Sheet) (o : Sound s) (two : s .isTwoSided ≡ true) (coloured : al
   pub cost-top : (js : List ℕ) → cost js < topWord
   cost-top js = rw (cost-is js) (layout-low s o js)
 
-  pub bound-digit : (e : ℕ) → e < length (s .colours) → eqb ((getD (s .colours) e noColour) .bound) 255 ≡ false →
-      digitOf (radicesOf (s .colours)) e (fullBudget s) ≡ (getD (s .colours) e noColour) .bound
-  bound-digit e l h = let q = bound-of s e noColour l in full-digit s e (rw q at h) ∙ ap (λ (k : Colour). k .bound) (sym q)
-
   -- ---- a lawful layout
 
   module _ (js : List ℕ) (ob : Obeys s js) where
@@ -151,40 +150,34 @@ module _ (s : Sheet) (o : Sound s) (two : s .isTwoSided ≡ true) (coloured : al
         go (inl (z, f)) = omega arith
         go (inr (i, (u, e, z))) = omega (arith, ltb-true ((siteAt s i) .colour) (length (s .colours)) (all-at (colourLow (length (s .colours))) noSite (s .sites) coloured i u))
 
-    far : (p q : ℕ) → p < q → q < length (s .slots) → codes p ≢ 0 → codes q ≢ 0 → farUp G (suc p) (codes p) q (codes q) ≡ true
-    unfolding farUp
+    far : (p q : ℕ) → p < q → q < length (s .slots) → codes p ≢ 0 → codes q ≢ 0 → farFrom (sheetSlots s) (suc p) (codes p) q (codes q) ≡ true
     far p q l m x y = go (view p (s .sites) js (ob .long)) (view q (s .sites) js (ob .long))
       where
-        go : View p (s .sites) js → View q (s .sites) js → farUp G (suc p) (codes p) q (codes q) ≡ true
+        go : View p (s .sites) js → View q (s .sites) js → farFrom (sheetSlots s) (suc p) (codes p) q (codes q) ≡ true
         go (inl (z, f)) w = absurd (x z)
         go (inr v) (inl (z, f)) = absurd (y z)
         go (inr (i, (u, e, z))) (inr (j, (v, e′, z′))) =
             let h = r .three i j u v (λ (w : getD js i 0 ≡ getD js j 0). omega arith) in
-            let g : isFar s p ((siteAt s i) .colour) q ((siteAt s j) .colour) ≡ true = rw (e, e′) at h in
-            le-leb (heightOf s p + s .gap) (heightOf s q) (far-down s p ((siteAt s i) .colour) q ((siteAt s j) .colour) (rise-at (s .slots) (o .rise) p q l m) g)
+            far-i (sheetSlots s) p (codes p) q (codes q) (omega arith) (unfold farEnough in rw (e, e′) at h)
 
     clear : (i q : ℕ) → i < length (s .sites) → codes q ≢ 0 → q ≢ getD js i 0 →
-        ((heightOf s q + s .gap ≤ (siteAt s i) .y) × (heightOf s q < heightOf s (getD js i 0))) ⊎
-        (((siteAt s i) .y + s .gap ≤ heightOf s q) × (heightOf s (getD js i 0) < heightOf s q))
+        (isClear s q ((siteAt s i) .y) ≡ true) × Miss (heightOf s q) ((siteAt s i) .y) (heightOf s (getD js i 0))
     clear i q l z n =
         let u = used-code q z in
         let e : getD js i 0 ≢ q = (λ e. n (sym e)) in
         let x : leftEnd s js q ≤ (siteAt s i) .x = subst⁻¹ (λ (t : ℕ). t ≤ (siteAt s i) .x) (left-zero js q) (omega arith) in
-        let five = r .five i q l u e x in
-        by-either (r .four i q l u e x)
-        (λ h. inl (omega (arith, h .0), h .1))
-        (λ h. inr (omega (arith, h .0), h .1))
+        (le-leb _ _ (r .five i q l u e x), r .four i q l u e x)
 
-    within : (e : ℕ) → e < length (s .colours) → eqb ((getD (s .colours) e noColour) .bound) 255 ≡ false →
+    within : (e : ℕ) → e < length (s .colours) → isUnbounded s e ≡ false →
         tally (λ j. eqb (codes j) (suc e)) 0 (length (s .slots)) ≤ digitOf (radicesOf (s .colours)) e (fullBudget s)
-    within e l h = rw (bound-digit e l h) (go (r .two e l))
+    within e l h = rw (full-digit s e h) (go (r .two e l))
       where
         mine : (j : ℕ) → codes j ≡ suc e → View j (s .sites) js → isUsed j (slotsOf e (tied s js)) ≡ true
         mine j c (inl (z, f)) = absurd (omega arith)
         mine j c (inr (i, (u, q, z))) =
             subst (λ (t : ℕ). isUsed t (slotsOf e (tied s js)) ≡ true) q (slots-at e (getD js i 0) (s .sites) js i (ob .long) u refl (omega arith))
 
-        go : Bounded s js e (getD (s .colours) e noColour) → tally (λ j. eqb (codes j) (suc e)) 0 (length (s .slots)) ≤ (getD (s .colours) e noColour) .bound
+        go : Bounded s js e (getD (s .colours) e noColour) → tally (λ j. eqb (codes j) (suc e)) 0 (length (s .slots)) ≤ boundOf s e
         go (inl q) = absurd (eqb-false _ _ h q)
         go (inr q) =
             le-trans (tally-mono (λ j. eqb (codes j) (suc e)) (λ j. isUsed j (slotsOf e (tied s js))) 0 (length (s .slots))
@@ -195,8 +188,8 @@ module _ (s : Sheet) (o : Sound s) (two : s .isTwoSided ≡ true) (coloured : al
     pub lawful-low : (caps : ℕ → ℕ) → Respects G caps js → value G caps ≤ cost js
     unfolding cost
     lawful-low caps h =
-        le-trans (value-low G caps (draws s) (o .gapped) codes js
-        (fits-from G caps codes (draws s) low-code far (length (s .slots)) 0 0 0 (fullBudget s) (omega arith) (unfold Anchored in tt) within)
+        le-trans (value-low G caps (draws s) (good s o) codes js
+        (fits-from G caps codes (draws s) (good s o) low-code far (length (s .slots)) 0 0 0 (fullBudget s) (omega arith) (unfold Anchored in tt) within)
         (λ i l. record { slot = low-slot i l; own = own i l; allowed = h i l; clear = λ q m z n. clear i q l z n }))
         (step (tally (λ j. is-label (codes j)) 0 (length (s .slots))) (countOf s js) (countUnit s + s .width * lengthUnit s) (drops s (tied s js) * lengthUnit s) _
         (le-trans (tally-mono (λ j. is-label (codes j)) (λ j. isUsed j js) 0 (length (s .slots)) (λ j a b c. used-code j (label-e (codes j) c)))

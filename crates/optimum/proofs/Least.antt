@@ -17,7 +17,9 @@ use Rattle.search.proofs.Digits.{Drawn}
 use Rattle.search.specs.Sums.{listing, tally, sumTo}
 use Rattle.search.proofs.Sums.{listing-of, listing-cong}
 use Rattle.search.proofs.CappedSums.{sum-cong, sum-mono, sum-below}
-use Rattle.optimum.specs.UsedSlots.{Instance, over, labels, below, T, value}
+use Rattle.optimum.specs.Slots.{Slots, over}
+use Rattle.optimum.specs.UsedSlots.{Instance, labels, below, T, value}
+use Rattle.optimum.proofs.Slots.{Good}
 use Rattle.optimum.proofs.Chain.{is-label, fits, tie, sites, whole, chain-cost}
 use Rattle.optimum.proofs.Fits.{Fitting, fits-to}
 use Rattle.optimum.proofs.Ties.{Suits, tie-found, tie-lowest, behind-start}
@@ -44,8 +46,9 @@ collect-all P c f = go (collect P c 0 (λ i l u. f i (omega arith)))
     go : (js : List ℕ) × ((length js ≡ c) × ((i : ℕ) → i < c → P (0 + i) (getD js i 0))) → (js : List ℕ) × ((length js ≡ c) × ((i : ℕ) → i < c → P i (getD js i 0)))
     go (js, (l, g)) = (js, (l, λ i q. subst (λ (z : ℕ). P z (getD js i 0)) (omega arith) (g i q)))
 
-module _ (G : Instance) (caps : ℕ → ℕ) (draws : (c v : ℕ) → 0 < digitOf (G .radices) c v → Drawn (G .radices) c v) (wide : 0 < G .dist) where
-  open Instance G using (top, m, n, colours, dist, each, unit, share, budget, radices, height, y)
+module _ (G : Instance) (caps : ℕ → ℕ) (draws : (c v : ℕ) → 0 < digitOf (G .radices) c v → Drawn (G .radices) c v) (good : Good (G .slots)) where
+  open Instance G using (slots, top, n, colours, each, unit, budget, radices, y)
+  open Slots slots using (m, height, share)
 
   value-is : value G caps ≡ best (labels G caps) (0, 0, budget) (listing (λ j. j) 0 m)
   unfolding value T below
@@ -61,20 +64,20 @@ module _ (G : Instance) (caps : ℕ → ℕ) (draws : (c v : ℕ) → 0 < digitO
   whole-is code h = rw h (ap (plus top (tally (λ j. is-label (code j)) 0 m * each)) (sum-cong top _ _ n (λ i l. refl)))
 
   pub value-low : (code : ℕ → ℕ) (js : List ℕ) → fits G caps code 0 0 budget 0 m ≡ true →
-      ((i : ℕ) → i < n → Suits G caps code draws wide i (getD js i 0)) → value G caps ≤ comes code js
+      ((i : ℕ) → i < n → Suits G caps code draws good i (getD js i 0)) → value G caps ≤ comes code js
   value-low code js h s =
       let a : value G caps ≤ whole G caps code 0 0 budget 0 m =
-      rw (value-is, ← (chain-cost G caps code m 0 0 0 budget (omega arith))) (best-least (labels G caps) (listing (λ j. j) 0 m) (0, 0, budget) (listing code 0 m)) in
+      rw (value-is, ← (chain-cost G caps code m 0 0 0 budget (good .rising) (omega arith) (omega arith))) (best-least (labels G caps) (listing (λ j. j) 0 m) (0, 0, budget) (listing code 0 m)) in
       le-trans a (le-trans (le-of-eq (whole-is code h))
       (plus-mono top _ _ _ (sum-mono top (tie G caps code 0 0 0 m) _ n
-      (λ i l. tie-lowest G caps code draws wide m 0 0 0 budget i (getD js i 0) (omega arith) (behind-start G caps code draws wide) (unfold over in refl) h (s i l)))))
+      (λ i l. tie-lowest G caps code draws good m 0 0 0 budget i (getD js i 0) (omega arith) (omega arith) (behind-start G caps code draws good) (unfold over in refl) h (s i l)))))
 
   pub record Attained : Type 0 where
     pub code : ℕ → ℕ
     pub js : List ℕ
     pub long : length js ≡ n
-    pub fit : Fitting G caps code draws 0 0 budget 0 m
-    pub suits : (i : ℕ) → i < n → Suits G caps code draws wide i (getD js i 0)
+    pub fit : Fitting G caps code draws good 0 0 budget 0 m
+    pub suits : (i : ℕ) → i < n → Suits G caps code draws good i (getD js i 0)
     pub cost : comes code js ≡ value G caps
 
   lengths : (c k : ℕ) (s : ℕ × ℕ × ℕ) (us : List ℕ) → costOf (labels G caps) s (listing (λ j. j) k c) us < top → length us ≡ c
@@ -88,7 +91,7 @@ module _ (G : Instance) (caps : ℕ → ℕ) (draws : (c v : ℕ) → 0 < digitO
       (λ e. absurd (let z : top < top = rw e at h in omega arith))
 
   abbrev Tied : (code : ℕ → ℕ) (i j : ℕ) → Type 0
-  Tied code i j = Suits G caps code draws wide i j × (share (height j) (y i) * unit ≡ tie G caps code 0 0 0 m i)
+  Tied code i j = Suits G caps code draws good i j × (share (height j) (y i) * unit ≡ tie G caps code 0 0 0 m i)
 
   attained-by : (code : ℕ → ℕ) → fits G caps code 0 0 budget 0 m ≡ true → whole G caps code 0 0 budget 0 m ≡ value G caps →
       (js : List ℕ) × ((length js ≡ n) × ((i : ℕ) → i < n → Tied code i (getD js i 0))) → Attained
@@ -97,7 +100,7 @@ module _ (G : Instance) (caps : ℕ → ℕ) (draws : (c v : ℕ) → 0 < digitO
         code = code;
         js = js;
         long = l;
-        fit = fits-to G caps code draws m 0 0 0 budget f;
+        fit = fits-to G caps code draws good m 0 0 0 budget (omega arith) (omega arith) f;
         suits = λ i q. g i q .0;
         cost = ap (plus top (tally (λ j. is-label (code j)) 0 m * each)) (sum-cong top _ _ n (λ i q. g i q .1)) ∙ sym (whole-is code f) ∙ w;
       }
@@ -109,7 +112,7 @@ module _ (G : Instance) (caps : ℕ → ℕ) (draws : (c v : ℕ) → 0 < digitO
       let q : plus top (tally (λ j. is-label (code j)) 0 m * each) (sumTo top (tie G caps code 0 0 0 m) n) ≡ value G caps = sym (whole-is code f) ∙ w in
       let b : sumTo top (tie G caps code 0 0 0 m) n < top = plus-below top (tally (λ j. is-label (code j)) 0 m * each) _ (rw q h) .1 in
       attained-by code f w (collect-all (Tied code) n (λ i l.
-      let t = tie-found G caps code draws wide m 0 0 0 budget i (omega arith) (behind-start G caps code draws wide) (unfold over in refl) f (sum-below top (tie G caps code 0 0 0 m) n b i (omega arith)) in
+      let t = tie-found G caps code draws good m 0 0 0 budget i (omega arith) (omega arith) (behind-start G caps code draws good) (unfold over in refl) f (sum-below top (tie G caps code 0 0 0 m) n b i (omega arith)) in
       (t .0, (t .1, t .2)))))
       (λ f. absurd (let q : top ≡ value G caps = sym (unwhole code f) ∙ w in omega arith))
     where
@@ -122,7 +125,7 @@ module _ (G : Instance) (caps : ℕ → ℕ) (draws : (c v : ℕ) → 0 < digitO
       let w : costOf (labels G caps) (0, 0, budget) (listing (λ j. j) 0 m) us ≡ value G caps = walk-cost (labels G caps) (listing (λ j. j) 0 m) (0, 0, budget) ∙ sym value-is in
       let l : length us ≡ m = lengths m 0 (0, 0, budget) us (omega arith) in
       attained-at (λ j. getD us j 0) h
-      (sym (chain-cost G caps (λ j. getD us j 0) m 0 0 0 budget (omega arith)) ∙
+      (sym (chain-cost G caps (λ j. getD us j 0) m 0 0 0 budget (good .rising) (omega arith) (omega arith)) ∙
       ap (costOf (labels G caps) (0, 0, budget) (listing (λ j. j) 0 m)) (same us l) ∙ w)
     where
       sub0 : (j : ℕ) → j ≡ j - 0

@@ -22,10 +22,12 @@ use Rattle.search.proofs.Sums.{listing-first}
 use Rattle.search.specs.Plan.{T, Rest}
 use Rattle.search.proofs.Plan.{T-nil, T-in, T-out, Rest-one, Rest-two}
 use Rattle.search.specs.Walk.{answerBy, walkBy, chooseBy}
+use Rattle.optimum.specs.Slots.{Slots}
 use Rattle.optimum.specs.Strips.{Point, Strip, Instance, inside, marked, opens, joinsUp, joinsDown, cost, draw, children, rulesOf, stripsFrom, strips, State, next, labels, value}
 use Rattle.optimum.specs.Reached.{In, steps, Asks}
 use Rattle.optimum.specs.Cells.{cells, cellOf, stripAt, shareAt, shareCells, stepCell, entryOf, level, joinCells, foldCells, startCells, valueCells}
-use Rattle.optimum.proofs.StripsHeld.{Rising, laws, set-other, set-same}
+use Rattle.optimum.proofs.Slots.{Rising}
+use Rattle.optimum.proofs.StripsHeld.{laws, set-other, set-same}
 use Rattle.optimum.proofs.Pairs.{zeros}
 
 -- a place of a table of X rows of B
@@ -51,7 +53,8 @@ Coloured C [] = Unit
 Coloured C (s ∷ ss) = (s .c < C) × Coloured C ss
 
 module _ (P : Instance) (C R : ℕ) where
-  open Instance P using (m, top, kinds, turn, share, lead, drawOf, radices, word)
+  open Instance P using (slots, top, kinds, turn, lead, drawOf, radices, word)
+  open Slots slots using (m, height, share)
 
   pub record InRange (p : Strip) : Type 0 where
     pub ra : p .a < m + 2
@@ -91,7 +94,7 @@ module _ (P : Instance) (C R : ℕ) where
   unfolding shareCells conv
   share-masked low p q u = sym (conv-masked top radices (λ w. getD low (cellOf P C R p w) 0) (λ w. getD low (cellOf P C R q w) 0) u)
 
-  module _ (rising : Rising P) where
+  module _ (rising : Rising (P .slots)) where
     pub share-two : (low : List ℕ) (ss : List Point) (p q : Strip) (u : ℕ) → Row low ss p → Row low ss q → u < R
         → shareCells P C R low p q u ≡ Rest (rulesOf P) ss (p ∷ q ∷ []) u
     unfolding shareCells conv
@@ -106,7 +109,7 @@ module _ (P : Instance) (C R : ℕ) where
     step-cell low ss p s k v rows lv =
         by-test (opens P p s k)
         (λ e. let f = rows (rw e) in
-        rw e (ap (λ (z : ℕ). cond (below radices (drawOf (s .c)) v) (plus top (word 1 (lead (s .x) + share k (s .y))) z) top)
+        rw e (ap (λ (z : ℕ). cond (below radices (drawOf (s .c)) v) (plus top (word 1 (lead (s .x) + share (height k) (s .y))) z) top)
         (share-two low ss _ _ (v - drawOf (s .c)) (f _ (rw e (inl refl))) (f _ (rw e (inr (inl refl)))) (omega arith))))
         (λ e. rw (e, sharing radices .nothing v)
         (by-test (joinsUp P p s k || joinsDown P p s k)
@@ -127,7 +130,7 @@ module _ (P : Instance) (C R : ℕ) where
         (λ e. rw e (least-cong top m _ _ (λ k l. step-cell low ss p s k v (λ t q i. rows q (inr (e, (k, l, t, i)))) lv) ∙ sym (T-in (rulesOf P) (laws P rising) s ss p v e)))
         (λ e. rw e (rows p (inl (e, refl)) v lv ∙ sym (T-out (rulesOf P) (laws P rising) s ss p v e)))
 
-  module _ (rising : Rising P) (turn-low : (s : Point) (k : ℕ) → turn s k < kinds) where
+  module _ (rising : Rising (P .slots)) (turn-low : (s : Point) (k : ℕ) → turn s k < kinds) where
     -- what a strip in range asks for is in range
     pub asked-range : (p : Strip) (s : Point) (q : Strip) → s .c < C → InRange p → Asks P p s q → InRange q
     unfolding children In

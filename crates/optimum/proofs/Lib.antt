@@ -1,3 +1,4 @@
+pub mod Slots
 pub mod Distances
 pub mod StripsHeld
 pub mod Neighbours

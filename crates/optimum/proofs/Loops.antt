@@ -11,8 +11,10 @@ use borrow.Author.Tests.{eqb-true, eq-eqb}
 use Rattle.search.specs.Cost.{plus, least, first}
 use Rattle.search.proofs.Cost.{plus-below, least-is, first-le, first-is}
 use Rattle.search.specs.Walk.{best, chooseBy}
+use Rattle.optimum.specs.Slots.{Slots}
 use Rattle.optimum.specs.Strips.{Point, Instance, State, price, next, labels, value}
-use Rattle.optimum.proofs.StripsHeld.{Rising, Fit, value-best, next-fit}
+use Rattle.optimum.proofs.Slots.{Rising}
+use Rattle.optimum.proofs.StripsHeld.{Fit, value-best, next-fit}
 
 -- ---- the first that passes, as a loop finds it
 
@@ -40,11 +42,12 @@ at-drop (x ∷ l) (suc d) i = at-drop l d i ∙ ap (λ (z : ℕ). getD (x ∷ l)
 -- ---- the walk
 
 module _ (P : Instance) (C R : ℕ) where
-  open Instance P using (m, top)
+  open Instance P using (slots, top)
+  open Slots slots using (m)
 
   -- ---- each step of the walk finds its slot, and the value stays below the sentinel
 
-  module _ (rising : Rising P) where
+  module _ (rising : Rising (P .slots)) where
     pub walk-step : (s : Point) (ss : List Point) (x : State P) → Fit P rising x → value P x (s ∷ ss) < top
         → (chooseBy (labels P) (value P) x s ss < m) × (price P x s (chooseBy (labels P) (value P) x s ss) < top)
         × (value P (next P x s (chooseBy (labels P) (value P) x s ss)) ss < top)

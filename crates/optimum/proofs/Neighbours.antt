@@ -1,5 +1,5 @@
 -- THEOREM 2: neighbours are enough. A step is in order against all open labels exactly when the strip that holds the site lets it
--- open a label or join one. The record `Good` is what it asks of an instance.
+-- open a label or join one, where the slots are `Good`.
 use mathlib.Core.Path.{_≡_, refl, ap, _∙_}
 use mathlib.Core.Logic.{_⊎_, inl, inr}
 use mathlib.Core.Bool.{Bool, true, false, _&&_, _||_}
@@ -8,29 +8,21 @@ use Prim.Native.Nat.{ℕ, suc, _≤_, _<_}
 use native.Mathlib.Omega.{arith}
 use lib.Dec.{ltb}
 use lib.ListN.{getD}
-use borrow.Author.Tests.{le-leb, lt-leb, lt-ltb, eq-eqb}
+use borrow.Author.Tests.{lt-ltb, eq-eqb}
 use Rattle.lists.proofs.Tests.{by-order, by-equal, by-either, and-both, not-f}
 use Rattle.labelling.specs.Lawful.{Miss}
-use Rattle.optimum.specs.Strips.{Point, Strip, Instance, opens, joinsUp, joinsDown, clearFrom, farFrom}
+use Rattle.optimum.specs.Slots.{Slots, farFrom, clearFrom}
+use Rattle.optimum.specs.Strips.{Point, Strip, Instance, opens, joinsUp, joinsDown}
+use Rattle.optimum.proofs.Slots.{Good, far-e, far-i, clear-e, clear-i, edge-far, edge-clear, rise-le, rise-lt}
 use Rattle.optimum.proofs.StripsHeld.{Upper, Lower, Holds, opens-at, up-e, down-e}
-
--- what is asked of "far enough apart" and "clear of"
-pub record Good (P : Instance) : Type 0 where
-  pub rising : (j k : ℕ) → j < k → k < P .m → P .height j < P .height k
-  pub far-sym : (i c k d : ℕ) → P .far i c k d ≡ true → P .far k d i c ≡ true
-  pub far-trans : (i c j d k e : ℕ) → i < j → j < k → k < P .m → P .far i c j d ≡ true → P .far j d k e ≡ true → P .far i c k e ≡ true
-  pub far-above : (j c k d y : ℕ) → j < k → k < P .m → P .far j c k d ≡ true → P .height k ≤ y → P .clear j y ≡ true
-  pub far-below : (j c k d y : ℕ) → k < j → j < P .m → P .far j c k d ≡ true → y < P .height k → P .clear j y ≡ true
-  pub clear-above : (j k y : ℕ) → j < k → k < P .m → P .height k ≤ y → P .clear k y ≡ true → P .clear j y ≡ true
-  pub clear-below : (j k y : ℕ) → k < j → j < P .m → y < P .height k → P .clear k y ≡ true → P .clear j y ≡ true
-  pub clear-off : (k y : ℕ) → P .clear k y ≡ true → P .height k ≡ y → ⊥
 
 or-right : (a b : Bool) → b ≡ true → a || b ≡ true
 or-right true b e = refl
 or-right false b e = e
 
 module _ (P : Instance) where
-  open Instance P using (m, height, far, clear, may, tip, held)
+  open Instance P using (slots, may, tip, held)
+  open Slots slots using (m, height, far, clear)
 
   -- the label of colour + 1 d at j is in order with the site s at k
   abbrev pub Rel : ℕ → ℕ → Point → ℕ → Type 0
@@ -47,8 +39,8 @@ module _ (P : Instance) where
   Apart L = (j k : ℕ) → j < k → k < m → 0 < getD L j 0 → 0 < getD L k 0 → far j (getD L j 0) k (getD L k 0) ≡ true
 
   pub opens-e : (p : Strip) (s : Point) (k : ℕ) → opens P p s k ≡ true
-      → (farFrom P (p .a) (p .ca) k (suc (s .c)) ≡ true) × (farFrom P (p .b) (p .cb) k (suc (s .c)) ≡ true)
-      × (clearFrom P (p .a) (s .y) ≡ true) × (clearFrom P (p .b) (s .y) ≡ true) × (may s k ≡ true) × (tip s k ≡ true) × (held p s ≡ false)
+      → (farFrom slots (p .a) (p .ca) k (suc (s .c)) ≡ true) × (farFrom slots (p .b) (p .cb) k (suc (s .c)) ≡ true)
+      × (clearFrom slots (p .a) (s .y) ≡ true) × (clearFrom slots (p .b) (s .y) ≡ true) × (may s k ≡ true) × (tip s k ≡ true) × (held p s ≡ false)
   unfolding opens
   opens-e p s k e =
       let g₀ = and-both _ _ e in
@@ -57,48 +49,16 @@ module _ (P : Instance) where
       let h₂ = and-both _ _ (h₁ .0) in
       let h₃ = and-both _ _ (h₂ .0) in
       let h₄ = and-both _ _ (h₃ .0) in
-      let h₅ = and-both (ltb (p .a) (suc k) && ltb (suc k) (p .b) && ltb k m) (farFrom P (p .a) (p .ca) k (suc (s .c))) (h₄ .0) in
+      let h₅ = and-both (ltb (p .a) (suc k) && ltb (suc k) (p .b) && ltb k m) (farFrom slots (p .a) (p .ca) k (suc (s .c))) (h₄ .0) in
       (h₅ .1, h₄ .1, h₃ .1, h₂ .1, h₁ .1, h₀ .1, not-f (held p s) (g₀ .1))
 
-  far-e : (j d k c : ℕ) → j < m → farFrom P (suc j) d k c ≡ true → far j d k c ≡ true
-  unfolding farFrom
-  far-e j d k c h e = rw (lt-leb m j h) at e
-
-  far-i : (j d k c : ℕ) → j < m → far j d k c ≡ true → farFrom P (suc j) d k c ≡ true
-  unfolding farFrom
-  far-i j d k c h e = rw (lt-leb m j h) e
-
-  clear-e : (j y : ℕ) → j < m → clearFrom P (suc j) y ≡ true → clear j y ≡ true
-  unfolding clearFrom
-  clear-e j y h e = rw (lt-leb m j h) at e
-
-  clear-i : (j y : ℕ) → j < m → clear j y ≡ true → clearFrom P (suc j) y ≡ true
-  unfolding clearFrom
-  clear-i j y h e = rw (lt-leb m j h) e
-
-  edge-clear : (b y : ℕ) → (b ≡ 0) ⊎ (b ≡ suc m) → clearFrom P b y ≡ true
-  unfolding clearFrom
-  edge-clear b y (inl e) = rw e
-  edge-clear b y (inr e) = rw (e, le-leb m m (omega arith))
-
-  edge-far : (b d k c : ℕ) → (b ≡ 0) ⊎ (b ≡ suc m) → farFrom P b d k c ≡ true
-  unfolding farFrom
-  edge-far b d k c (inl e) = rw e
-  edge-far b d k c (inr e) = rw (e, le-leb m m (omega arith))
-
-  module _ (G : Good P) where
-    rise-le : (j k : ℕ) → j ≤ k → k < m → height j ≤ height k
-    rise-le j k h l = by-equal j k (λ e. rw e (omega arith)) (λ n. omega (arith, G .rising j k (omega arith) l))
-
-    rise-lt : (j k y : ℕ) → k < m → height k ≤ y → y < height j → k < j
-    rise-lt j k y l h u = by-order j k (λ q. absurd (omega (arith, rise-le j k q l))) (λ q. q)
-
+  module _ (G : Good slots) where
     module _ (L : List ℕ) (apart : Apart L) (s : Point) (k : ℕ) where
       -- one that is at or above the label i over the site, which is in order
       over-rel : (i d j : ℕ) → i < m → getD L i 0 ≡ d → 0 < d → height i ≤ s .y → clear i (s .y) ≡ true → far i d k (suc (s .c)) ≡ true → i < k → k < m
           → j ≤ i → 0 < getD L j 0 → Rel j (getD L j 0) s k
       over-rel i d j li e n hy cl fr ik km ji nj =
-          let hj = rise-le j i ji li in
+          let hj = rise-le slots (G .rising) j i ji li in
           let hk = G .rising i k ik km in
           let miss : Miss (height j) (s .y) (height k) = inl (by-equal (height i) (s .y) (λ q. absurd (G .clear-off i (s .y) cl q)) (λ q. omega arith), omega arith) in
           by-equal j i
@@ -108,7 +68,7 @@ module _ (P : Instance) where
       under-rel : (i d j : ℕ) → j < m → getD L i 0 ≡ d → 0 < d → s .y < height i → clear i (s .y) ≡ true → far i d k (suc (s .c)) ≡ true → k < i
           → i ≤ j → 0 < getD L j 0 → Rel j (getD L j 0) s k
       under-rel i d j lj e n hy cl fr ki ij nj =
-          let hj = rise-le i j ij lj in
+          let hj = rise-le slots (G .rising) i j ij lj in
           let hk = G .rising k i ki (omega arith) in
           let miss : Miss (height j) (s .y) (height k) = inr (omega arith, omega arith) in
           by-equal j i
@@ -143,18 +103,18 @@ module _ (P : Instance) where
             up j nj l (inl q) = absurd (omega arith)
             up j nj l (inr (i, q, li, ei, ni, hi)) =
                 let f = opens-e p s k e in
-                over-rel i (p .ca) j li ei ni hi (clear-e i (s .y) li (rw q at (f .2))) (far-e i (p .ca) k (suc (s .c)) li (rw q at (f .0))) (omega (arith, o)) (o .2) (omega arith) nj
+                over-rel i (p .ca) j li ei ni hi (clear-e slots i (s .y) li (rw q at (f .2))) (far-e slots i (p .ca) k (suc (s .c)) li (rw q at (f .0))) (omega (arith, o)) (o .2) (omega arith) nj
 
             down : (j : ℕ) → j < m → 0 < getD L j 0 → p .b ≤ suc j → Lower P L (s .y) (p .b) (p .cb) → Rel j (getD L j 0) s k
             down j lj nj l (inl q) = absurd (omega arith)
             down j lj nj l (inr (i, q, li, ei, ni, hi)) =
                 let f = opens-e p s k e in
-                under-rel i (p .cb) j lj ei ni hi (clear-e i (s .y) li (rw q at (f .3))) (far-e i (p .cb) k (suc (s .c)) li (rw q at (f .1))) (omega (arith, o)) (omega arith) nj
+                under-rel i (p .cb) j lj ei ni hi (clear-e slots i (s .y) li (rw q at (f .3))) (far-e slots i (p .cb) k (suc (s .c)) li (rw q at (f .1))) (omega (arith, o)) (omega arith) nj
 
         pub up-step : joinsUp P p s k ≡ true → (getD L k 0 ≡ suc (s .c)) × Step L s k
         up-step e = go (h .upper) (h .lower) (up-e P p s k e)
           where
-            go : Upper P L (s .y) (p .a) (p .ca) → Lower P L (s .y) (p .b) (p .cb) → (p .a ≡ suc k) × (p .ca ≡ suc (s .c)) × (clearFrom P (p .b) (s .y) ≡ true)
+            go : Upper P L (s .y) (p .a) (p .ca) → Lower P L (s .y) (p .b) (p .cb) → (p .a ≡ suc k) × (p .ca ≡ suc (s .c)) × (clearFrom slots (p .b) (s .y) ≡ true)
                 → (getD L k 0 ≡ suc (s .c)) × Step L s k
             go (inl q) b (ea, ec, cl) = absurd (omega arith)
             go (inr (i, q, li, ei, ni, hi)) b (ea, ec, cl) =
@@ -174,9 +134,9 @@ module _ (P : Instance) where
                 down : (j : ℕ) → j < m → 0 < getD L j 0 → p .b ≤ suc j → Lower P L (s .y) (p .b) (p .cb) → Rel j (getD L j 0) s k
                 down j lj nj l (inl r) = absurd (omega arith)
                 down j lj nj l (inr (b, r, lb, eb, nb, hb)) =
-                    let kb : k < b = rise-lt b k (s .y) (omega arith) hk hb in
-                    let hj : height b ≤ height j = rise-le b j (omega arith) lj in
-                    let cb : clear b (s .y) ≡ true = clear-e b (s .y) lb (rw r at cl) in (
+                    let kb : k < b = rise-lt slots (G .rising) b k (s .y) (omega arith) hk hb in
+                    let hj : height b ≤ height j = rise-le slots (G .rising) b j (omega arith) lj in
+                    let cb : clear b (s .y) ≡ true = clear-e slots b (s .y) lb (rw r at cl) in (
                       G .far-sym k (suc (s .c)) j (getD L j 0) (rw z at (apart k j (omega arith) lj (omega (arith, z)) nj)),
                       by-equal j b (λ t. rw t cb) (λ t. G .clear-below j b (s .y) (omega arith) lj hb cb),
                       inr (omega arith, omega (arith, hk)),
@@ -185,7 +145,7 @@ module _ (P : Instance) where
         pub down-step : joinsDown P p s k ≡ true → (getD L k 0 ≡ suc (s .c)) × Step L s k
         down-step e = go (h .upper) (h .lower) (down-e P p s k e)
           where
-            go : Upper P L (s .y) (p .a) (p .ca) → Lower P L (s .y) (p .b) (p .cb) → (p .b ≡ suc k) × (k < m) × (p .cb ≡ suc (s .c)) × (clearFrom P (p .a) (s .y) ≡ true)
+            go : Upper P L (s .y) (p .a) (p .ca) → Lower P L (s .y) (p .b) (p .cb) → (p .b ≡ suc k) × (k < m) × (p .cb ≡ suc (s .c)) × (clearFrom slots (p .a) (s .y) ≡ true)
                 → (getD L k 0 ≡ suc (s .c)) × Step L s k
             go a (inl q) (eb, km, ec, cl) = absurd (omega arith)
             go a (inr (i, q, li, ei, ni, hi)) (eb, km, ec, cl) =
@@ -205,9 +165,9 @@ module _ (P : Instance) where
                 up : (j : ℕ) → 0 < getD L j 0 → j < p .a → Upper P L (s .y) (p .a) (p .ca) → Rel j (getD L j 0) s k
                 up j nj l (inl r) = absurd (omega arith)
                 up j nj l (inr (b, r, lb, eb, nb, hb)) =
-                    let bk : b < k = rise-lt k b (s .y) lb hb hk in
-                    let hj : height j ≤ height b = rise-le j b (omega arith) lb in
-                    let cb : clear b (s .y) ≡ true = clear-e b (s .y) lb (rw r at cl) in (
+                    let bk : b < k = rise-lt slots (G .rising) k b (s .y) lb hb hk in
+                    let hj : height j ≤ height b = rise-le slots (G .rising) j b (omega arith) lb in
+                    let cb : clear b (s .y) ≡ true = clear-e slots b (s .y) lb (rw r at cl) in (
                       rw z at (apart j k (omega arith) km nj (omega (arith, z))),
                       by-equal j b (λ t. rw t cb) (λ t. G .clear-above j b (s .y) (omega arith) lb hb cb),
                       inl (by-equal (height b) (s .y) (λ t. absurd (G .clear-off b (s .y) cb t)) (λ t. omega arith), omega (arith, hk)),
@@ -216,25 +176,25 @@ module _ (P : Instance) where
         -- ---- from all labels to the strip
 
         upper-i : Step L s k → Upper P L (s .y) (p .a) (p .ca) → getD L k 0 ≡ 0
-            → (p .a < suc k) × (farFrom P (p .a) (p .ca) k (suc (s .c)) ≡ true) × (clearFrom P (p .a) (s .y) ≡ true)
-        upper-i t (inl q) z = (omega arith, edge-far (p .a) (p .ca) k (suc (s .c)) (inl q), edge-clear (p .a) (s .y) (inl q))
+            → (p .a < suc k) × (farFrom slots (p .a) (p .ca) k (suc (s .c)) ≡ true) × (clearFrom slots (p .a) (s .y) ≡ true)
+        upper-i t (inl q) z = (omega arith, edge-far slots (p .a) (p .ca) k (suc (s .c)) (inl q), edge-clear slots (p .a) (s .y) (inl q))
         upper-i t (inr (i, q, li, ei, ni, hi)) z =
             let ne : i ≡ k → ⊥ = λ (r : i ≡ k). let w : getD L i 0 ≡ getD L k 0 = ap (λ (n : ℕ). getD L n 0) r in omega arith in
             let r = t .others i li (omega arith) ne in (
-              by-either (r .2) (λ u. by-order k i (λ v. absurd (omega (arith, rise-le k i v li))) (λ v. omega arith)) (λ u. absurd (omega arith)),
-              rw q (far-i i (p .ca) k (suc (s .c)) li (rw ei at (r .0))),
-              rw q (clear-i i (s .y) li (r .1)),
+              by-either (r .2) (λ u. by-order k i (λ v. absurd (omega (arith, rise-le slots (G .rising) k i v li))) (λ v. omega arith)) (λ u. absurd (omega arith)),
+              rw q (far-i slots i (p .ca) k (suc (s .c)) li (rw ei at (r .0))),
+              rw q (clear-i slots i (s .y) li (r .1)),
             )
 
         lower-i : Step L s k → Lower P L (s .y) (p .b) (p .cb) → getD L k 0 ≡ 0
-            → (suc k < p .b) × (farFrom P (p .b) (p .cb) k (suc (s .c)) ≡ true) × (clearFrom P (p .b) (s .y) ≡ true)
-        lower-i t (inl q) z = (omega (arith, t .slot), edge-far (p .b) (p .cb) k (suc (s .c)) (inr q), edge-clear (p .b) (s .y) (inr q))
+            → (suc k < p .b) × (farFrom slots (p .b) (p .cb) k (suc (s .c)) ≡ true) × (clearFrom slots (p .b) (s .y) ≡ true)
+        lower-i t (inl q) z = (omega (arith, t .slot), edge-far slots (p .b) (p .cb) k (suc (s .c)) (inr q), edge-clear slots (p .b) (s .y) (inr q))
         lower-i t (inr (i, q, li, ei, ni, hi)) z =
             let ne : i ≡ k → ⊥ = λ (r : i ≡ k). let w : getD L i 0 ≡ getD L k 0 = ap (λ (n : ℕ). getD L n 0) r in omega arith in
             let r = t .others i li (omega arith) ne in (
-              by-either (r .2) (λ u. absurd (omega arith)) (λ u. by-order i k (λ v. absurd (omega (arith, rise-le i k v (t .slot)))) (λ v. omega arith)),
-              rw q (far-i i (p .cb) k (suc (s .c)) li (rw ei at (r .0))),
-              rw q (clear-i i (s .y) li (r .1)),
+              by-either (r .2) (λ u. absurd (omega arith)) (λ u. by-order i k (λ v. absurd (omega (arith, rise-le slots (G .rising) i k v (t .slot)))) (λ v. omega arith)),
+              rw q (far-i slots i (p .cb) k (suc (s .c)) li (rw ei at (r .0))),
+              rw q (clear-i slots i (s .y) li (r .1)),
             )
 
         pub step-open : Step L s k → getD L k 0 ≡ 0 → may s k ≡ true → tip s k ≡ true → held p s ≡ false → opens P p s k ≡ true
@@ -250,12 +210,12 @@ module _ (P : Instance) where
           where
             before : height k ≤ s .y → Lower P L (s .y) (p .b) (p .cb) → suc k < p .b
             before l (inl q) = omega (arith, t .slot)
-            before l (inr (i, q, li, ei, ni, hi)) = omega (arith, rise-lt i k (s .y) (t .slot) l hi)
+            before l (inr (i, q, li, ei, ni, hi)) = omega (arith, rise-lt slots (G .rising) i k (s .y) (t .slot) l hi)
 
-            shut : Lower P L (s .y) (p .b) (p .cb) → height k ≤ s .y → clearFrom P (p .b) (s .y) ≡ true
-            shut (inl q) l = edge-clear (p .b) (s .y) (inr q)
+            shut : Lower P L (s .y) (p .b) (p .cb) → height k ≤ s .y → clearFrom slots (p .b) (s .y) ≡ true
+            shut (inl q) l = edge-clear slots (p .b) (s .y) (inr q)
             shut (inr (i, q, li, ei, ni, hi)) l =
-                rw q (clear-i i (s .y) li (t .others i li (omega arith) (λ (r : i ≡ k). omega (arith, ap height r)) .1))
+                rw q (clear-i slots i (s .y) li (t .others i li (omega arith) (λ (r : i ≡ k). omega (arith, ap height r)) .1))
 
             up : height k ≤ s .y → Upper P L (s .y) (p .a) (p .ca) → joinsUp P p s k || joinsDown P p s k ≡ true
             up l (inl q) = absurd (omega (arith, h .empty k (omega arith) (before l (h .lower))))
@@ -269,12 +229,12 @@ module _ (P : Instance) where
 
             after : s .y < height k → Upper P L (s .y) (p .a) (p .ca) → p .a ≤ k
             after l (inl q) = omega arith
-            after l (inr (i, q, li, ei, ni, hi)) = omega (arith, rise-lt k i (s .y) li hi l)
+            after l (inr (i, q, li, ei, ni, hi)) = omega (arith, rise-lt slots (G .rising) k i (s .y) li hi l)
 
-            shut-up : Upper P L (s .y) (p .a) (p .ca) → s .y < height k → clearFrom P (p .a) (s .y) ≡ true
-            shut-up (inl q) l = edge-clear (p .a) (s .y) (inl q)
+            shut-up : Upper P L (s .y) (p .a) (p .ca) → s .y < height k → clearFrom slots (p .a) (s .y) ≡ true
+            shut-up (inl q) l = edge-clear slots (p .a) (s .y) (inl q)
             shut-up (inr (i, q, li, ei, ni, hi)) l =
-                rw q (clear-i i (s .y) li (t .others i li (omega arith) (λ (r : i ≡ k). omega (arith, ap height r)) .1))
+                rw q (clear-i slots i (s .y) li (t .others i li (omega arith) (λ (r : i ≡ k). omega (arith, ap height r)) .1))
 
             down : s .y < height k → Lower P L (s .y) (p .b) (p .cb) → joinsUp P p s k || joinsDown P p s k ≡ true
             down l (inl q) = absurd (omega (arith, h .empty k (after l (h .upper)) (omega (arith, t .slot))))

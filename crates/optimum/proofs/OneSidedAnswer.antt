@@ -26,7 +26,8 @@ use Rattle.optimum.proofs.Pairs.{zeros}
 use Rattle.optimum.proofs.Budgets.{full-low}
 use Rattle.optimum.proofs.CostWord.{layout-count, layout-length}
 use Rattle.optimum.proofs.Order.{ordered}
-use Rattle.optimum.proofs.Instance.{good, turn-low}
+use Rattle.optimum.proofs.Distances.{good}
+use Rattle.optimum.proofs.Instance.{turn-low}
 use Rattle.optimum.proofs.OneSidedBest.{fullBudget, putBack, found-long, found-first, found-cost, one-sided-best}
 use Rattle.optimum.proofs.Levels.{Coloured, level-holds, Kept, walk-cells, answer-cells}
 unfoldable pub use Rattle.optimum.specs.CostWord.{countIn, lengthIn}

@@ -21,7 +21,7 @@ use Rattle.labelling.proofs.Earlier.{Earlier, better-e}
 use Rattle.labelling.proofs.Maker.{First, best-some-iff, best-none-iff}
 use Rattle.labelling.proofs.Pairs.{AllInOrder, rules-pairs, pairs-rules}
 use Rattle.optimum.specs.Strips.{Point, Instance, labels, walked}
-use Rattle.optimum.specs.Budgets.{unboundedColour, isUnbounded, digitIn}
+use Rattle.optimum.specs.Budgets.{isUnbounded, digitIn}
 use Rattle.optimum.specs.CostWord.{layoutCost}
 use Rattle.optimum.specs.OneSided.{boundOf, wordOf, topWord, instanceOf, order, pointAt, pointsAt, scatter, tiesOf, oneSided}
 use Rattle.optimum.proofs.StripsHeld.{walked-first, walked-none}
@@ -29,10 +29,11 @@ use Rattle.optimum.proofs.Neighbours.{Apart}
 use Rattle.optimum.proofs.Steps.{Steps, Pays, Tips, Turns, tips-all, turns-all, opened, total, run-e, run-i}
 use Rattle.optimum.proofs.Pairs.{zeros, StepAll, Pairs, steps-e, steps-i, first-step}
 use Rattle.optimum.proofs.Pays.{isOf, pays-e, pays-i}
-use Rattle.optimum.proofs.Budgets.{bound-of, bounded-low, full-digit}
+use Rattle.optimum.proofs.Budgets.{bounded-low, full-digit}
 use Rattle.optimum.proofs.CostWord.{layout-low, better-costs}
 use Rattle.optimum.proofs.Order.{Rise, ordered, gather, scatter-long, gather-scatter}
-use Rattle.optimum.proofs.Instance.{good, tip-clear, not-held, linear, budgeted}
+use Rattle.optimum.proofs.Distances.{good}
+use Rattle.optimum.proofs.Instance.{tip-clear, not-held, linear, budgeted}
 use Rattle.optimum.proofs.RankedPairs.{AllPairs, pairs-rising, rising-pairs, list-e, list-i}
 use Rattle.optimum.proofs.Counts.{shares-drops, count-is, lead-is, colour-is}
 pub use Rattle.optimum.specs.Budgets.{fullBudget}
@@ -95,9 +96,8 @@ module _ (s : Sheet) (o : Sound s) (one : s .isTwoSided ≡ false) where
         enough : (c : ℕ) → isUnbounded s c ≡ false → opened (instanceOf s) (isOf c) (replicate (length (s .slots)) 0) (pointsAt s (order s)) (gather js (order s)) ≤ digitIn s c (fullBudget s)
         enough c u =
             let h = bounded-low s c u in
-            let e : getD (s .colours) c noColour ≡ getD (s .colours) c unboundedColour = bound-of s c noColour h in
             rw (colour-is s o one js long steps (agree-of p) c, full-digit s c u)
-            (by-either (subst (Bounded s js c) e (r .two c h)) (λ q. absurd (eqb-false (boundOf s c) 255 u q)) (λ q. q))
+            (by-either (r .two c h) (λ q. absurd (eqb-false (boundOf s c) 255 u q)) (λ q. q))
 
     pub steps-obey : Steps (instanceOf s) (replicate (length (s .slots)) 0) (pointsAt s (order s)) (gather js (order s))
         → Pays (instanceOf s) (replicate (length (s .slots)) 0) (fullBudget s) (pointsAt s (order s)) (gather js (order s))
@@ -122,11 +122,10 @@ module _ (s : Sheet) (o : Sound s) (one : s .isTwoSided ≡ false) where
 
         two : (c : ℕ) → c < length (s .colours) → Bounded s js c (getD (s .colours) c noColour)
         two c h =
-            let e : getD (s .colours) c noColour ≡ getD (s .colours) c unboundedColour = bound-of s c noColour h in
-            subst⁻¹ (Bounded s js c) e (by-test (isUnbounded s c)
+            by-test (isUnbounded s c)
             (λ u. inl (eqb-true (boundOf s c) 255 u))
             (λ u. inr (let g = pays-e (instanceOf s) (digitIn s) (isUnbounded s) (budgeted s) (pointsAt s (order s)) (gather js (order s)) _ (fullBudget s) y c u in
-            omega (arith, g, colour-is s o one js long t (agree-of p) c, full-digit s c u))))
+            omega (arith, g, colour-is s o one js long t (agree-of p) c, full-digit s c u)))
 
     -- the cost of ties that obey the rules is the word of their count and length
     pub obeys-cost : Obeys s js → costs (gather js (order s)) ≡ layoutCost s js

@@ -10,6 +10,7 @@ use borrow.Author.Tests.{eq-eqb, ne-eqb}
 use Rattle.lists.proofs.Tests.{by-test, by-equal}
 use Rattle.search.specs.Sums.{sum}
 use Rattle.search.proofs.Sums.{sum-cong, sum-add, sum-zero, sum-point}
+use Rattle.optimum.specs.Slots.{Slots}
 use Rattle.optimum.specs.Strips.{Point, Instance}
 use Rattle.optimum.proofs.StripsHeld.{set-same, set-other}
 use Rattle.optimum.proofs.Steps.{Steps, isFree, opened}
@@ -21,7 +22,7 @@ firstOf g k (s ∷ ss) [] = 0
 firstOf g k (s ∷ ss) (j ∷ ks) = cond (eqb j k) (g s) (firstOf g k ss ks)
 
 module _ (P : Instance) where
-  open Instance P using (m)
+  open Slots (P .slots) using (m)
 
   pub free-same : (L : List ℕ) (k c : ℕ) → k < length L → isFree P (set L k (suc c)) k ≡ false
   unfolding isFree

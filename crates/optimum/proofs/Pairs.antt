@@ -6,6 +6,7 @@ use Prim.Native.Nat.{ℕ, zero, suc, _<_}
 use native.Mathlib.Omega.{arith}
 use lib.ListN.{length, getD, set, replicate, length-set}
 use Rattle.lists.proofs.Tests.{by-equal, by-either}
+use Rattle.optimum.specs.Slots.{Slots}
 use Rattle.optimum.specs.Strips.{Point, Instance}
 use Rattle.optimum.proofs.StripsHeld.{set-same, set-other}
 use Rattle.optimum.proofs.Neighbours.{Rel, Step}
@@ -18,7 +19,7 @@ zeros (suc m) zero = refl
 zeros (suc m) (suc j) = zeros m j
 
 module _ (P : Instance) where
-  open Instance P using (m)
+  open Slots (P .slots) using (m)
 
   -- the site s at k, tied before, and the site t at j are in order
   abbrev pub Pair : Point → ℕ → Point → ℕ → Type 0

@@ -16,10 +16,11 @@ use Rattle.labelling.proofs.Members.{noSite, used-head, used-tail}
 use Rattle.labelling.proofs.Earlier.{rankAt}
 use Rattle.labelling.proofs.LeftEnd.{start-one}
 use Rattle.labelling.proofs.Pairs.{AllInOrder}
-use Rattle.optimum.specs.OneSided.{farEnough, clearOf, xOf, pointAt, pointsAt, instanceOf}
+use Rattle.optimum.specs.Slots.{farEnough}
+use Rattle.optimum.specs.OneSided.{xOf, pointAt, pointsAt, instanceOf}
 use Rattle.optimum.proofs.Pairs.{Pair, PairAll, Pairs}
 use Rattle.optimum.proofs.Order.{rank-x, x-rank, Rise, gather, same-site}
-use Rattle.optimum.proofs.Instance.{good}
+use Rattle.optimum.proofs.Distances.{good}
 
 abbrev pub yOf : Sheet → ℕ → ℕ
 yOf s i = (getD (s .sites) i noSite) .y
@@ -35,14 +36,14 @@ abbrev pub AllPairs : Sheet → List ℕ → Type 0
 AllPairs s js = (i j : ℕ) → i < length (s .sites) → j < length (s .sites) → rankAt s i < rankAt s j → PairAt s js i j
 
 pub pairs-rising : (s : Sheet) → Sound s → s .isTwoSided ≡ false → (js : List ℕ) → AllInOrder s js → AllPairs s js
-unfolding farEnough clearOf
+unfolding farEnough
 pairs-rising s o t js p i j hi hj h =
     let q = p i j hi hj in
     let x : startOf s (siteAt s i) ≤ xOf s j = omega (arith, start-one s t (siteAt s i), rank-x s o i j hi hj (omega arith)) in
     (q .colour, λ n. (q .far n, q .clear n x, q .misses n x))
 
 pub rising-pairs : (s : Sheet) → Sound s → s .isTwoSided ≡ false → (js : List ℕ) → AllPairs s js → AllInOrder s js
-unfolding farEnough clearOf
+unfolding farEnough
 rising-pairs s o t js p i j hi hj = record {
   colour = λ e. by-three (λ h. p i j hi hj h .0 e) (λ h. sym (p j i hj hi h .0 (sym e))) (λ q. ap (colourOf s) q);
   far = λ n. by-three (λ h. p i j hi hj h .1 n .0) (λ h. good s o .far-sym (getD js j 0) (suc (colourOf s j)) (getD js i 0) (suc (colourOf s i)) (p j i hj hi h .1 (λ e. n (sym e)) .0)) (λ q. absurd (n (ap (λ (z : ℕ). getD js z 0) q)));

@@ -10,10 +10,12 @@ use Rattle.lists.proofs.Tests.{by-test, by-either, clash}
 use Rattle.search.specs.Radix.{below}
 use Rattle.search.specs.Strips.{holders, after, weigh}
 use Rattle.search.specs.Plan.{T, price as stripPrice, next as stripNext}
+use Rattle.optimum.specs.Slots.{Slots}
 use Rattle.optimum.specs.Strips.{Point, Strip, Instance, inside, opens, joinsUp, joinsDown, cost, draw, children, rulesOf, strips, State, price, next}
 use Rattle.optimum.specs.Cells.{cells, cellOf}
 use Rattle.optimum.specs.Reached.{In, noPoint, steps, wholeSheet, Reached, TableOf}
-use Rattle.optimum.proofs.StripsHeld.{Rising, Fit, strips-hold, price-read, next-read}
+use Rattle.optimum.proofs.Slots.{Rising}
+use Rattle.optimum.proofs.StripsHeld.{Fit, strips-hold, price-read, next-read}
 use Rattle.optimum.proofs.Pairs.{zeros}
 use Rattle.optimum.proofs.Levels.{Coloured, InRange, asked-range}
 use Rattle.optimum.proofs.OneSidedAnswer.{empty-strips}
@@ -32,7 +34,8 @@ coloured-at C (s ∷ ss) h zero l = h .0
 coloured-at C (s ∷ ss) h (suc j) l = coloured-at C ss (h .1) j (omega arith)
 
 module _ (P : Instance) where
-  open Instance P using (m, top, kinds, turn, radices)
+  open Instance P using (slots, top, kinds, turn, radices)
+  open Slots slots using (m)
 
   -- where no strip of a list holds a site, none of its members does
   none-holds : (t : Point) (L : List Strip) → holders (inside P) t L ≡ 0 → (q : Strip) → In q L → inside P q t ≡ false
@@ -90,7 +93,7 @@ module _ (P : Instance) where
   under-cond true c h = h
   under-cond false c h = absurd (omega arith)
 
-  module _ (rising : Rising P) where
+  module _ (rising : Rising (P .slots)) where
     price-steps : (x : State P) (s : Point) (k : ℕ) → price P x s k < top → (p : Strip) → In p (strips P (x .0) (x .2)) → inside P p s ≡ true → steps P p s k ≡ true
     unfolding stripPrice
     price-steps x s k h p i e =
@@ -119,7 +122,7 @@ module _ (P : Instance) where
         here = ap (λ (z : List Strip × ℕ). z .0) (next-read P rising x (getD ss j noPoint) k f h)
 
   -- what is reached is in range
-  pub reached-range : (C R : ℕ) (rising : Rising P) (turn-low : (s : Point) (k : ℕ) → turn s k < kinds) (ss : List Point) → Coloured C ss → 0 < kinds
+  pub reached-range : (C R : ℕ) (rising : Rising (P .slots)) (turn-low : (s : Point) (k : ℕ) → turn s k < kinds) (ss : List Point) → Coloured C ss → 0 < kinds
       → (j : ℕ) → j ≤ length ss → (q : Strip) → Reached P ss j q → InRange P C R q
   unfolding Reached
   reached-range C R rising turn-low ss c kp zero l q e = subst (InRange P C R) (sym e) (record { ra = omega arith; rca = omega arith; rb = omega arith; rcb = omega arith; rd = kp })

@@ -15,7 +15,8 @@ use Rattle.search.proofs.Cost.{plus-zero, plus-top, top-plus, least-le-top, lea
 use Rattle.search.specs.Walk.{best}
 use Rattle.search.specs.Sums.{listing}
 use Rattle.search.proofs.CappedSums.{sum-le}
-use Rattle.optimum.specs.UsedSlots.{Instance, put, farUp, may, draw, strip, price, next, final, labels, below, T}
+use Rattle.optimum.specs.Slots.{Slots, farFrom}
+use Rattle.optimum.specs.UsedSlots.{Instance, put, may, draw, strip, price, next, final, labels, below, T}
 use Rattle.optimum.specs.Rows.{link, acc, cell}
 pub use Rattle.search.proofs.Digits.{digit-flat}
 
@@ -26,7 +27,8 @@ least-head top zero f = omega arith
 least-head top (suc n) f = let ih = least-head top n f in omega arith
 
 module _ (G : Instance) (caps : ℕ → ℕ) where
-  open Instance G using (top, m, n, colours, each)
+  open Instance G using (slots, top, n, colours, each)
+  open Slots slots using (m)
 
   pub strip-le : (a ca b cb : ℕ) → strip G caps a ca b cb ≤ top
   unfolding strip
@@ -63,7 +65,7 @@ module _ (G : Instance) (caps : ℕ → ℕ) where
       each-link : (d : ℕ) →
           plus top (price G caps (a, ca, v) k (suc d)) (best (labels G caps) (next G caps (a, ca, v) k (suc d)) (listing (λ j. j) (suc k) c)) ≡ link G caps a ca v k d
       each-link d =
-          unfold price next link in by-test (farUp G a ca k (suc d) && may G (suc d) v)
+          unfold price next link in by-test (farFrom slots a ca k (suc d) && may G (suc d) v)
           (λ h. rw h (ap (plus top (plus top each (strip G caps a ca (suc k) (suc d)))) (after d (v - draw G (suc d)))))
           (λ h. rw h (top-plus top _))
 
@@ -113,19 +115,19 @@ module _ (G : Instance) (caps : ℕ → ℕ) where
   acc-next a ca v j = let h = strip-le a ca (suc m) 0 in omega arith
 
   -- what cannot be changes nothing: a slot too near, a colour used up, a strip with a site that has no tie
-  pub link-near : (a ca v k d : ℕ) → farUp G a ca k (suc d) ≡ false → link G caps a ca v k d ≡ top
+  pub link-near : (a ca v k d : ℕ) → farFrom slots a ca k (suc d) ≡ false → link G caps a ca v k d ≡ top
   unfolding link
   link-near a ca v k d h = rw h
 
   pub link-spent : (a ca v k d : ℕ) → may G (suc d) v ≡ false → link G caps a ca v k d ≡ top
   unfolding link
-  link-spent a ca v k d h = by-test (farUp G a ca k (suc d)) (λ e. rw (e, h)) (λ e. rw e)
+  link-spent a ca v k d h = by-test (farFrom slots a ca k (suc d)) (λ e. rw (e, h)) (λ e. rw e)
 
   pub link-lost : (a ca v k d : ℕ) → strip G caps a ca (suc k) (suc d) ≡ top → link G caps a ca v k d ≡ top
   unfolding link
-  link-lost a ca v k d h = by-test (farUp G a ca k (suc d) && may G (suc d) v) (λ e. rw (e, h) (rw (plus-top top each, top-plus top _))) (λ e. rw e)
+  link-lost a ca v k d h = by-test (farFrom slots a ca k (suc d) && may G (suc d) v) (λ e. rw (e, h) (rw (plus-top top each, top-plus top _))) (λ e. rw e)
 
-  pub link-is : (a ca v k d : ℕ) → farUp G a ca k (suc d) ≡ true → may G (suc d) v ≡ true →
+  pub link-is : (a ca v k d : ℕ) → farFrom slots a ca k (suc d) ≡ true → may G (suc d) v ≡ true →
       link G caps a ca v k d ≡ plus top (plus top each (strip G caps a ca (suc k) (suc d))) (T G caps (suc k) (suc d) (v - draw G (suc d)))
   unfolding link
   link-is a ca v k d h l = rw (h, l)

@@ -21,17 +21,17 @@ module _ (G : Instance) (w : ℕ) (steady : Steady G w) (caps : ℕ → ℕ) (i 
   pub misses : (j k : ℕ) → j ≤ k → value G (put caps i (suc k)) ≢ w → value G (put caps i (suc j)) ≢ w
   misses j k l h e = h (steady .on caps i j k inside free least e l)
 
-  pub choose-is : (k : ℕ) → k ≤ G .m - 1 → value G (put caps i (suc k)) ≤ w → ((j : ℕ) → j < k → value G (put caps i (suc j)) ≢ w) → choose G w caps i ≡ k
+  pub choose-is : (k : ℕ) → k ≤ G .slots .m - 1 → value G (put caps i (suc k)) ≤ w → ((j : ℕ) → j < k → value G (put caps i (suc j)) ≢ w) → choose G w caps i ≡ k
   unfolding choose
   choose-is k l h n =
-      by-equal (G .m) 0
-      (λ e. first-none (G .m) (λ j. eqb (value G (put caps i (suc j))) w) (λ j u. absurd (omega arith)) ∙ omega arith)
-      (λ e. first-at (G .m) (λ j. eqb (value G (put caps i (suc j))) w) k (omega (arith, e)) (λ j u. ne-eqb _ _ (n j u)) (eq-eqb _ _ (keeps k h)))
+      by-equal (G .slots .m) 0
+      (λ e. first-none (G .slots .m) (λ j. eqb (value G (put caps i (suc j))) w) (λ j u. absurd (omega arith)) ∙ omega arith)
+      (λ e. first-at (G .slots .m) (λ j. eqb (value G (put caps i (suc j))) w) k (omega (arith, e)) (λ j u. ne-eqb _ _ (n j u)) (eq-eqb _ _ (keeps k h)))
 
   -- the walk goes on at the least cost
   pub choose-keeps : value G (put caps i (suc (choose G w caps i))) ≡ w
   unfolding choose
   choose-keeps =
-      by-order (G .m) (first (G .m) (λ k. eqb (value G (put caps i (suc k))) w))
-      (λ h. steady .last caps i (first (G .m) (λ k. eqb (value G (put caps i (suc k))) w)) inside free least (omega arith))
-      (λ h. eqb-true _ _ (first-is (G .m) (λ k. eqb (value G (put caps i (suc k))) w) h))
+      by-order (G .slots .m) (first (G .slots .m) (λ k. eqb (value G (put caps i (suc k))) w))
+      (λ h. steady .last caps i (first (G .slots .m) (λ k. eqb (value G (put caps i (suc k))) w)) inside free least (omega arith))
+      (λ h. eqb-true _ _ (first-is (G .slots .m) (λ k. eqb (value G (put caps i (suc k))) w) h))

@@ -15,12 +15,15 @@ use Rattle.search.proofs.Cost.{plus-below}
 use Rattle.search.specs.Radix.{below}
 use Rattle.search.proofs.Radix.{sharing}
 use Rattle.search.specs.Walk.{costOf}
-use Rattle.optimum.specs.Strips.{Point, Strip, Instance, State, opens, clearFrom, joinsUp, joinsDown, cost, draw, hold, marked, price, next, labels}
+use Rattle.optimum.specs.Slots.{Slots, clearFrom}
+use Rattle.optimum.specs.Strips.{Point, Strip, Instance, State, opens, joinsUp, joinsDown, cost, draw, hold, marked, price, next, labels}
 use Rattle.optimum.proofs.StripsHeld.{Lower, holds, up-not-held, down-e, price-joins, set-same, set-other}
-use Rattle.optimum.proofs.Neighbours.{Good, Step, Apart, opens-e, open-step, up-step, down-step, step-open, step-join}
+use Rattle.optimum.proofs.Slots.{Good}
+use Rattle.optimum.proofs.Neighbours.{Step, Apart, opens-e, open-step, up-step, down-step, step-open, step-join}
 
 module _ (P : Instance) where
-  open Instance P using (m, top, height, share, lead, may, tip, held, drawOf, radices, word)
+  open Instance P using (slots, top, lead, may, tip, held, drawOf, radices, word)
+  open Slots slots using (m, height, share)
 
   -- no label is open at k
   unfoldable pub isFree : List ℕ → ℕ → Bool
@@ -42,9 +45,9 @@ module _ (P : Instance) where
   left L v s k = cond (isFree L k) (v - drawOf (s .c)) v
 
   abbrev pub stepWord : List ℕ → Point → ℕ → ℕ
-  stepWord L s k = word (cond (isFree L k) 1 0) (cond (isFree L k) (lead (s .x)) 0 + share k (s .y))
+  stepWord L s k = word (cond (isFree L k) 1 0) (cond (isFree L k) (lead (s .x)) 0 + share (height k) (s .y))
 
-  module _ (G : Good P) where
+  module _ (G : Good slots) where
     -- ---- one step
 
     price-below : (L : List ℕ) (v : ℕ) (M : List ℕ) (s : Point) (k : ℕ) → price P (L, v, M) s k < top → below radices (draw P (hold P L M (s .y)) s k) v ≡ true
@@ -65,7 +68,7 @@ module _ (P : Instance) where
         joined (inr e) = let u = down-step P G L ap′ s k M _ (holds P L M (s .y)) e in (u .0, u .1, λ f. below-it (holds P L M (s .y) .lower) (down-e P _ s k e))
           where
             below-it : Lower P L (s .y) (hold P L M (s .y) .b) (hold P L M (s .y) .cb)
-                → (hold P L M (s .y) .b ≡ suc k) × (k < m) × (hold P L M (s .y) .cb ≡ suc (s .c)) × (clearFrom P (hold P L M (s .y) .a) (s .y) ≡ true) → s .y < height k
+                → (hold P L M (s .y) .b ≡ suc k) × (k < m) × (hold P L M (s .y) .cb ≡ suc (s .c)) × (clearFrom slots (hold P L M (s .y) .a) (s .y) ≡ true) → s .y < height k
             below-it (inl q) d = absurd (omega arith)
             below-it (inr (j, q, l, c, n, y)) d = let t : k ≡ j = omega arith in rw t y
 
@@ -86,12 +89,12 @@ module _ (P : Instance) where
     price-open : (L : List ℕ) (v : ℕ) (M : List ℕ) (s : Point) (k : ℕ) → opens P (hold P L M (s .y)) s k ≡ true → isFree L k ≡ true → below radices (drawOf (s .c)) v ≡ true
         → (price P (L, v, M) s k ≡ stepWord L s k) × (next P (L, v, M) s k ≡ (set L k (suc (s .c)), left L v s k, marked P L M s k))
     unfolding price cost draw next
-    price-open L v M s k o f b = rw (o, b) (word-opened (isFree L k) (lead (s .x)) (share k (s .y)) f, rw f)
+    price-open L v M s k o f b = rw (o, b) (word-opened (isFree L k) (lead (s .x)) (share (height k) (s .y)) f, rw f)
 
     price-join : (L : List ℕ) (v : ℕ) (M : List ℕ) (s : Point) (k : ℕ) → opens P (hold P L M (s .y)) s k ≡ false → joinsUp P (hold P L M (s .y)) s k || joinsDown P (hold P L M (s .y)) s k ≡ true
         → isFree L k ≡ false → (price P (L, v, M) s k ≡ stepWord L s k) × (next P (L, v, M) s k ≡ (set L k (suc (s .c)), left L v s k, marked P L M s k))
     unfolding price cost draw next
-    price-join L v M s k o j f = rw (o, j, sharing radices .nothing v) (word-held (isFree L k) (lead (s .x)) (share k (s .y)) f, rw f (ap (λ (z : ℕ). (set L k (suc (s .c)), z, marked P L M s k)) (omega arith)))
+    price-join L v M s k o j f = rw (o, j, sharing radices .nothing v) (word-held (isFree L k) (lead (s .x)) (share (height k) (s .y)) f, rw f (ap (λ (z : ℕ). (set L k (suc (s .c)), z, marked P L M s k)) (omega arith)))
 
     pub price-i : (L : List ℕ) (v : ℕ) (M : List ℕ) (s : Point) (k : ℕ) → Apart P L → Step P L s k → Pay L v s k → Tip L s k → Turn L M s k
         → (price P (L, v, M) s k ≡ stepWord L s k) × (next P (L, v, M) s k ≡ (set L k (suc (s .c)), left L v s k, marked P L M s k))
@@ -161,7 +164,7 @@ module _ (P : Instance) where
   unfoldable pub shares : List Point → List ℕ → ℕ
   shares [] ks = 0
   shares (s ∷ ss) [] = 0
-  shares (s ∷ ss) (k ∷ ks) = share k (s .y) + shares ss ks
+  shares (s ∷ ss) (k ∷ ks) = share (height k) (s .y) + shares ss ks
 
   abbrev pub total : List ℕ → List Point → List ℕ → ℕ
   total L ss ks = word (opened (λ s. 1) L ss ks) (opened (λ s. lead (s .x)) L ss ks + shares ss ks)
@@ -170,7 +173,7 @@ module _ (P : Instance) where
     pub nothing : word 0 0 ≡ 0
     pub adds : (a b c d : ℕ) → word (a + c) (b + d) ≡ word a b + word c d
 
-  module _ (G : Good P) where
+  module _ (G : Good slots) where
     pub run-e : (ss : List Point) (L : List ℕ) (v : ℕ) (M ks : List ℕ) → length L ≡ m → Apart P L → costOf (labels P) (L, v, M) ss ks < top → Steps L ss ks × Pays L v ss ks × Tips L ss ks × Turns L M ss ks
     unfolding costOf Steps Pays Tips Turns
     run-e [] L v M [] l a h = (tt, tt, tt, tt)
@@ -195,7 +198,7 @@ module _ (P : Instance) where
     run-i W (s ∷ ss) L v M (k ∷ ks) l a t p u w =
         let q = price-i G L v M s k a (t .0) (p .0) (u .0) (w .0) in
         let ih = run-i W ss (set L k (suc (s .c))) (left L v s k) (marked P L M s k) ks (length-set L k (suc (s .c)) ∙ l) (keeps-apart G L s k l a (t .0)) (t .1) (p .1) (u .1) (w .1) in
-        rw (lt-ltb k m (t .0 .slot), q .0, q .1, ih) (sums W (cond (isFree L k) 1 0) (cond (isFree L k) (lead (s .x)) 0) (share k (s .y)) _ _ _)
+        rw (lt-ltb k m (t .0 .slot), q .0, q .1, ih) (sums W (cond (isFree L k) 1 0) (cond (isFree L k) (lead (s .x)) 0) (share (height k) (s .y)) _ _ _)
       where
         sums : Linear → (a b c d e f : ℕ) → plus top (word a (b + c)) (min (word d (e + f)) top) ≡ min (word (a + d) (b + e + (c + f))) top
         sums W a b c d e f = unfold plus in

@@ -7,7 +7,7 @@ use mathlib.Core.Option.{none, some}
 use mathlib.Core.List.{List, [], _∷_}
 use Prim.Native.Nat.{ℕ, zero, suc, _+_, _-_, _≤_, _<_}
 use native.Mathlib.Omega.{arith}
-use lib.Dec.{eqb, leb, ltb}
+use lib.Dec.{eqb, ltb}
 use lib.Seq.{getD-set-same, getD-set-other}
 use lib.ListN.{length, getD, set, replicate, length-set, length-replicate}
 use borrow.Author.Tests.{ltb-true, ltb-false, le-leb, lt-leb, lt-ltb, le-ltb, eqb-true, eqb-false, eq-eqb, ne-eqb}
@@ -21,7 +21,9 @@ use Rattle.search.specs.Plan.{Filled, Laws, Run, process, price as stripPrice, 
 use Rattle.search.proofs.Plan.{strips-independent}
 use Rattle.search.specs.Walk.{best, answer, First, costOf, walk}
 use Rattle.search.proofs.Walk.{answer-by, answer-first, answer-none, walk-cost}
-use Rattle.optimum.specs.Strips.{Point, Strip, Instance, over, under, inside, opens, joinsUp, joinsDown, clearFrom, cost, draw, children, rulesOf, stripsFrom, strips, holdFrom, hold, marked, State, price, next, labels, value, walked}
+use Rattle.optimum.specs.Slots.{Slots, over, clearFrom}
+use Rattle.optimum.specs.Strips.{Point, Strip, Instance, inside, opens, joinsUp, joinsDown, cost, draw, children, rulesOf, stripsFrom, strips, holdFrom, hold, marked, State, price, next, labels, value, walked}
+use Rattle.optimum.proofs.Slots.{Rising, over-label, under-label, under-edge, over-yes, under-yes}
 
 -- a list with one place changed
 pub set-same : (L : List ℕ) (k c : ℕ) → k < length L → getD (set L k c) k 0 ≡ c
@@ -36,7 +38,8 @@ set-id (u ∷ L) zero c e h = ap (λ (z : ℕ). z ∷ L) (sym e)
 set-id (u ∷ L) (suc k) c e h = ap (λ (z : List ℕ). u ∷ z) (set-id L k c e h)
 
 module _ (P : Instance) where
-  open Instance P using (m, top, height, turn, held, radices)
+  open Instance P using (slots, top, turn, held, radices)
+  open Slots slots using (m, height)
 
   pub opens-at : (p : Strip) (s : Point) (k : ℕ) → opens P p s k ≡ true → (p .a < suc k) × (suc k < p .b) × (k < m)
   unfolding opens
@@ -48,28 +51,16 @@ module _ (P : Instance) where
 
   -- ---- the strip that holds a site, among the strips
 
-  under-edge : (i y : ℕ) → i ≡ m → under P (suc i) y ≡ true
-  unfolding under
-  under-edge i y e = rw (le-leb m i (omega arith))
-
-  under-label : (i y : ℕ) → i < m → under P (suc i) y ≡ ltb y (height i)
-  unfolding under
-  under-label i y h = rw (lt-leb m i h)
-
-  over-label : (i y : ℕ) → over P (suc i) y ≡ leb (height i) y
-  unfolding over
-  over-label i y = refl
-
-  pub weigh-hold : (r i a ca : ℕ) (L M : List ℕ) (none : ℕ) (w : Strip → Point → ℕ → ℕ) (s : Point) (k : ℕ) → r + i ≡ m → over P a (s .y) ≡ true
+  pub weigh-hold : (r i a ca : ℕ) (L M : List ℕ) (none : ℕ) (w : Strip → Point → ℕ → ℕ) (s : Point) (k : ℕ) → r + i ≡ m → over slots a (s .y) ≡ true
       → weigh none (inside P) w s k (stripsFrom P r i a ca L M) ≡ w (holdFrom P r i a ca L M (s .y)) s k
   unfolding weigh stripsFrom holdFrom inside
-  weigh-hold zero i a ca L M z w s k e o = rw (o, under-edge i (s .y) (omega arith))
+  weigh-hold zero i a ca L M z w s k e o = rw (o, under-edge slots i (s .y) (omega arith))
   weigh-hold (suc r) i a ca L M z w s k e o =
       by-test (eqb (getD L i 0) 0)
       (λ q. rw q (weigh-hold r (suc i) a ca L M z w s k (omega arith) o))
-      (λ q. rw (q, o, under-label i (s .y) (omega arith)) (by-test (ltb (s .y) (height i))
+      (λ q. rw (q, o, under-label slots i (s .y) (omega arith)) (by-test (ltb (s .y) (height i))
       (λ t. rw t)
-      (λ t. rw t (weigh-hold r (suc i) (suc i) (getD L i 0) L M z w s k (omega arith) (over-label i (s .y) ∙ le-leb (height i) (s .y) (ltb-false _ _ t))))))
+      (λ t. rw t (weigh-hold r (suc i) (suc i) (getD L i 0) L M z w s k (omega arith) (over-label slots i (s .y) ∙ le-leb (height i) (s .y) (ltb-false _ _ t))))))
 
   -- the strip that holds a height begins at the last label passed, or past i
   pub hold-start : (r i a ca : ℕ) (L M : List ℕ) (y : ℕ) → (holdFrom P r i a ca L M y .a ≡ a) ⊎ (i < holdFrom P r i a ca L M y .a)
@@ -92,15 +83,15 @@ module _ (P : Instance) where
       (strips-agree r (suc i) (suc i) (getD K i 0) L K M N (λ j l. h j (omega arith)) (g (suc i) (omega arith)) (λ j l. g j (omega arith))))))
 
   -- a step that opens no label
-  pub after-same : (r i a ca : ℕ) (L M N : List ℕ) (s : Point) (k : ℕ) → r + i ≡ m → a ≤ i → over P a (s .y) ≡ true
+  pub after-same : (r i a ca : ℕ) (L M N : List ℕ) (s : Point) (k : ℕ) → r + i ≡ m → a ≤ i → over slots a (s .y) ≡ true
       → getD N (holdFrom P r i a ca L M (s .y) .a) 0 ≡ turn s k → ((j : ℕ) → (j ≡ holdFrom P r i a ca L M (s .y) .a → ⊥) → getD M j 0 ≡ getD N j 0)
       → opens P (holdFrom P r i a ca L M (s .y)) s k ≡ false → after (inside P) (children P) s k (stripsFrom P r i a ca L M) ≡ stripsFrom P r i a ca L N
   unfolding after stripsFrom holdFrom inside children
-  after-same zero i a ca L M N s k e ai o n g f = rw (o, under-edge i (s .y) (omega arith), f, n)
+  after-same zero i a ca L M N s k e ai o n g f = rw (o, under-edge slots i (s .y) (omega arith), f, n)
   after-same (suc r) i a ca L M N s k e ai o n g f =
       by-test (eqb (getD L i 0) 0)
       (λ q. rw q (after-same r (suc i) a ca L M N s k (omega arith) (omega arith) o (rw q at n) (rw q at g) (rw q at f)))
-      (λ q. rw (q, o, under-label i (s .y) (omega arith)) (by-test (ltb (s .y) (height i))
+      (λ q. rw (q, o, under-label slots i (s .y) (omega arith)) (by-test (ltb (s .y) (height i))
       (λ t. let f₁ : opens P (record { a = a; ca = ca; b = suc i; cb = getD L i 0; d = getD M a 0 }) s k ≡ false = rw (q, t) at f in
       let n₁ : getD N a 0 ≡ turn s k = rw (q, t) at n in
       let g₁ : (j : ℕ) → (j ≡ a → ⊥) → getD M j 0 ≡ getD N j 0 = rw (q, t) at g in
@@ -111,28 +102,28 @@ module _ (P : Instance) where
       let p = hold-start r (suc i) (suc i) (getD L i 0) L M (s .y) in
       let d : getD M a 0 ≡ getD N a 0 = g₁ a (λ z. by-either p (λ u. omega arith) (λ u. omega arith)) in
       rw (t, d) (ap (λ (K : List Strip). record { a = a; ca = ca; b = suc i; cb = getD L i 0; d = getD N a 0 } ∷ K)
-      (after-same r (suc i) (suc i) (getD L i 0) L M N s k (omega arith) (omega arith) (over-label i (s .y) ∙ le-leb (height i) (s .y) (ltb-false _ _ t)) n₁ g₁ (rw (q, t) at f))))))
+      (after-same r (suc i) (suc i) (getD L i 0) L M N s k (omega arith) (omega arith) (over-label slots i (s .y) ∙ le-leb (height i) (s .y) (ltb-false _ _ t)) n₁ g₁ (rw (q, t) at f))))))
 
   late : (r i : ℕ) (L M : List ℕ) (s : Point) (k : ℕ) → k ≤ i → opens P (holdFrom P r (suc i) (suc i) (getD L i 0) L M (s .y)) s k ≡ true → ⊥
   late r i L M s k h f = by-either (hold-start r (suc i) (suc i) (getD L i 0) L M (s .y)) (λ e. omega (arith, opens-at _ s k f)) (λ e. omega (arith, opens-at _ s k f))
 
   -- a step that opens a label at k: from past k on, in the strip that holds the site
-  after-past : (r i a ca : ℕ) (L M N : List ℕ) (s : Point) (k : ℕ) → r + i ≡ m → over P a (s .y) ≡ true → k < i
+  after-past : (r i a ca : ℕ) (L M N : List ℕ) (s : Point) (k : ℕ) → r + i ≡ m → over slots a (s .y) ≡ true → k < i
       → getD N (suc k) 0 ≡ 0 → ((j : ℕ) → i < j → getD M j 0 ≡ getD N j 0) → opens P (holdFrom P r i a ca L M (s .y)) s k ≡ true
       → after (inside P) (children P) s k (stripsFrom P r i a ca L M) ≡ record { a = a; ca = ca; b = suc k; cb = suc (s .c); d = turn s k } ∷ stripsFrom P r i (suc k) (suc (s .c)) L N
   unfolding after stripsFrom holdFrom inside children
-  after-past zero i a ca L M N s k e o h z g f = rw (o, under-edge i (s .y) (omega arith), f, z)
+  after-past zero i a ca L M N s k e o h z g f = rw (o, under-edge slots i (s .y) (omega arith), f, z)
   after-past (suc r) i a ca L M N s k e o h z g f =
       by-test (eqb (getD L i 0) 0)
       (λ q. rw q (after-past r (suc i) a ca L M N s k (omega arith) o (omega arith) z (λ j l. g j (omega arith)) (rw q at f)))
-      (λ q. rw (q, o, under-label i (s .y) (omega arith)) (by-test (ltb (s .y) (height i))
+      (λ q. rw (q, o, under-label slots i (s .y) (omega arith)) (by-test (ltb (s .y) (height i))
       (λ t. let f₁ : opens P (record { a = a; ca = ca; b = suc i; cb = getD L i 0; d = getD M a 0 }) s k ≡ true = rw (q, t) at f in
       rw (t, f₁, z) (ap (λ (K : List Strip). record { a = a; ca = ca; b = suc k; cb = suc (s .c); d = turn s k } ∷ record { a = suc k; ca = suc (s .c); b = suc i; cb = getD L i 0; d = 0 } ∷ K)
       (strips-agree r (suc i) (suc i) (getD L i 0) L L M N (λ j _. refl) (g (suc i) (omega arith)) (λ j l. g j (omega arith)))))
       (λ t. absurd (late r i L M s k (omega arith) (rw (q, t) at f)))))
 
   -- from k on
-  after-here : (r i a ca : ℕ) (L M N : List ℕ) (s : Point) → suc r + i ≡ m → over P a (s .y) ≡ true → i < length L → getD L i 0 ≡ 0
+  after-here : (r i a ca : ℕ) (L M N : List ℕ) (s : Point) → suc r + i ≡ m → over slots a (s .y) ≡ true → i < length L → getD L i 0 ≡ 0
       → getD N a 0 ≡ turn s i → getD N (suc i) 0 ≡ 0 → ((j : ℕ) → suc i < j → getD M j 0 ≡ getD N j 0)
       → opens P (holdFrom P (suc r) i a ca L M (s .y)) s i ≡ true
       → after (inside P) (children P) s i (stripsFrom P (suc r) i a ca L M) ≡ stripsFrom P (suc r) i a ca (set L i (suc (s .c))) N
@@ -148,7 +139,7 @@ module _ (P : Instance) where
       (strips-agree r (suc i) (suc i) (suc (s .c)) L K N N (λ j u. sym (set-other L i (suc (s .c)) j (λ (t : j ≡ i). omega arith))) refl (λ j _. refl)))
 
   -- from k or before it on
-  pub after-open : (r i a ca : ℕ) (L M N : List ℕ) (s : Point) (k : ℕ) → r + i ≡ m → a ≤ i → over P a (s .y) ≡ true → i ≤ k → k < length L → getD L k 0 ≡ 0
+  pub after-open : (r i a ca : ℕ) (L M N : List ℕ) (s : Point) (k : ℕ) → r + i ≡ m → a ≤ i → over slots a (s .y) ≡ true → i ≤ k → k < length L → getD L k 0 ≡ 0
       → getD N (holdFrom P r i a ca L M (s .y) .a) 0 ≡ turn s k → getD N (suc k) 0 ≡ 0
       → ((j : ℕ) → (j ≡ holdFrom P r i a ca L M (s .y) .a → ⊥) → (j ≡ suc k → ⊥) → getD M j 0 ≡ getD N j 0)
       → opens P (holdFrom P r i a ca L M (s .y)) s k ≡ true
@@ -167,14 +158,14 @@ module _ (P : Instance) where
       (λ q. let w : getD (set L k (suc (s .c))) i 0 ≡ getD L i 0 = set-other L k (suc (s .c)) i q in
       rw w (by-test (eqb (getD L i 0) 0)
       (λ t. rw t (after-open r (suc i) a ca L M N s k (omega arith) (omega arith) o (omega arith) l z (rw t at n) n₀ (rw t at g) (rw t at f)))
-      (λ t. rw (t, o, under-label i (s .y) (omega arith)) (by-test (ltb (s .y) (height i))
+      (λ t. rw (t, o, under-label slots i (s .y) (omega arith)) (by-test (ltb (s .y) (height i))
       (λ u. absurd (let g : opens P (record { a = a; ca = ca; b = suc i; cb = getD L i 0; d = getD M a 0 }) s k ≡ true = rw (t, u) at f in omega (arith, opens-at _ s k g)))
       (λ u. let n₁ : getD N (holdFrom P r (suc i) (suc i) (getD L i 0) L M (s .y) .a) 0 ≡ turn s k = rw (t, u) at n in
       let g₁ : (j : ℕ) → (j ≡ holdFrom P r (suc i) (suc i) (getD L i 0) L M (s .y) .a → ⊥) → (j ≡ suc k → ⊥) → getD M j 0 ≡ getD N j 0 = rw (t, u) at g in
       let p = hold-start r (suc i) (suc i) (getD L i 0) L M (s .y) in
       let d : getD M a 0 ≡ getD N a 0 = g₁ a (λ z. by-either p (λ v. omega arith) (λ v. omega arith)) (λ (v : a ≡ suc k). omega arith) in
       rw (u, d) (ap (λ (T : List Strip). record { a = a; ca = ca; b = suc i; cb = getD L i 0; d = getD N a 0 } ∷ T)
-      (after-open r (suc i) (suc i) (getD L i 0) L M N s k (omega arith) (omega arith) (over-label i (s .y) ∙ le-leb (height i) (s .y) (ltb-false _ _ u)) (omega arith) l z n₁ n₀ g₁ (rw (t, u) at f))))))))
+      (after-open r (suc i) (suc i) (getD L i 0) L M N s k (omega arith) (omega arith) (over-label slots i (s .y) ∙ le-leb (height i) (s .y) (ltb-false _ _ u)) (omega arith) l z n₁ n₀ g₁ (rw (t, u) at f))))))))
 
   -- ---- what is known of the strip that holds a height
 
@@ -207,16 +198,16 @@ module _ (P : Instance) where
   unfolding hold
   holds L M y = hold-facts m 0 0 0 L M y (omega arith) (inl refl) (λ j h l. absurd (omega arith))
 
-  pub up-e : (p : Strip) (s : Point) (k : ℕ) → joinsUp P p s k ≡ true → (p .a ≡ suc k) × (p .ca ≡ suc (s .c)) × (clearFrom P (p .b) (s .y) ≡ true)
+  pub up-e : (p : Strip) (s : Point) (k : ℕ) → joinsUp P p s k ≡ true → (p .a ≡ suc k) × (p .ca ≡ suc (s .c)) × (clearFrom slots (p .b) (s .y) ≡ true)
   unfolding joinsUp
   up-e p s k e = let h = and-both _ _ (and-both _ _ e .0) in let g = and-both _ _ (h .0) in (eqb-true _ _ (g .0), eqb-true _ _ (g .1), h .1)
 
   pub up-not-held : (p : Strip) (s : Point) (k : ℕ) → joinsUp P p s k ≡ true → held p s ≡ false
   unfolding joinsUp
-  up-not-held p s k e = not-f (held p s) (and-both (eqb (p .a) (suc k) && eqb (p .ca) (suc (s .c)) && clearFrom P (p .b) (s .y)) (not (held p s)) e .1)
+  up-not-held p s k e = not-f (held p s) (and-both (eqb (p .a) (suc k) && eqb (p .ca) (suc (s .c)) && clearFrom slots (p .b) (s .y)) (not (held p s)) e .1)
 
   pub down-e : (p : Strip) (s : Point) (k : ℕ) → joinsDown P p s k ≡ true
-      → (p .b ≡ suc k) × (k < m) × (p .cb ≡ suc (s .c)) × (clearFrom P (p .a) (s .y) ≡ true)
+      → (p .b ≡ suc k) × (k < m) × (p .cb ≡ suc (s .c)) × (clearFrom slots (p .a) (s .y) ≡ true)
   unfolding joinsDown
   down-e p s k e =
       let h = and-both _ _ e in let g = and-both _ _ (h .0) in let f = and-both _ _ (g .0) in
@@ -228,11 +219,11 @@ module _ (P : Instance) where
       p : Strip
       p = hold P L M (s .y)
 
-      up : Upper L (s .y) (p .a) (p .ca) → (p .a ≡ suc k) × (p .ca ≡ suc (s .c)) × (clearFrom P (p .b) (s .y) ≡ true) → getD L k 0 ≡ suc (s .c)
+      up : Upper L (s .y) (p .a) (p .ca) → (p .a ≡ suc k) × (p .ca ≡ suc (s .c)) × (clearFrom slots (p .b) (s .y) ≡ true) → getD L k 0 ≡ suc (s .c)
       up (inl z) u = absurd (omega arith)
       up (inr (j, q, l, c, n, h)) u = let t : k ≡ j = omega arith in ap (λ (i : ℕ). getD L i 0) t ∙ c ∙ u .1
 
-      down : Lower L (s .y) (p .b) (p .cb) → (p .b ≡ suc k) × (k < m) × (p .cb ≡ suc (s .c)) × (clearFrom P (p .a) (s .y) ≡ true) → getD L k 0 ≡ suc (s .c)
+      down : Lower L (s .y) (p .b) (p .cb) → (p .b ≡ suc k) × (k < m) × (p .cb ≡ suc (s .c)) × (clearFrom slots (p .a) (s .y) ≡ true) → getD L k 0 ≡ suc (s .c)
       down (inl z) u = absurd (omega arith)
       down (inr (j, q, l, c, n, h)) u = let t : k ≡ j = omega arith in ap (λ (i : ℕ). getD L i 0) t ∙ c ∙ u .2
 
@@ -259,31 +250,14 @@ module _ (P : Instance) where
   unfolding children Filled
   filled p s k = by-test (opens P p s k) (λ e. rw e tt) (λ e. rw e tt)
 
-  -- the heights rise
-  abbrev pub Rising : Type 0
-  Rising = (j k : ℕ) → j < k → k < m → height j < height k
-
-  module _ (rising : Rising) where
-    over-yes : (a k y : ℕ) → k < m → a < suc k → height k ≤ y → over P a y ≡ true
-    unfolding over
-    over-yes zero k y hk h l = refl
-    over-yes (suc j) k y hk h l = le-leb (height j) y (omega (arith, rising j k (omega arith) hk))
-
-    under-yes : (b k y : ℕ) → suc k < b → y < height k → under P b y ≡ true
-    unfolding under
-    under-yes zero k y h l = absurd (omega arith)
-    under-yes (suc j) k y h l =
-        by-order m j
-        (λ q. rw (le-leb m j q))
-        (λ q. rw (lt-leb m j q) (lt-ltb y (height j) (omega (arith, rising k j (omega arith) q))))
-
+  module _ (rising : Rising slots) where
     opened-parts : (p : Strip) (s : Point) (k : ℕ) (t : Point) → p .a < suc k → suc k < p .b → k < m
         → holders (inside P) t (record { a = p .a; ca = p .ca; b = suc k; cb = suc (s .c); d = turn s k } ∷ record { a = suc k; ca = suc (s .c); b = p .b; cb = p .cb; d = 0 } ∷ []) ≡ oneIf (inside P p t)
     unfolding holders inside
     opened-parts p s k t ha hb hk =
         by-order (height k) (t .y)
-        (λ l. rw (under-label k (t .y) hk, over-label k (t .y), over-yes (p .a) k (t .y) hk ha l, le-leb (height k) (t .y) l, le-ltb (t .y) (height k) l) (omega arith))
-        (λ l. rw (under-label k (t .y) hk, over-label k (t .y), under-yes (p .b) k (t .y) hb l, lt-leb (height k) (t .y) l, lt-ltb (t .y) (height k) l) (omega arith))
+        (λ l. rw (under-label slots k (t .y) hk, over-label slots k (t .y), over-yes slots rising (p .a) k (t .y) hk ha l, le-leb (height k) (t .y) l, le-ltb (t .y) (height k) l) (omega arith))
+        (λ l. rw (under-label slots k (t .y) hk, over-label slots k (t .y), under-yes slots rising (p .b) k (t .y) hb l, lt-leb (height k) (t .y) l, lt-ltb (t .y) (height k) l) (omega arith))
 
     parts : (p : Strip) (s : Point) (k : ℕ) (t : Point) → holders (inside P) t (children P p s k) ≡ oneIf (inside P p t)
     unfolding children
@@ -296,17 +270,17 @@ module _ (P : Instance) where
     laws = record { shares = sharing radices; filled = filled; parts = λ p s k. inr (parts p s k) }
 
     -- one strip holds each site
-    holders-from : (r i a ca : ℕ) (L M : List ℕ) (t : Point) → r + i ≡ m → a ≤ i → holders (inside P) t (stripsFrom P r i a ca L M) ≡ oneIf (over P a (t .y))
+    holders-from : (r i a ca : ℕ) (L M : List ℕ) (t : Point) → r + i ≡ m → a ≤ i → holders (inside P) t (stripsFrom P r i a ca L M) ≡ oneIf (over slots a (t .y))
     unfolding holders stripsFrom inside
     holders-from zero i a ca L M t e h =
-        by-test (over P a (t .y)) (λ o. rw (o, under-edge i (t .y) (omega arith))) (λ o. rw o)
+        by-test (over slots a (t .y)) (λ o. rw (o, under-edge slots i (t .y) (omega arith))) (λ o. rw o)
     holders-from (suc r) i a ca L M t e h =
         by-test (eqb (getD L i 0) 0)
         (λ q. rw q (holders-from r (suc i) a ca L M t (omega arith) (omega arith)))
-        (λ q. rw (q, holders-from r (suc i) (suc i) (getD L i 0) L M t (omega arith) (omega arith), under-label i (t .y) (omega arith), over-label i (t .y))
+        (λ q. rw (q, holders-from r (suc i) (suc i) (getD L i 0) L M t (omega arith) (omega arith), under-label slots i (t .y) (omega arith), over-label slots i (t .y))
         (by-order (height i) (t .y)
-        (λ l. rw (over-yes a i (t .y) (omega arith) (omega arith) l, le-leb (height i) (t .y) l, le-ltb (t .y) (height i) l))
-        (λ l. rw (lt-leb (height i) (t .y) l, lt-ltb (t .y) (height i) l) (by-test (over P a (t .y)) (λ o. rw o) (λ o. rw o)))))
+        (λ l. rw (over-yes slots rising a i (t .y) (omega arith) (omega arith) l, le-leb (height i) (t .y) l, le-ltb (t .y) (height i) l))
+        (λ l. rw (lt-leb (height i) (t .y) l, lt-ltb (t .y) (height i) l) (by-test (over slots a (t .y)) (λ o. rw o) (λ o. rw o)))))
 
     pub strips-hold : (L M : List ℕ) (t : Point) → holders (inside P) t (strips P L M) ≡ 1
     unfolding strips

@@ -6,13 +6,11 @@ use lib.Dec.{eqb}
 use lib.ListN.{getD}
 use Rattle.search.specs.Radix.{digitOf, place}
 use Rattle.sheet.specs.Sheet.{Colour, Sheet, productOf}
+use Rattle.labelling.specs.Layout.{noColour}
 
--- a colour's label bound; a colour that the sheet does not have counts as unbounded, so that it has no digit
-abbrev pub unboundedColour : Colour
-unboundedColour = record { bound = 255; sites = 0 }
-
+-- a colour's label bound
 abbrev pub boundOf : Sheet → (colour : ℕ) → ℕ
-boundOf s c = (getD (s .colours) c unboundedColour) .bound
+boundOf s c = (getD (s .colours) c noColour) .bound
 
 -- 255 means unbounded
 abbrev pub isUnbounded : Sheet → (colour : ℕ) → Bool

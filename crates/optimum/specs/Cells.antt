@@ -12,12 +12,14 @@ use Rattle.search.specs.Share.{conv, just}
 use Rattle.search.specs.Sums.{listing}
 use Rattle.search.specs.Walk.{answerBy}
 use Rattle.sheet.specs.Sheet.{Sheet, productOf}
+use Rattle.optimum.specs.Slots.{Slots}
 use Rattle.optimum.specs.Strips.{Point, Strip, Instance, inside, opens, joinsUp, joinsDown, State, labels}
 use Rattle.optimum.specs.OneSided.{instanceOf, order, pointsAt, tiesOf}
 
 -- C colours, and budgets below R
 module _ (P : Instance) (C R : ℕ) where
-  open Instance P using (m, top, kinds, turn, share, lead, drawOf, radices, word)
+  open Instance P using (slots, top, kinds, turn, lead, drawOf, radices, word)
+  open Slots slots using (m, height, share)
 
   -- how many cells a level has; the cell of a strip and a share; the strip and the share of a cell
   abbrev pub cells : ℕ
@@ -41,9 +43,9 @@ module _ (P : Instance) (C R : ℕ) where
   stepCell low p s k v =
       cond (opens P p s k)
       (cond (below radices (drawOf (s .c)) v)
-      (plus top (word 1 (lead (s .x) + share k (s .y)))
+      (plus top (word 1 (lead (s .x) + share (height k) (s .y)))
       (shareCells low (record { a = p .a; ca = p .ca; b = suc k; cb = suc (s .c); d = turn s k }) (record { a = suc k; ca = suc (s .c); b = p .b; cb = p .cb; d = 0 }) (v - drawOf (s .c)))) top)
-      (cond (joinsUp P p s k || joinsDown P p s k) (plus top (word 0 (share k (s .y))) (getD low (cellOf (record { a = p .a; ca = p .ca; b = p .b; cb = p .cb; d = turn s k }) v) 0)) top)
+      (cond (joinsUp P p s k || joinsDown P p s k) (plus top (word 0 (share (height k) (s .y))) (getD low (cellOf (record { a = p .a; ca = p .ca; b = p .b; cb = p .cb; d = turn s k }) v) 0)) top)
 
   -- cell i of the level that has the site s more than the level low
   unfoldable pub entryOf : (low : List ℕ) → Point → ℕ → ℕ

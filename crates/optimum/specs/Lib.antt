@@ -1,5 +1,6 @@
 pub mod Budgets
 pub mod CostWord
+pub mod Slots
 pub mod Strips
 pub mod OneSided
 pub mod Cells

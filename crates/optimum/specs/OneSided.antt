@@ -8,8 +8,9 @@ use lib.Dec.{eqb, leb}
 use lib.ListN.{length, set, replicate}
 use Rattle.search.specs.Cost.{least, first}
 use Rattle.sheet.specs.Sheet.{Sheet, rankTop}
-use Rattle.labelling.specs.Layout.{siteAt, heightOf, isFar, isClear, siteShare}
+use Rattle.labelling.specs.Layout.{siteAt}
 use Rattle.labelling.specs.Lawful.{rankAt}
+use Rattle.optimum.specs.Slots.{sheetSlots}
 use Rattle.optimum.specs.Strips.{Point, Strip, Instance, walked}
 use Rattle.optimum.specs.Budgets.{fullBudget}
 pub use Rattle.optimum.specs.Budgets.{boundOf}
@@ -17,19 +18,7 @@ unfoldable pub use Rattle.optimum.specs.Budgets.{radicesOf, drawsOf}
 pub use Rattle.optimum.specs.CostWord.{topWord}
 unfoldable pub use Rattle.optimum.specs.CostWord.{wordOf}
 
--- ---- what document 02 touches, one definition each
-
--- two labels, by slot and colour + 1, are far enough apart
-unfoldable pub farEnough : Sheet → (j c k d : ℕ) → Bool
-farEnough s j c k d = isFar s j (c - 1) k (d - 1)
-
--- the label at slot k is clear of a site of height y
-unfoldable pub clearOf : Sheet → (k y : ℕ) → Bool
-clearOf s k y = isClear s k y
-
--- a site's share of the length, by its slot and height
-unfoldable pub shareOf : Sheet → (k y : ℕ) → ℕ
-shareOf s k y = siteShare s (heightOf s k) y
+-- ---- what document 02 touches beside the slots, one definition each
 
 -- the length of the backbone that a site at x opens
 unfoldable pub leadOf : Sheet → (x : ℕ) → ℕ
@@ -52,12 +41,8 @@ heldOf s p t = false
 abbrev pub instanceOf : Sheet → Instance
 instanceOf s =
     record {
-      m = length (s .slots);
+      slots = sheetSlots s;
       top = topWord;
-      height = heightOf s;
-      far = farEnough s;
-      clear = clearOf s;
-      share = shareOf s;
       lead = leadOf s;
       may = mayOpen s;
       tip = tipClear s;

@@ -6,6 +6,7 @@ use mathlib.Core.List.{List, [], _∷_}
 use Prim.Native.Nat.{ℕ, zero, suc, _+_, _*_, _<_, _≤_}
 use lib.ListN.{length, getD, drop}
 use Rattle.search.specs.Plan.{T}
+use Rattle.optimum.specs.Slots.{Slots}
 use Rattle.optimum.specs.Strips.{Point, Strip, Instance, inside, opens, joinsUp, joinsDown, children, rulesOf}
 use Rattle.optimum.specs.Cells.{cells, cellOf}
 
@@ -19,7 +20,7 @@ abbrev pub noPoint : Point
 noPoint = record { x = 0; y = 0; c = 0 }
 
 module _ (P : Instance) where
-  open Instance P using (m)
+  open Slots (P .slots) using (m)
 
   -- the site s, which lies in the strip p, may be tied to slot k
   abbrev pub steps : Strip → Point → ℕ → Bool

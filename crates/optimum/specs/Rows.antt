@@ -2,15 +2,17 @@
 use mathlib.Core.Bool.{cond, _&&_}
 use Prim.Native.Nat.{ℕ, suc, _+_, _*_, _-_, min}
 use Rattle.search.specs.Cost.{plus, least}
-use Rattle.optimum.specs.UsedSlots.{Instance, farUp, may, draw, strip, T}
+use Rattle.optimum.specs.Slots.{Slots, farFrom}
+use Rattle.optimum.specs.UsedSlots.{Instance, may, draw, strip, T}
 
 module _ (G : Instance) (caps : ℕ → ℕ) where
-  open Instance G using (top, m, colours, each)
+  open Instance G using (slots, top, colours, each)
+  open Slots slots using (m)
 
   -- a label of colour d at slot k, the next below the label a, and all that follows it
   unfoldable pub link : (a ca v k d : ℕ) → ℕ
   link a ca v k d =
-      cond (farUp G a ca k (suc d) && may G (suc d) v)
+      cond (farFrom slots a ca k (suc d) && may G (suc d) v)
       (plus top (plus top each (strip G caps a ca (suc k) (suc d))) (T G caps (suc k) (suc d) (v - draw G (suc d)))) top
 
   -- what the cell of T(a, ca, v) holds when the slots before a + j are done, and there the colours before d

@@ -1,14 +1,15 @@
 -- The one-sided walk as code follows it: what is asked of a sheet, its open labels, the strips between them, the table's rules, and
 -- the walk.
-use mathlib.Core.Bool.{Bool, true, false, cond, not, _&&_, _||_}
+use mathlib.Core.Bool.{Bool, cond, not, _&&_, _||_}
 use mathlib.Core.Option.{Option}
 use mathlib.Core.List.{List, [], _∷_}
 use Prim.Native.Nat.{ℕ, zero, suc, _+_, _-_}
-use lib.Dec.{eqb, leb, ltb}
+use lib.Dec.{eqb, ltb}
 use lib.ListN.{getD, set, replicate}
 use Rattle.search.specs.Radix.{below}
 use Rattle.search.specs.Plan.{Rules, Rest}
 use Rattle.search.specs.Walk.{Process, answerBy}
+use Rattle.optimum.specs.Slots.{Slots, over, under, farFrom, clearFrom}
 
 -- a site: x, y and its colour
 pub record Point : Type 0 where
@@ -27,15 +28,9 @@ pub record Strip : Type 0 where
 
 -- what the table and the walk ask of a sheet
 pub record Instance : Type 0 where
-  -- how many slots; the cost that stands for none; a slot's height
-  pub m : ℕ
+  -- its slots; the cost that stands for none; the length of the backbone that a site at x opens
+  pub slots : Slots
   pub top : ℕ
-  pub height : ℕ → ℕ
-  -- two labels, each by slot and colour + 1, are far enough apart; a label at a slot is clear of a site of height y
-  pub far : ℕ → ℕ → ℕ → ℕ → Bool
-  pub clear : ℕ → ℕ → Bool
-  -- a site's share of the length, by slot and height; the length of the backbone that a site at x opens
-  pub share : ℕ → ℕ → ℕ
   pub lead : ℕ → ℕ
   -- a site may open a label at a slot, by its colour's bound; and by the sites left of the label's tip
   pub may : Point → ℕ → Bool
@@ -51,46 +46,29 @@ pub record Instance : Type 0 where
   pub word : ℕ → ℕ → ℕ
 
 module _ (P : Instance) where
-  open Instance P using (m, top, height, far, clear, share, lead, may, tip, kinds, turn, held, drawOf, radices, word)
+  open Instance P using (slots, top, lead, may, tip, kinds, turn, held, drawOf, radices, word)
+  open Slots slots using (m, height, share)
 
   -- ---- strips and steps
 
-  -- the edge or label a stands above the height y; b stands below it
-  unfoldable pub over : ℕ → ℕ → Bool
-  over zero y = true
-  over (suc k) y = leb (height k) y
-
-  unfoldable pub under : ℕ → ℕ → Bool
-  under zero y = false
-  under (suc k) y = leb m k || ltb y (height k)
-
   unfoldable pub inside : Strip → Point → Bool
-  inside p s = over (p .a) (s .y) && under (p .b) (s .y)
-
-  -- the edge, or the label of colour e that bounds a strip, lets a label of colour c be at k; is clear of the height y
-  unfoldable pub farFrom : ℕ → ℕ → ℕ → ℕ → Bool
-  farFrom zero e k c = true
-  farFrom (suc j) e k c = leb m j || far j e k c
-
-  unfoldable pub clearFrom : ℕ → ℕ → Bool
-  clearFrom zero y = true
-  clearFrom (suc j) y = leb m j || clear j y
+  inside p s = over slots (p .a) (s .y) && under slots (p .b) (s .y)
 
   -- the site s, which lies in the strip p, may open a label at slot k; may join the label above; the label below
   unfoldable pub opens : Strip → Point → ℕ → Bool
   opens p s k =
-      ltb (p .a) (suc k) && ltb (suc k) (p .b) && ltb k m && farFrom (p .a) (p .ca) k (suc (s .c)) && farFrom (p .b) (p .cb) k (suc (s .c))
-      && clearFrom (p .a) (s .y) && clearFrom (p .b) (s .y) && may s k && tip s k && not (held p s)
+      ltb (p .a) (suc k) && ltb (suc k) (p .b) && ltb k m && farFrom slots (p .a) (p .ca) k (suc (s .c)) && farFrom slots (p .b) (p .cb) k (suc (s .c))
+      && clearFrom slots (p .a) (s .y) && clearFrom slots (p .b) (s .y) && may s k && tip s k && not (held p s)
 
   unfoldable pub joinsUp : Strip → Point → ℕ → Bool
-  joinsUp p s k = eqb (p .a) (suc k) && eqb (p .ca) (suc (s .c)) && clearFrom (p .b) (s .y) && not (held p s)
+  joinsUp p s k = eqb (p .a) (suc k) && eqb (p .ca) (suc (s .c)) && clearFrom slots (p .b) (s .y) && not (held p s)
 
   unfoldable pub joinsDown : Strip → Point → ℕ → Bool
-  joinsDown p s k = eqb (p .b) (suc k) && ltb k m && eqb (p .cb) (suc (s .c)) && clearFrom (p .a) (s .y)
+  joinsDown p s k = eqb (p .b) (suc k) && ltb k m && eqb (p .cb) (suc (s .c)) && clearFrom slots (p .a) (s .y)
 
   unfoldable pub cost : Strip → Point → ℕ → ℕ
   cost p s k =
-      cond (opens p s k) (word 1 (lead (s .x) + share k (s .y))) (cond (joinsUp p s k || joinsDown p s k) (word 0 (share k (s .y))) top)
+      cond (opens p s k) (word 1 (lead (s .x) + share (height k) (s .y))) (cond (joinsUp p s k || joinsDown p s k) (word 0 (share (height k) (s .y))) top)
 
   unfoldable pub draw : Strip → Point → ℕ → ℕ
   draw p s k = cond (opens p s k) (drawOf (s .c)) 0

@@ -2,31 +2,28 @@
 use mathlib.Core.Option.{Option}
 use mathlib.Core.List.{List}
 use Prim.Native.Nat.{ℕ, _+_, _*_}
-use lib.Dec.{eqb}
-use lib.ListN.{length, getD}
+use lib.ListN.{length}
 use Rattle.sheet.specs.Sheet.{Sheet}
-use Rattle.labelling.specs.Layout.{siteAt, heightOf, noColour, siteShare}
+use Rattle.labelling.specs.Layout.{siteAt}
 use Rattle.labelling.specs.Lawful.{rankAt}
-use Rattle.optimum.specs.Budgets.{fullBudget}
+use Rattle.optimum.specs.Budgets.{isUnbounded, fullBudget}
 use Rattle.optimum.specs.CostWord.{topWord}
+use Rattle.optimum.specs.Slots.{sheetSlots}
 use Rattle.optimum.specs.UsedSlots.{Instance, answer}
 unfoldable pub use Rattle.optimum.specs.Budgets.{radicesOf}
 pub use Rattle.optimum.specs.CostWord.{countUnit, lengthUnit}
 
 abbrev pub instanceOf : Sheet → Instance
 instanceOf s = record {
+  slots = sheetSlots s;
   top = topWord;
-  m = length (s .slots);
   n = length (s .sites);
   colours = length (s .colours);
-  dist = s .gap;
   each = countUnit s + s .width * lengthUnit s;
   unit = lengthUnit s;
-  share = siteShare s;
   budget = fullBudget s;
   radices = radicesOf (s .colours);
-  unbounded = λ c. eqb ((getD (s .colours) c noColour) .bound) 255;
-  height = heightOf s;
+  unbounded = isUnbounded s;
   x = rankAt s;
   y = λ i. (siteAt s i) .y;
   colour = λ i. (siteAt s i) .colour;

@@ -1,32 +1,30 @@
 -- The two-sided table over used slots, and the walk that caps the sites one by one, for any instance; TwoSided.antt has a sheet's.
-use mathlib.Core.Bool.{Bool, true, false, cond, _&&_, _||_}
+use mathlib.Core.Bool.{Bool, true, cond, _&&_, _||_}
 use mathlib.Core.Option.{Option, none, some}
 use mathlib.Core.List.{List}
-use Prim.Native.Nat.{ℕ, zero, suc, _+_, _*_, _-_, min}
+use Prim.Native.Nat.{ℕ, zero, suc, _*_, _-_, min}
 use lib.Dec.{ltb, leb, eqb}
 use Rattle.search.specs.Cost.{plus, first}
 use Rattle.search.specs.Walk.{Process, best}
 use Rattle.search.specs.Radix.{digitOf, place}
 use Rattle.search.specs.Sums.{listing, sumTo}
+use Rattle.optimum.specs.Slots.{Slots, over, under, farFrom, clearFrom}
 
 -- what the table and the walk ask of a sheet
 pub record Instance : Type 0 where
-  -- the cost that stands for none; how many slots, sites and colours; the gap
+  -- its slots; the cost that stands for none; how many sites and colours
+  pub slots : Slots
   pub top : ℕ
-  pub m : ℕ
   pub n : ℕ
   pub colours : ℕ
-  pub dist : ℕ
-  -- what a label costs, its backbone included; what a length of one costs; a site's share of the length, by its slot's height and its own
+  -- what a label costs, its backbone included; what a length of one costs
   pub each : ℕ
   pub unit : ℕ
-  pub share : ℕ → ℕ → ℕ
   -- the budget at the start, the radices of its digits, and which colours have no digit
   pub budget : ℕ
   pub radices : List ℕ
   pub unbounded : ℕ → Bool
-  -- a slot's height; a site's rank, height and colour
-  pub height : ℕ → ℕ
+  -- a site's rank, height and colour
   pub x : ℕ → ℕ
   pub y : ℕ → ℕ
   pub colour : ℕ → ℕ
@@ -36,35 +34,13 @@ unfoldable pub put : (ℕ → ℕ) → ℕ → ℕ → ℕ → ℕ
 put caps i p j = cond (eqb j i) p (caps j)
 
 module _ (G : Instance) where
-  open Instance G using (top, m, n, colours, dist, each, unit, share, budget, radices, unbounded, height, x, y, colour)
+  open Instance G using (slots, top, n, colours, each, unit, budget, radices, unbounded, x, y, colour)
+  open Slots slots using (m, height, share)
 
-  -- places down the sheet: 0 the top edge, k + 1 slot k, m + 1 the bottom edge
+  -- the height of a place, 0 at the top edge
   unfoldable pub at : ℕ → ℕ
   at zero = 0
   at (suc k) = height k
-
-  -- the place a stands above the height h or at it; b stands below it
-  unfoldable pub over : ℕ → ℕ → Bool
-  over zero h = true
-  over (suc k) h = leb (height k) h
-
-  unfoldable pub under : ℕ → ℕ → Bool
-  under zero h = false
-  under (suc k) h = leb m k || ltb h (height k)
-
-  -- far enough above, far enough below
-  unfoldable pub clearUp : ℕ → ℕ → Bool
-  clearUp zero h = true
-  clearUp (suc k) h = leb (height k + dist) h
-
-  unfoldable pub clearDown : ℕ → ℕ → Bool
-  clearDown zero h = false
-  clearDown (suc k) h = leb m k || leb (h + dist) (height k)
-
-  -- the place a, a label of code ca, lets a label of code d be at slot k below it
-  unfoldable pub farUp : (a ca k d : ℕ) → Bool
-  farUp zero ca k d = true
-  farUp (suc j) ca k d = leb (height j + dist) (height k)
 
   -- a label of code d (0: none; c + 1: colour c) may be opened with v left; what it draws
   unfoldable pub may : ℕ → ℕ → Bool
@@ -82,16 +58,16 @@ module _ (G : Instance) where
 
     -- site i in the strip between a (code ca) and b (code cb): to a, to b, the cheaper
     unfoldable pub upCost : (a ca b i : ℕ) → ℕ
-    upCost a ca b i = cond (eqb ca (suc (colour i)) && (clearDown b (y i) && allows i a)) (share (at a) (y i) * unit) top
+    upCost a ca b i = cond (eqb ca (suc (colour i)) && (clearFrom slots b (y i) && allows i a)) (share (at a) (y i) * unit) top
 
     unfoldable pub downCost : (a b cb i : ℕ) → ℕ
-    downCost a b cb i = cond (eqb cb (suc (colour i)) && (clearUp a (y i) && allows i b)) (share (at b) (y i) * unit) top
+    downCost a b cb i = cond (eqb cb (suc (colour i)) && (clearFrom slots a (y i) && allows i b)) (share (at b) (y i) * unit) top
 
     unfoldable pub siteCost : (a ca b cb i : ℕ) → ℕ
     siteCost a ca b cb i = min (upCost a ca b i) (downCost a b cb i)
 
     unfoldable pub inside : (a b i : ℕ) → Bool
-    inside a b i = over a (y i) && under b (y i)
+    inside a b i = over slots a (y i) && under slots b (y i)
 
     -- S(a, ca, b, cb)
     unfoldable pub strip : (a ca b cb : ℕ) → ℕ
@@ -103,7 +79,7 @@ module _ (G : Instance) where
 
     unfoldable pub price : State → ℕ → ℕ → ℕ
     price s k zero = 0
-    price s k (suc c) = cond (farUp (s .0) (s .1) k (suc c) && may (suc c) (s .2)) (plus top each (strip (s .0) (s .1) (suc k) (suc c))) top
+    price s k (suc c) = cond (farFrom slots (s .0) (s .1) k (suc c) && may (suc c) (s .2)) (plus top each (strip (s .0) (s .1) (suc k) (suc c))) top
 
     unfoldable pub next : State → ℕ → ℕ → State
     next s k zero = s

@@ -10,8 +10,11 @@ use lib.ListN.{length, getD}
 use borrow.Author.Tests.{leb-true, le-leb, lt-leb, lt-ltb, le-ltb}
 use Rattle.lists.proofs.Tests.{by-order}
 use Rattle.labelling.specs.Layout.{apart}
-use Rattle.optimum.specs.Strips.{Point, Strip, Instance, farFrom}
+use Rattle.optimum.specs.Slots.{farFrom}
+use Rattle.optimum.specs.Strips.{Point, Strip, Instance}
 use Rattle.arrays.specs.declared.Measures.{Measures}
+use Rattle.optimum.proofs.Slots.{rise-le}
+use Rattle.arrays.specs.Arrays.{slotsBy}
 use Rattle.strips.specs.declared.Window.{Window}
 use Rattle.strips.specs.Strips.{instanceOn, gapLeft, FirstFar, FarEnd, WindowOf}
 
@@ -29,20 +32,16 @@ module _ (q : Measures) (hs bs : List ℕ) (rising : (j k : ℕ) → j < k → k
   abbrev P : Instance
   P = instanceOn q hs bs
 
-  -- heights do not fall
-  rises : (j k : ℕ) → j ≤ k → k < length hs → getD hs j 0 ≤ getD hs k 0
-  rises j k h l = by-order k j (λ e. let f : j ≡ k = omega arith in rw f (omega arith)) (λ e. omega (arith, rising j k e l))
-
   -- further down from the upper end, further up from the lower one
-  far-down : (a e j k c : ℕ) → a ≤ j → j ≤ k → k < length hs → farFrom P a e j c ≡ true → farFrom P a e k c ≡ true
+  far-down : (a e j k c : ℕ) → a ≤ j → j ≤ k → k < length hs → farFrom (P .slots) a e j c ≡ true → farFrom (P .slots) a e k c ≡ true
   unfolding farFrom
   far-down zero e j k c ha hj hk f = refl
   far-down (suc i) e j k c ha hj hk f =
       let m : leb (length hs) i ≡ false = lt-leb (length hs) i (omega arith) in
       let d : q .gap ≤ apart (getD hs i 0) (getD hs j 0) = leb-true _ _ (rw m at f) in
-      rw m (le-leb (q .gap) (apart (getD hs i 0) (getD hs k 0)) (omega (arith, rising i j ha (omega arith), rises j k hj hk)))
+      rw m (le-leb (q .gap) (apart (getD hs i 0) (getD hs k 0)) (omega (arith, rising i j ha (omega arith), rise-le (slotsBy q hs) rising j k hj hk)))
 
-  far-up : (b e j k c : ℕ) → j ≤ k → k + 1 < b → farFrom P b e k c ≡ true → farFrom P b e j c ≡ true
+  far-up : (b e j k c : ℕ) → j ≤ k → k + 1 < b → farFrom (P .slots) b e k c ≡ true → farFrom (P .slots) b e j c ≡ true
   unfolding farFrom
   far-up zero e j k c hj hb f = refl
   far-up (suc i) e j k c hj hb f =
@@ -51,7 +50,7 @@ module _ (q : Measures) (hs bs : List ℕ) (rising : (j k : ℕ) → j < k → k
       (λ l.
       let m : leb (length hs) i ≡ false = lt-leb (length hs) i l in
       let d : q .gap ≤ apart (getD hs i 0) (getD hs k 0) = leb-true _ _ (rw m at f) in
-      rw m (le-leb (q .gap) (apart (getD hs i 0) (getD hs j 0)) (omega (arith, rising k i (omega arith) l, rises j k hj (omega arith)))))
+      rw m (le-leb (q .gap) (apart (getD hs i 0) (getD hs j 0)) (omega (arith, rising k i (omega arith) l, rise-le (slotsBy q hs) rising j k hj (omega arith)))))
 
   module _ (p : Strip) (s : Point) (w : Window) (low : p .b < length hs + 2) (u : FirstFar P p s (w .from)) (v : FarEnd P p s (w .from) (w .to)) where
     leaves : (k : ℕ) → p .a ≤ k → k + 1 < p .b → gapLeft P p s k ≡ leb (w .from) k && ltb k (w .to)

@@ -6,7 +6,8 @@ use Prim.Native.Nat.{ℕ, suc, _+_, _*_, _-_, _<_, _≤_}
 use lib.Dec.{leb, ltb}
 use lib.ListN.{length, getD}
 use Rattle.labelling.specs.Layout.{apart}
-use Rattle.optimum.specs.Strips.{Point, Strip, Instance, farFrom, clearFrom}
+use Rattle.optimum.specs.Slots.{farFrom, clearFrom}
+use Rattle.optimum.specs.Strips.{Point, Strip, Instance}
 use Rattle.arrays.specs.declared.Measures.{Measures}
 use Rattle.arrays.specs.Arrays.{instanceBy}
 use Rattle.strips.specs.declared.Strip as held
@@ -38,24 +39,24 @@ pub record Small (bounds : List ℕ) (colour slot : ℕ) : Type 0 where
 
 -- of what `opens` asks: both ends of the strip are far enough from slot k; and that which does not turn on the slot
 unfoldable pub gapLeft : Instance → Strip → Point → ℕ → Bool
-gapLeft P p s k = farFrom P (p .a) (p .ca) k (suc (s .c)) && farFrom P (p .b) (p .cb) k (suc (s .c))
+gapLeft P p s k = farFrom (P .slots) (p .a) (p .ca) k (suc (s .c)) && farFrom (P .slots) (p .b) (p .cb) k (suc (s .c))
 
 unfoldable pub siteOpens : Instance → Strip → Point → Bool
-siteOpens P p s = clearFrom P (p .a) (s .y) && clearFrom P (p .b) (s .y) && P .may s 0
+siteOpens P p s = clearFrom (P .slots) (p .a) (s .y) && clearFrom (P .slots) (p .b) (s .y) && P .may s 0
 
 -- of the slots between the strip's ends, from its upper end on: the first that this end lets open a label
 pub record FirstFar (P : Instance) (p : Strip) (s : Point) (first : ℕ) : Type 0 where
   pub low : p .a ≤ first
   pub high : p .a < first → first < p .b
-  pub near : (k : ℕ) → p .a ≤ k → k < first → farFrom P (p .a) (p .ca) k (s .c + 1) ≡ false
-  pub far : first + 1 < p .b → farFrom P (p .a) (p .ca) first (s .c + 1) ≡ true
+  pub near : (k : ℕ) → p .a ≤ k → k < first → farFrom (P .slots) (p .a) (p .ca) k (s .c + 1) ≡ false
+  pub far : first + 1 < p .b → farFrom (P .slots) (p .a) (p .ca) first (s .c + 1) ≡ true
 
 -- of those, from `from` on: the end of the ones that the lower end lets open a label
 pub record FarEnd (P : Instance) (p : Strip) (s : Point) (from end : ℕ) : Type 0 where
   pub low : from ≤ end
   pub high : from < end → end < p .b
-  pub near : (k : ℕ) → end ≤ k → k + 1 < p .b → farFrom P (p .b) (p .cb) k (s .c + 1) ≡ false
-  pub far : from < end → farFrom P (p .b) (p .cb) (end - 1) (s .c + 1) ≡ true
+  pub near : (k : ℕ) → end ≤ k → k + 1 < p .b → farFrom (P .slots) (p .b) (p .cb) k (s .c + 1) ≡ false
+  pub far : from < end → farFrom (P .slots) (p .b) (p .cb) (end - 1) (s .c + 1) ≡ true
 
 -- the slots between the strip's ends that leave the gap to both are those of the window; where it holds any, it lies between the ends
 pub record WindowOf (P : Instance) (p : Strip) (s : Point) (w : Window) : Type 0 where

@@ -9,6 +9,10 @@ ghost use Rattle.optimum.specs.Strips as model;
 ghost use Rattle.strips.specs.Strips.{instanceOn, stripOf, pointOf, Measured, Small, gapLeft, FirstFar, FarEnd, WindowOf, siteOpens, wordBy, openCost, joinCost};
 use arrays::Measures;
 use drops::apart_of;
+use places::is_clear;
+use places::is_far;
+use places::is_over;
+use places::is_under;
 use words::NONE;
 use words::at_most;
 use words::both;
@@ -39,65 +43,13 @@ pub struct Window {
     pub to: u32,
 }
 
-// The edge or label a stands above the height y or at it.
-fn is_over(q: Measures, heights: &[u32], bounds: &[u32], a: u32, y: u32) -> bool
-    ensures { λ r. ⌜ r ≡ model.over (instanceOn q (now (heights .entry)) (now (bounds .entry))) a y ⌝ }
-{
-    if a == 0 {
-        return true;
-    }
-    at_most(get(heights, a - 1), y)
-}
-
-// The edge or label b stands below the height y.
-fn is_under(q: Measures, heights: &[u32], bounds: &[u32], b: u32, y: u32) -> bool
-    ensures { λ r. ⌜ r ≡ model.under (instanceOn q (now (heights .entry)) (now (bounds .entry))) b y ⌝ }
-{
-    if b == 0 {
-        return false;
-    }
-    let k = b - 1;
-    if heights.len() <= k as usize {
-        return true;
-    }
-    less(y, get(heights, k))
-}
-
 pub fn is_inside(q: Measures, heights: &[u32], bounds: &[u32], p: Strip, s: Site) -> bool
     ensures { λ r. ⌜ r ≡ model.inside (instanceOn q (now (heights .entry)) (now (bounds .entry))) (stripOf p) (pointOf s) ⌝ }
 {
     both(
-        is_over(q, heights, bounds, p.a, s.y),
-        is_under(q, heights, bounds, p.b, s.y),
+        is_over(q, heights, p.a, s.y),
+        is_under(q, heights, p.b, s.y),
     )
-}
-
-// The edge or label j, of colour e, lets a label of colour c be at slot k.
-fn is_far(q: Measures, heights: &[u32], bounds: &[u32], j: u32, e: u32, k: u32, c: u32) -> bool
-    ensures { λ r. ⌜ r ≡ model.farFrom (instanceOn q (now (heights .entry)) (now (bounds .entry))) j e k c ⌝ }
-{
-    if j == 0 {
-        return true;
-    }
-    let i = j - 1;
-    if heights.len() <= i as usize {
-        return true;
-    }
-    at_most(q.gap, apart_of(get(heights, i), get(heights, k)))
-}
-
-// The edge or label j is clear of the height y.
-fn is_clear(q: Measures, heights: &[u32], bounds: &[u32], j: u32, y: u32) -> bool
-    ensures { λ r. ⌜ r ≡ model.clearFrom (instanceOn q (now (heights .entry)) (now (bounds .entry))) j y ⌝ }
-{
-    if j == 0 {
-        return true;
-    }
-    let i = j - 1;
-    if heights.len() <= i as usize {
-        return true;
-    }
-    at_most(q.gap, apart_of(get(heights, i), y))
 }
 
 // Both ends of the strip let a label of the site's colour be at slot k.
@@ -107,8 +59,8 @@ pub fn leaves_gap(q: Measures, heights: &[u32], bounds: &[u32], p: Strip, s: Sit
 {
     let c = s.c + 1;
     both(
-        is_far(q, heights, bounds, p.a, p.ca, k, c),
-        is_far(q, heights, bounds, p.b, p.cb, k, c),
+        is_far(q, heights, p.a, p.ca, k, c),
+        is_far(q, heights, p.b, p.cb, k, c),
     )
 }
 
@@ -121,7 +73,7 @@ fn first_far(q: Measures, heights: &[u32], bounds: &[u32], p: Strip, s: Site) ->
     let end = monus(p.b, 1);
     let mut k = p.a;
     while k < end {
-        if is_far(q, heights, bounds, p.a, p.ca, k, c) {
+        if is_far(q, heights, p.a, p.ca, k, c) {
             return k;
         }
         k += 1;
@@ -137,7 +89,7 @@ fn far_end(q: Measures, heights: &[u32], bounds: &[u32], p: Strip, s: Site, from
     let c = s.c + 1;
     let mut k = monus(p.b, 1);
     while from < k {
-        if is_far(q, heights, bounds, p.b, p.cb, k - 1, c) {
+        if is_far(q, heights, p.b, p.cb, k - 1, c) {
             return k;
         }
         k -= 1;
@@ -163,8 +115,8 @@ pub fn site_opens(q: Measures, heights: &[u32], bounds: &[u32], p: Strip, s: Sit
 {
     let c = s.c as usize;
     let clear = both(
-        is_clear(q, heights, bounds, p.a, s.y),
-        is_clear(q, heights, bounds, p.b, s.y),
+        is_clear(q, heights, p.a, s.y),
+        is_clear(q, heights, p.b, s.y),
     );
     both(clear, is_not(same(bounds[c], 0)))
 }
@@ -196,7 +148,7 @@ pub fn joins_up(q: Measures, heights: &[u32], bounds: &[u32], p: Strip, s: Site,
     ensures { λ r. ⌜ r ≡ model.joinsUp (instanceOn q (now (heights .entry)) (now (bounds .entry))) (stripOf p) (pointOf s) k ⌝ }
 {
     let own = both(same(p.a, k + 1), same(p.ca, s.c + 1));
-    both(own, is_clear(q, heights, bounds, p.b, s.y))
+    both(own, is_clear(q, heights, p.b, s.y))
 }
 
 pub fn joins_down(q: Measures, heights: &[u32], bounds: &[u32], p: Strip, s: Site, k: u32) -> bool
@@ -205,7 +157,7 @@ pub fn joins_down(q: Measures, heights: &[u32], bounds: &[u32], p: Strip, s: Sit
 {
     let low = (k as usize) < heights.len();
     let own = both(both(same(p.b, k + 1), low), same(p.cb, s.c + 1));
-    both(own, is_clear(q, heights, bounds, p.a, s.y))
+    both(own, is_clear(q, heights, p.a, s.y))
 }
 
 pub fn joins(q: Measures, heights: &[u32], bounds: &[u32], p: Strip, s: Site, k: u32) -> bool

@@ -14,7 +14,8 @@ use Rattle.search.proofs.Plan.{T-nil}
 use Rattle.optimum.specs.Strips.{Point, Strip, Instance, inside, opens, rulesOf}
 use Rattle.optimum.specs.Cells.{cells}
 use Rattle.optimum.specs.Reached.{noPoint, Asks, Reached, TableOf}
-use Rattle.optimum.proofs.StripsHeld.{Rising, laws}
+use Rattle.optimum.proofs.Slots.{Rising}
+use Rattle.optimum.proofs.StripsHeld.{laws}
 use Rattle.optimum.proofs.Levels.{Row, entry-asked}
 use Rattle.optimum.proofs.Full.{none-at-full}
 use Rattle.optimum.proofs.Loops.{at-drop}
@@ -39,7 +40,7 @@ module _ (q : Measures) (hs bs rs ds xs ys cs : List ℕ) (area : ℕ) (g : Give
   abbrev ss : List Point
   ss = pointsBy xs ys cs
 
-  rising : Rising P
+  rising : Rising (P .slots)
   rising = g .framed .rising
 
   sites-many : length ss ≡ length xs

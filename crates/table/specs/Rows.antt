@@ -42,7 +42,7 @@ pub record Given (q : Measures) (heights bounds radices draws xs ys cs : List �
 abbrev pub LevelRight : (P : Instance) → Measures → List Point → (j : ℕ) → (work : List ℕ) → (base : ℕ) → Type 0
 LevelRight P q ss j work base =
     (p : Strip) (v : ℕ) → Reached P ss j p → v < q .budgets →
-    getD work (base + (rowOf (P .m) (q .colours) p * q .budgets + v)) 0 ≡ T (rulesOf P) (drop j ss) p v
+    getD work (base + (rowOf (P .slots .m) (q .colours) p * q .budgets + v)) 0 ≡ T (rulesOf P) (drop j ss) p v
 
 abbrev pub LevelMarked : (P : Instance) → Measures → List Point → (j : ℕ) → (work : List ℕ) → (base : ℕ) → Type 0
-LevelMarked P q ss j work base = (p : Strip) → Reached P ss j p → Marked work base (P .m) (q .colours) (q .budgets) p
+LevelMarked P q ss j work base = (p : Strip) → Reached P ss j p → Marked work base (P .slots .m) (q .colours) (q .budgets) p

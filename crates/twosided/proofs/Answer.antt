@@ -14,13 +14,14 @@ use Rattle.lists.proofs.Tests.{by-test, by-order, and-l}
 use Rattle.search.specs.Radix.{place}
 use Rattle.sheet.specs.Sheet.{Site, Colour, Sheet, sheetIn, sheetFault, bodyOf, coloursIn, kindOf, rankOf, productOf, workFor}
 use Rattle.sheet.proofs.Accepted.{Sound, sound, sites-coloured}
-use Rattle.labelling.specs.Layout.{tieWords, layoutWords, noColour, siteShare}
+use Rattle.labelling.specs.Layout.{tieWords, layoutWords, siteShare}
 use Rattle.labelling.specs.Entry.{makeFault, makeWork, makeAnswer}
 use Rattle.labelling.specs.Promise.{takesSheet}
 use Rattle.labelling.proofs.Rules.{siteAt}
 use Rattle.labelling.proofs.Members.{rise-at}
 use Rattle.labelling.proofs.Maker.{Result, cleared}
 use Rattle.search.specs.Sums.{listing}
+use Rattle.optimum.specs.Slots.{farEnough, sheetSlots}
 use Rattle.optimum.specs.UsedSlots.{Instance, put, value, leftmost, choose, capAll, ties}
 use Rattle.optimum.specs.TwoSided.{radicesOf, instanceOf}
 use Rattle.optimum.specs.CostWord.{countIn, lengthIn}
@@ -29,7 +30,7 @@ use Rattle.optimum.proofs.TwoSidedAnswer.{steady}
 use Rattle.optimum.proofs.TwoSidedCall.{leastOf, capsOf, two-sided-call, two-sided-none}
 use Rattle.arrays.specs.declared.Measures.{Measures}
 use Rattle.arrays.specs.Arrays.{boundsOf, xsOf, ysOf, coloursOf, radicesBy, drawsBy, radixBy, measuresOf, padded, productBy}
-use Rattle.arrays.proofs.Instances.{xs-at, ys-at, colours-at}
+use Rattle.arrays.proofs.Instances.{bounds-at, xs-at, ys-at, colours-at}
 use Rattle.arrays.proofs.Whole.{front}
 use Rattle.arrays.proofs.Ordered.{radices-long, draws-long, product-positive, product-are}
 use Rattle.usedslots.specs.Table.{none, unitOf, labelCost, instanceBy, tableBy, capsIn, Fits, tableWords}
@@ -120,12 +121,6 @@ unfolding boundsOf
 bounds-long [] = refl
 bounds-long (k ∷ ks) = ap suc (bounds-long ks)
 
-bound-at : (ks : List Colour) (c : ℕ) → getD (boundsOf ks) c 0 ≡ (getD ks c noColour) .bound
-unfolding boundsOf
-bound-at [] c = refl
-bound-at (k ∷ ks) zero = refl
-bound-at (k ∷ ks) (suc c) = bound-at ks c
-
 pub ys-long : (ss : List Site) → length (ysOf ss) ≡ length ss
 unfolding ysOf
 ys-long [] = refl
@@ -171,20 +166,17 @@ module _ (s : Sheet) where
   radices-same (k ∷ ks) = ap (λ (l : List ℕ). radixBy (k .bound) ∷ l) (radices-same ks)
 
   instance-is : instance ≡ instanceOf s
-  unfolding siteShare rankOf
+  unfolding farEnough siteShare rankOf
   instance-is = λ i. record {
+    slots = sheetSlots s;
     top = none;
-    m = length (s .slots);
     n = ys-long (s .sites) i;
     colours = length (s .colours);
-    dist = s .gap;
     each = labelCost (measuresOf s);
     unit = unitOf (measuresOf s);
-    share = siteShare s;
     budget = productOf (s .colours) - 1;
     radices = radices-same (s .colours) i;
-    unbounded = λ c. eqb (bound-at (s .colours) c i) 255;
-    height = λ k. getD (s .slots) k 0;
+    unbounded = λ c. eqb (bounds-at (s .colours) c i) 255;
     x = λ j. xs-at (s .sites) j i;
     y = λ j. ys-at (s .sites) j i;
     colour = λ j. colours-at (s .sites) j i;

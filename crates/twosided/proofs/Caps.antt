@@ -162,8 +162,8 @@ module _ (G : Instance) (w : ℕ) (steady : Steady G w) (caps : List ℕ) (i : �
   in-sites : i < G .n
   in-sites = omega (arith, site .inside, site .long)
 
-  pub narrowed-first : (now : List ℕ) (high last : ℕ) → last ≡ G .m - 1 → ((high ≤ last) × (Reaches G caps w i last → Reaches G caps w i high)) → ((p : ℕ) → set now i p ≡ set caps i p) →
-      Narrowed G caps now w i (G .m - 1) (record { low = 0; high = high })
+  pub narrowed-first : (now : List ℕ) (high last : ℕ) → last ≡ G .slots .m - 1 → ((high ≤ last) × (Reaches G caps w i last → Reaches G caps w i high)) → ((p : ℕ) → set now i p ≡ set caps i p) →
+      Narrowed G caps now w i (G .slots .m - 1) (record { low = 0; high = high })
   narrowed-first now high last z (h, f) o =
       record {
         ordered = omega arith;
@@ -213,7 +213,7 @@ module _ (G : Instance) (w : ℕ) (steady : Steady G w) (caps : List ℕ) (i : �
             omega (arith, k .0, k .1),
           )
 
-  pub narrowed-end : (now : List ℕ) (r : Range) → r .high ≤ r .low → Narrowed G caps now w i (G .m - 1) r → set now i (r .low + 1) ≡ set caps i (suc (choose G w (capsIn caps) i))
+  pub narrowed-end : (now : List ℕ) (r : Range) → r .high ≤ r .low → Narrowed G caps now w i (G .slots .m - 1) r → set now i (r .low + 1) ≡ set caps i (suc (choose G w (capsIn caps) i))
   narrowed-end now r h n =
       let z : r .high ≡ r .low = omega (arith, n .ordered) in
       let reach : value G (put (capsIn caps) i (suc (r .low))) ≤ w = rw (at-set (suc (r .low)), ← z) (n .reached) in

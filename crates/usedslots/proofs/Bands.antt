@@ -17,7 +17,7 @@ use Rattle.arrays.specs.declared.Measures.{Measures}
 use Rattle.usedslots.specs.declared.Label.{Label}
 use Rattle.usedslots.specs.Table.{none, upperAt, lowerAt, insideOf, upFits, downFits, siteOf, stripOf}
 use Rattle.usedslots.specs.Bands.{Between, Codes, Lost, Barred, Starts, Ends, Among, Marks}
-use Rattle.usedslots.proofs.Strips.{sum-ends}
+use Rattle.usedslots.proofs.Strips.{past-over, sum-ends}
 
 -- ---- codes in one number
 
@@ -98,7 +98,7 @@ inside-is hs ys cs zero ca k cb e w =
 inside-is hs ys cs (suc j) ca k cb e w =
     let t : ltb (getD ys (w .site) 0) (getD hs k 0) ≡ true = lt-ltb _ _ (w .above) in
     let u : leb (getD hs j 0) (getD ys (w .site) 0) ≡ true = le-leb _ _ (w .below j refl) in
-    by-test (leb (length hs) k) (λ z. rw (u, z)) (λ z. rw (u, z, t))
+    by-test (leb (length hs) k) (λ z. rw (past-over hs j (getD ys (w .site) 0), u, z)) (λ z. rw (past-over hs j (getD ys (w .site) 0), u, z, t))
 
 site-lost : (q : Measures) (above below : Label) (y c cap : ℕ) → insideOf above below y ≡ true → suc c ≢ above .code → suc c ≢ below .code → siteOf q above below y c cap ≡ none
 unfolding siteOf upFits downFits
@@ -136,8 +136,8 @@ among hs ys (suc j) ca k cb start end s e =
     record {
       few-before = s .few;
       few = e .few;
-      before = λ i l. let z : getD ys i 0 < getD hs j 0 = rw p at (s .higher i l) in rw (lt-leb (getD hs j 0) (getD ys i 0) z);
-      after = λ i l u. by-test (leb (getD hs j 0) (getD ys i 0)) (λ t. rw (t, lt-leb (length hs) k (e .some i l u), le-ltb (getD ys i 0) (getD hs k 0) (e .lower i l u))) (λ t. rw t);
+      before = λ i l. let z : getD ys i 0 < getD hs j 0 = rw p at (s .higher i l) in rw (past-over hs j (getD ys i 0), lt-leb (getD hs j 0) (getD ys i 0) z);
+      after = λ i l u. by-test (leb (getD hs j 0) (getD ys i 0)) (λ t. rw (past-over hs j (getD ys i 0), t, lt-leb (length hs) k (e .some i l u), le-ltb (getD ys i 0) (getD hs k 0) (e .lower i l u))) (λ t. rw (past-over hs j (getD ys i 0), t));
     }
 
 pub site-out : (q : Measures) (above below : Label) (y c cap : ℕ) → insideOf above below y ≡ false → siteOf q above below y c cap ≡ 0

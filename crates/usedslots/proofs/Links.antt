@@ -1,24 +1,27 @@
 -- One link of a row: the label next below, of one colour at one slot. Assumes nothing.
-use mathlib.Core.Path.{_≡_, refl, sym, ap, ap₂, _∙_}
+use mathlib.Core.Path.{_≡_, sym, ap, _∙_}
 use mathlib.Core.Logic.{_≢_}
-use mathlib.Core.Bool.{Bool, true, false, cond, _&&_, _||_}
-use mathlib.Core.List.{List, [], _∷_}
+use mathlib.Core.Bool.{true, false, cond}
+use mathlib.Core.List.{List, []}
 use Prim.Native.Nat.{ℕ, zero, suc, _+_, _*_, _-_, _/_, _%_, _≤_, _<_, min}
-use native.Mathlib.Nat.{mul-le-mul-right, mul-le-mul, mul-comm, mod-lt}
+use native.Mathlib.Nat.{mul-le-mul, mul-comm, mod-lt}
 use native.Mathlib.Omega.{arith}
 use native.Mathlib.Numerals.{add-one}
 use lib.Dec.{ltb, leb, eqb}
-use lib.ListN.{length, getD, set}
+use lib.ListN.{length, getD}
 use lib.Arith.{mod-mul}
 use borrow.Author.Tests.{le-leb, lt-leb, lt-ltb, le-ltb, eq-eqb, ne-eqb}
-use Rattle.lists.proofs.Tests.{by-test, by-order, by-equal}
+use Rattle.lists.proofs.Places.{default-any}
+use Rattle.lists.proofs.Tests.{by-test, by-equal}
 use Rattle.search.specs.Cost.{plus}
-use Rattle.search.specs.Radix.{digitOf, place}
-use Rattle.optimum.specs.UsedSlots.{Instance, farUp, may, draw, strip, T}
+use Rattle.search.specs.Radix.{place}
+use Rattle.optimum.specs.Slots.{farFrom}
+use Rattle.optimum.specs.UsedSlots.{Instance, may, draw, strip, T}
 use Rattle.optimum.specs.Rows.{link, acc, cell}
 use Rattle.optimum.proofs.Rows.{link-near, link-spent, link-lost, link-is, acc-le, acc-start, acc-link, acc-next, acc-same, acc-end, cell-low, digit-flat}
 use Rattle.arrays.specs.declared.Measures.{Measures}
-use Rattle.usedslots.specs.Table.{none, labelCost, tableBy, capsIn, farAt, upperAt, lowerAt, stripOf, linked, Blocks, sizeOf, Fits, tableWords, RightFrom, RowTo, RowOf}
+use Rattle.arrays.specs.Arrays.{slotsBy}
+use Rattle.usedslots.specs.Table.{none, labelCost, tableBy, capsIn, upperAt, lowerAt, stripOf, linked, Blocks, sizeOf, Fits, tableWords, RightFrom, RowTo, RowOf}
 use Rattle.usedslots.specs.Bands.{Lost, Barred}
 use Rattle.usedslots.proofs.Strips.{strip-is}
 use Rattle.usedslots.proofs.Bands.{lost-strip, lost-down}
@@ -82,19 +85,23 @@ module _ (q : Measures) (hs bs rs ds ys cs caps : List ℕ) (f : Fits q hs bs rs
       q .budgets ≤ row → from + q .budgets ≤ work → Blocks row work from (q .budgets) sk sz
   blocks-of row work from sk sz e₁ e₂ h l = let z : sz ≡ size = rw e₁ at e₂ in rw (e₁, z) (blocks row work from h l)
 
+  -- the colour's bound, which stands in the array
+  bound-in : getD bs d 255 ≡ getD bs d 0
+  bound-in = default-any bs d 255 0 (omega (arith, f .bounds-long))
+
   -- a label may be opened just at the places of a block that are not skipped
   pub may-is : (v : ℕ) → may (tableBy q hs bs rs ys cs) (suc d) v ≡ leb skip (v % size)
   unfolding may
   may-is v =
       by-test (eqb (getD bs d 0) 255)
-      (λ e. let z : skip ≡ 0 = f .draws d in-colours ∙ rw e in rw (z, e) (sym (le-leb 0 (v % q .budgets) (omega arith))))
+      (λ e. let z : skip ≡ 0 = f .draws d in-colours ∙ rw e in rw (bound-in, z, e) (sym (le-leb 0 (v % q .budgets) (omega arith))))
       (λ e.
       let z : skip ≡ place rs d = f .draws d in-colours ∙ rw e in
-      rw (z, e, digit-flat rs d v (omega (arith, f .radices-long))) (digit-block (place rs d) (getD rs d 0) v (parts .0) (parts .1)))
+      rw (bound-in, z, e, digit-flat rs d v (omega (arith, f .radices-long))) (digit-block (place rs d) (getD rs d 0) v (parts .0) (parts .1)))
 
   pub draw-is : draw (tableBy q hs bs rs ys cs) (suc d) ≡ skip
   unfolding draw
-  draw-is = sym (f .draws d in-colours)
+  draw-is = rw bound-in (sym (f .draws d in-colours))
 
   module _ (a ca j : ℕ) where
     abbrev G : Instance
@@ -103,24 +110,16 @@ module _ (q : Measures) (hs bs rs ds ys cs caps : List ℕ) (f : Fits q hs bs rs
     abbrev fx : ℕ → ℕ
     fx = capsIn caps
 
-    pub far-is : (k : ℕ) → farAt q hs a ca k (suc d) ≡ farUp G a ca k (suc d)
-    unfolding farUp
-    far-is k = go a
-      where
-        go : (a : ℕ) → farAt q hs a ca k (suc d) ≡ farUp G a ca k (suc d)
-        go zero = refl
-        go (suc i) = refl
-
     -- too near, or with a site that has neither neighbour: nothing changes
-    pub row-near : (row : List ℕ) → farAt q hs a ca (a + j) (suc d) ≡ false → RowTo G fx row (q .budgets) a ca j d → RowTo G fx row (q .budgets) a ca j (suc d)
-    row-near row e h v l = h v l ∙ sym (acc-same G fx a ca v j d (link-near G fx a ca v (a + j) d (sym (far-is (a + j)) ∙ e)))
+    pub row-near : (row : List ℕ) → farFrom (slotsBy q hs) a ca (a + j) (suc d) ≡ false → RowTo G fx row (q .budgets) a ca j d → RowTo G fx row (q .budgets) a ca j (suc d)
+    row-near row e h v l = h v l ∙ sym (acc-same G fx a ca v j d (link-near G fx a ca v (a + j) d e))
 
     pub row-lost : (row : List ℕ) → stripOf q (upperAt hs a ca) (lowerAt hs (a + j) (suc d)) ys cs caps ≡ none →
         RowTo G fx row (q .budgets) a ca j d → RowTo G fx row (q .budgets) a ca j (suc d)
     row-lost row e h v l =
         h v l ∙ sym (acc-same G fx a ca v j d (link-lost G fx a ca v (a + j) d (sym (strip-is q hs bs rs ys cs [] caps a ca (a + j) (suc d)) ∙ e)))
 
-    pub row-linked : (row new work : List ℕ) → a + j < length hs → farAt q hs a ca (a + j) (suc d) ≡ true →
+    pub row-linked : (row new work : List ℕ) → a + j < length hs → farFrom (slotsBy q hs) a ca (a + j) (suc d) ≡ true →
         RightFrom G fx work (q .budgets) (suc a) →
         ((v : ℕ) → v < q .budgets → getD new v 0 ≡
         linked row work (cell (q .colours) (q .budgets) (suc (a + j)) (suc d) 0) skip size
@@ -144,7 +143,7 @@ module _ (q : Measures) (hs bs rs ds ys cs caps : List ℕ) (f : Fits q hs bs rs
             (plus none (labelCost q) (stripOf q (upperAt hs a ca) (lowerAt hs (a + j) (suc d)) ys cs caps)) v ≡ min (acc G fx a ca v j d) (link G fx a ca v (a + j) d)
         taken t =
             rw (t, h v l, entry, strip-is q hs bs rs ys cs [] caps a ca (a + j) (suc d))
-            (ap (min (acc G fx a ca v j d)) (sym (link-is G fx a ca v (a + j) d (sym (far-is (a + j)) ∙ far) (may-is v ∙ t) ∙ rw draw-is)))
+            (ap (min (acc G fx a ca v j d)) (sym (link-is G fx a ca v (a + j) d far (may-is v ∙ t) ∙ rw draw-is)))
 
         left : leb skip (v % size) ≡ false → linked row work (cell (q .colours) (q .budgets) (suc (a + j)) (suc d) 0) skip size
             (plus none (labelCost q) (stripOf q (upperAt hs a ca) (lowerAt hs (a + j) (suc d)) ys cs caps)) v ≡ min (acc G fx a ca v j d) (link G fx a ca v (a + j) d)
@@ -157,7 +156,7 @@ module _ (q : Measures) (hs bs rs ds ys cs caps : List ℕ) (f : Fits q hs bs rs
     pub row-links : (row new work : List ℕ) (from sk sz strip cost : ℕ) →
         from ≡ cell (q .colours) (q .budgets) (a + j + 1) (d + 1) 0 → sk ≡ skip → sz ≡ sizeOf (q .budgets) (getD bs d 0) sk (getD rs d 0) →
         strip ≡ stripOf q (upperAt hs a ca) (lowerAt hs (a + j) (d + 1)) ys cs caps → cost ≡ plus none (labelCost q) strip →
-        a + j < length hs → farAt q hs a ca (a + j) (d + 1) ≡ true → RightFrom G fx work (q .budgets) (suc a) →
+        a + j < length hs → farFrom (slotsBy q hs) a ca (a + j) (d + 1) ≡ true → RightFrom G fx work (q .budgets) (suc a) →
         ((v : ℕ) → v < q .budgets → getD new v 0 ≡ linked row work from sk sz cost v) →
         RowTo G fx row (q .budgets) a ca j d → RowTo G fx new (q .budgets) a ca j (suc d)
     row-links row new work from sk sz strip cost e₁ e₂ e₃ e₄ e₅ below far right e h =

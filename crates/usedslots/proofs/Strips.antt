@@ -1,35 +1,40 @@
 -- A strip's sum over arrays is the model's. Assumes nothing.
-use mathlib.Core.Path.{_≡_, refl, sym, ap, ap₂, _∙_}
-use mathlib.Core.Bool.{Bool, true, false, cond, _&&_, _||_}
-use mathlib.Core.List.{List, [], _∷_}
-use Prim.Native.Nat.{ℕ, zero, suc, _+_, _*_, _-_, _%_, _≤_, _<_, min}
+use mathlib.Core.Path.{_≡_, refl, sym}
+use mathlib.Core.Bool.{false, cond, _||_}
+use mathlib.Core.List.{List, []}
+use Prim.Native.Nat.{ℕ, zero, suc, _+_, _*_, _-_, _≤_, _<_}
 use native.Mathlib.Omega.{arith}
 use native.Mathlib.Numerals.{add-one}
-use lib.Dec.{ltb, leb, eqb}
-use lib.ListN.{length, getD}
-use Rattle.lists.proofs.Tests.{by-test}
+use lib.Dec.{leb}
+use lib.ListN.{length, getD, List·getD-eq-default}
+use borrow.Author.Tests.{le-leb, lt-leb}
+use Rattle.lists.proofs.Tests.{by-test, by-order}
 use Rattle.search.specs.Cost.{plus}
 use Rattle.search.specs.Sums.{sumTo}
 use Rattle.search.proofs.CappedSums.{sum-cong, sum-le, sum-top}
-use Rattle.optimum.specs.UsedSlots.{Instance, at, over, under, clearUp, clearDown, farUp, may, draw, allows, upCost, downCost, siteCost, inside, strip, price, next, final, below, T, value}
+use Rattle.optimum.specs.Slots.{over, under, farFrom, clearFrom}
+use Rattle.optimum.specs.UsedSlots.{at, may, draw, allows, upCost, downCost, siteCost, inside, strip, price, next, final, below, T, value}
 use Rattle.arrays.specs.declared.Measures.{Measures}
-use Rattle.usedslots.specs.Table.{none, unitOf, labelCost, instanceBy, capsIn, farAt, upperAt, lowerAt, insideOf, upFits, downFits, siteOf, stripOf}
+use Rattle.usedslots.specs.Table.{none, labelCost, instanceBy, capsIn, upperAt, lowerAt, insideOf, upFits, downFits, siteOf, stripOf}
+
+-- past the slots a height is 0, which stands over all
+pub past-over : (hs : List ℕ) (j y : ℕ) → leb (length hs) j || leb (getD hs j 0) y ≡ leb (getD hs j 0) y
+past-over hs j y =
+    by-order (length hs) j
+    (λ h. rw (le-leb (length hs) j h, List·getD-eq-default hs 0 h, le-leb 0 y (omega arith)))
+    (λ h. rw (lt-leb (length hs) j h))
 
 site-is : (q : Measures) (hs bs rs ys cs xs caps : List ℕ) (a ca k cb i : ℕ) →
     siteOf q (upperAt hs a ca) (lowerAt hs k cb) (getD ys i 0) (getD cs i 0) (getD caps i 0) ≡
     cond (inside (instanceBy q hs bs rs ys cs xs) (capsIn caps) a (suc k) i) (siteCost (instanceBy q hs bs rs ys cs xs) (capsIn caps) a ca (suc k) cb i) 0
-unfolding at over under clearUp clearDown allows upCost downCost siteCost inside insideOf upFits downFits siteOf
+unfolding at over under clearFrom allows upCost downCost siteCost inside insideOf upFits downFits siteOf
 site-is q hs bs rs ys cs xs caps zero ca k cb i = refl
-site-is q hs bs rs ys cs xs caps (suc j) ca k cb i = refl
+site-is q hs bs rs ys cs xs caps (suc j) ca k cb i = rw (past-over hs j (getD ys i 0))
 
 -- a label that is no edge
-pub upper-label : (hs : List ℕ) (a ca : ℕ) → (a ≡ 0 → ⊥) → upperAt hs a ca ≡ record { edge = false; place = a; code = ca; height = getD hs (a - 1) 0 }
-upper-label hs zero ca h = absurd (h refl)
-upper-label hs (suc j) ca h = let e : suc j - 1 ≡ j = omega arith in rw e
-
-pub far-label : (q : Measures) (hs : List ℕ) (a ca k d : ℕ) → (a ≡ 0 → ⊥) → farAt q hs a ca k d ≡ leb (getD hs (a - 1) 0 + q .gap) (getD hs k 0)
-far-label q hs zero ca k d h = absurd (h refl)
-far-label q hs (suc j) ca k d h = let e : suc j - 1 ≡ j = omega arith in rw e
+pub upper-label : (hs : List ℕ) (a ca : ℕ) → (a ≡ 0 → ⊥) → a ≤ length hs → upperAt hs a ca ≡ record { edge = false; place = a; code = ca; height = getD hs (a - 1) 0 }
+upper-label hs zero ca h l = absurd (h refl)
+upper-label hs (suc j) ca h l = let e : suc j - 1 ≡ j = omega arith in rw (e, lt-leb (length hs) j l)
 
 pub strip-is : (q : Measures) (hs bs rs ys cs xs caps : List ℕ) (a ca k cb : ℕ) →
     stripOf q (upperAt hs a ca) (lowerAt hs k cb) ys cs caps ≡ strip (instanceBy q hs bs rs ys cs xs) (capsIn caps) a ca (suc k) cb
@@ -38,7 +43,7 @@ strip-is q hs bs rs ys cs xs caps a ca k cb = sum-cong none _ _ (length ys) (λ 
 
 -- the ranks have no part in it
 pub value-ranks : (q : Measures) (hs bs rs ys cs xs : List ℕ) (fx : ℕ → ℕ) → value (instanceBy q hs bs rs ys cs xs) fx ≡ value (instanceBy q hs bs rs ys cs []) fx
-unfolding value T below price next final strip siteCost upCost downCost inside over under clearUp clearDown farUp allows at may draw
+unfolding value T below price next final strip siteCost upCost downCost inside over under farFrom clearFrom allows at may draw
 value-ranks q hs bs rs ys cs xs fx = refl
 
 -- a sum in a loop: one term more, and an end where it comes to none

@@ -1,7 +1,7 @@
 -- The two-sided table's instance from arrays, as code holds them, and what its functions answer, strip by strip and row by row. Definitions.
 use mathlib.Core.Path.{_≡_}
-use mathlib.Core.Bool.{Bool, true, false, cond, _&&_, _||_}
-use mathlib.Core.List.{List, [], _∷_}
+use mathlib.Core.Bool.{Bool, true, cond, _&&_, _||_}
+use mathlib.Core.List.{List, []}
 use Prim.Native.Nat.{ℕ, zero, suc, _+_, _*_, _-_, _%_, _≤_, _<_, min}
 use lib.Dec.{ltb, leb, eqb}
 use lib.ListN.{length, getD, drop}
@@ -12,6 +12,7 @@ use Rattle.search.specs.Sums.{sumTo}
 use Rattle.optimum.specs.UsedSlots.{Instance, T}
 use Rattle.optimum.specs.Rows.{cell, acc}
 use Rattle.arrays.specs.declared.Measures.{Measures}
+use Rattle.arrays.specs.Arrays.{slotsBy}
 use Rattle.usedslots.specs.declared.Label.{Label}
 
 abbrev pub none : ℕ
@@ -30,18 +31,15 @@ labelCost q = cond (q .shortest) 1 33554432 + q .width * unitOf q
 abbrev pub instanceBy : Measures → (heights bounds radices ys colours ranks : List ℕ) → Instance
 instanceBy q hs bs rs ys cs xs =
     record {
+      slots = slotsBy q hs;
       top = none;
-      m = length hs;
       n = length ys;
       colours = q .colours;
-      dist = q .gap;
       each = labelCost q;
       unit = unitOf q;
-      share = λ h y. apart h y;
       budget = q .budgets - 1;
       radices = rs;
-      unbounded = λ c. eqb (getD bs c 0) 255;
-      height = λ k. getD hs k 0;
+      unbounded = λ c. eqb (getD bs c 255) 255;
       x = λ i. getD xs i 0;
       y = λ i. getD ys i 0;
       colour = λ i. getD cs i 0;
@@ -60,15 +58,10 @@ capsIn caps i = getD caps i 0
 -- the label or edge at a place, as a strip's upper end; slot k or the bottom edge, as its lower end
 abbrev pub upperAt : (heights : List ℕ) → (a code : ℕ) → Label
 upperAt hs zero ca = record { edge = true; place = 0; code = ca; height = 0 }
-upperAt hs (suc j) ca = record { edge = false; place = suc j; code = ca; height = getD hs j 0 }
+upperAt hs (suc j) ca = record { edge = leb (length hs) j; place = suc j; code = ca; height = getD hs j 0 }
 
 abbrev pub lowerAt : (heights : List ℕ) → (k code : ℕ) → Label
 lowerAt hs k cb = record { edge = leb (length hs) k; place = suc k; code = cb; height = getD hs k 0 }
-
--- the label at a place, of code ca, lets one of code d be at slot k below it
-abbrev pub farAt : Measures → (heights : List ℕ) → (a ca k d : ℕ) → Bool
-farAt q hs zero ca k d = true
-farAt q hs (suc j) ca k d = leb (getD hs j 0 + q .gap) (getD hs k 0)
 
 -- a site of height y lies between them
 unfoldable pub insideOf : Label → Label → (y : ℕ) → Bool
@@ -76,10 +69,10 @@ insideOf a b y = (a .edge || leb (a .height) y) && (b .edge || ltb y (b .height)
 
 -- it may be tied to the upper one, to the lower one
 unfoldable pub upFits : Measures → Label → Label → (y colour cap : ℕ) → Bool
-upFits q a b y c cap = eqb (a .code) (suc c) && ((b .edge || leb (y + q .gap) (b .height)) && (eqb cap 0 || leb (a .place) cap))
+upFits q a b y c cap = eqb (a .code) (suc c) && ((b .edge || leb (q .gap) (apart (b .height) y)) && (eqb cap 0 || leb (a .place) cap))
 
 unfoldable pub downFits : Measures → Label → Label → (y colour cap : ℕ) → Bool
-downFits q a b y c cap = eqb (b .code) (suc c) && ((a .edge || leb (a .height + q .gap) y) && (eqb cap 0 || leb (b .place) cap))
+downFits q a b y c cap = eqb (b .code) (suc c) && ((a .edge || leb (q .gap) (apart (a .height) y)) && (eqb cap 0 || leb (b .place) cap))
 
 -- its cost tied to one of them, to the better of the two, or 0 outside
 abbrev pub tieCost : Measures → (fits : Bool) → (height y : ℕ) → ℕ
@@ -148,7 +141,7 @@ tableWords q hs = (length hs + 2) * (q .colours + 1) * q .budgets
 -- the table's entries from the place a on are right
 abbrev pub RightFrom : Instance → (caps : ℕ → ℕ) → (work : List ℕ) → (P a : ℕ) → Type 0
 RightFrom G fx w P a =
-    (b cb v : ℕ) → a ≤ b → b ≤ G .m → 1 ≤ cb → cb ≤ G .colours → v < P → getD w (cell (G .colours) P b cb v) 0 ≡ T G fx b cb v
+    (b cb v : ℕ) → a ≤ b → b ≤ G .slots .m → 1 ≤ cb → cb ≤ G .colours → v < P → getD w (cell (G .colours) P b cb v) 0 ≡ T G fx b cb v
 
 -- a row of budgets holds the least costs of the place a with the code ca: so far, j slots below it done and d colours at the next; and whole
 abbrev pub RowTo : Instance → (caps : ℕ → ℕ) → (row : List ℕ) → (P a ca j d : ℕ) → Type 0

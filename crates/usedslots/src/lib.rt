@@ -10,10 +10,12 @@ ghost use Rattle.labelling.specs.Layout.{apart};
 ghost use Rattle.search.specs.Cost.{plus};
 ghost use Rattle.optimum.specs.UsedSlots.{value};
 ghost use Rattle.optimum.specs.Rows.{cell};
-ghost use Rattle.usedslots.specs.Table.{none, unitOf, labelCost, upperAt, lowerAt, farAt, insideOf, upFits, downFits, tieCost, siteOf, stripOf, relaxed, linked, Blocks, sizeOf, Fits, tableWords, tableBy, capsIn, RightFrom, RowTo, RowOf, Stored};
+ghost use Rattle.usedslots.specs.Table.{none, unitOf, labelCost, upperAt, lowerAt, insideOf, upFits, downFits, tieCost, siteOf, stripOf, relaxed, linked, Blocks, sizeOf, Fits, tableWords, tableBy, capsIn, RightFrom, RowTo, RowOf, Stored};
 ghost use Rattle.usedslots.specs.Bands.{Between, Codes, Barred, Starts, Ends, Among, Marks};
 use arrays::Measures;
 use drops::apart_of;
+use places::is_clear_at;
+use places::is_far;
 use words::NONE;
 use words::at_most;
 use words::both;
@@ -35,27 +37,6 @@ pub struct Label {
 
 // No code: two sites of a strip have different ones, neither of them that of the label above.
 const ALL_LOST: u32 = 255;
-
-// ---- heights
-
-// A label is clear of a site, the lower of the two far enough below the upper.
-fn is_clear(q: Measures, upper: u32, lower: u32) -> bool
-    ensures { λ r. ⌜ r ≡ leb (upper + q .gap) lower ⌝ }
-{
-    let end = (upper as u64) + (q.gap as u64);
-    end <= lower as u64
-}
-
-// The label at the place a, of one code, lets a label of another code be at slot k below it.
-pub fn is_far(q: Measures, heights: &[u32], a: u32, code: u32, k: u32, below: u32) -> bool
-    ensures { λ r. ⌜ r ≡ farAt q (now (heights .entry)) a code k below ⌝ }
-{
-    if a == 0 {
-        return true;
-    }
-    let end = (get(heights, a - 1) as u64) + (q.gap as u64);
-    end <= get(heights, k) as u64
-}
 
 // ---- one site in a strip
 
@@ -104,7 +85,7 @@ fn fits_up(q: Measures, above: Label, below: Label, y: u32, colour: u32, cap: u3
         return false;
     }
     both(
-        either(below.edge, is_clear(q, y, below.height)),
+        either(below.edge, is_clear_at(q, below.height, y)),
         is_capped(cap, above.place),
     )
 }
@@ -116,7 +97,7 @@ fn fits_down(q: Measures, above: Label, below: Label, y: u32, colour: u32, cap: 
         return false;
     }
     both(
-        either(above.edge, is_clear(q, above.height, y)),
+        either(above.edge, is_clear_at(q, above.height, y)),
         is_capped(cap, below.place),
     )
 }
@@ -178,6 +159,7 @@ fn strip_cost(
 }
 
 fn upper_label(heights: &[u32], a: u32, code: u32) -> Label
+    requires { ⌜ a ≤ length (now heights) ⌝ }
     ensures { λ r. ⌜ r ≡ upperAt (now (heights .entry)) a code ⌝ }
 {
     if a == 0 {
@@ -225,7 +207,7 @@ pub fn strip_between(
     start: u32,
     end: u32,
 ) -> u32
-    requires { ⌜ (length (now colours) ≡ length (now ys)) × (length (now caps) ≡ length (now ys)) × (k < 4294967295) ⌝ }
+    requires { ⌜ (length (now colours) ≡ length (now ys)) × (length (now caps) ≡ length (now ys)) × (a ≤ length (now heights)) × (k < 4294967295) ⌝ }
     requires { ⌜ Starts (now heights) (now ys) a start × Ends (now heights) (now ys) k end ⌝ }
     ensures { λ r. ⌜ r ≡ stripOf q (upperAt (now (heights .entry)) a code) (lowerAt (now (heights .entry)) k below) (now (ys .entry)) (now (colours .entry)) (now (caps .entry)) ⌝ }
 {

@@ -21,7 +21,7 @@ use Rattle.optimum.specs.Strips.{Point, Strip, Instance, rulesOf, hold, draw, s
 use Rattle.optimum.specs.OneSided.{topWord}
 use Rattle.optimum.specs.Cells.{cells, cellOf, joinCells, foldCells, startCells}
 use Rattle.optimum.specs.Reached.{In, noPoint, Reached, TableOf}
-use Rattle.optimum.proofs.StripsHeld.{Rising}
+use Rattle.optimum.proofs.Slots.{Rising}
 use Rattle.optimum.proofs.Levels.{value-rows}
 use Rattle.search.specs.Sums.{listing}
 use Rattle.search.proofs.Sums.{listing-same, length-listing}
@@ -95,7 +95,7 @@ module _ (q : Measures) (hs bs rs ds : List ℕ) where
           (λ e. rw e (fold-same base L r (suc i) (suc i) (getD L i 0) _ (join-long parts counts acc work _ ∙ h)
           ∙ ap (foldCells P C R (drop base work) r (suc i) (suc i) (getD L i 0) L unmarked) (join-same base acc a ca (suc i) (getD L i 0) h)))
 
-      module _ (rising : Rising P) where
+      module _ (rising : Rising (P .slots)) where
         -- THE VALUE of a state is REST over the words, where the rows of its strips hold the table
         pub rest-value : (base : ℕ) (ss : List Point) (L : List ℕ) (v : ℕ) → v < R
             → ((p : Strip) → In p (strips P L unmarked) → (u : ℕ) → u < R → getD work (base + cellOf P C R p u) 0 ≡ T (rulesOf P) ss p u)

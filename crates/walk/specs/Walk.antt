@@ -21,7 +21,7 @@ Found G value x (s ∷ ss) = (chooseBy G value x s ss < G .m) × Found G value (
 
 -- the value of a state with the sites ss left, of n sites in all: REST of their level
 unfoldable pub valueIn : (P : Instance) (parts counts work : List ℕ) (C R n : ℕ) → State P → List Point → ℕ
-valueIn P parts counts work C R n x ss = restRows parts counts work ((n - length ss) * levelSize (P .m) C R) (P .m) C R (x .0) (x .1)
+valueIn P parts counts work C R n x ss = restRows parts counts work ((n - length ss) * levelSize (P .slots .m) C R) (P .slots .m) C R (x .0) (x .1)
 
 -- ---- one step, of the site s in the strip p
 
@@ -39,7 +39,7 @@ budgetLeft P p s v k = v - draw P p s k
 -- slot k keeps the least cost `here`; the next level begins at the word `base`
 abbrev pub keepsCost : (P : Instance) (parts counts work : List ℕ) (base C R : ℕ) → Strip → Point → (labels : List ℕ) → (v here k : ℕ) → Bool
 keepsCost P parts counts work base C R p s L v here k =
-    eqb (plus topWord (priceIn P p s v k) (restRows parts counts work base (P .m) C R (labelled L s k) (budgetLeft P p s v k))) here
+    eqb (plus topWord (priceIn P p s v k) (restRows parts counts work base (P .slots .m) C R (labelled L s k) (budgetLeft P p s v k))) here
 
 -- ---- what is asked of the arrays of a sheet: they are an accepted sheet's
 pub record SheetArrays (q : Measures) (heights bounds radices draws : List ℕ) : Type 0 where
@@ -73,15 +73,15 @@ pub record WalkArrays (q : Measures) (heights bounds radices draws parts counts 
 pub record Standing (P : Instance) (q : Measures) (parts counts work : List ℕ) (points : List Point) (labels out : List ℕ) (j v here : ℕ) : Type 0 where
   pub tied : j ≤ length points
   pub room : length points < length out
-  pub labelsLong : length labels ≡ P .m
+  pub labelsLong : length labels ≡ P .slots .m
   pub coloured : (i : ℕ) → getD labels i 0 < q .colours + 1
   pub budget : v < q .budgets
   pub low : here < topWord
-  pub worth : here ≡ valueIn P parts counts work (q .colours) (q .budgets) (length points) (labels, v, replicate (suc (P .m)) 0) (drop j points)
-  pub found : Found (process P) (valueIn P parts counts work (q .colours) (q .budgets) (length points)) (labels, v, replicate (suc (P .m)) 0) (drop j points)
+  pub worth : here ≡ valueIn P parts counts work (q .colours) (q .budgets) (length points) (labels, v, replicate (suc (P .slots .m)) 0) (drop j points)
+  pub found : Found (process P) (valueIn P parts counts work (q .colours) (q .budgets) (length points)) (labels, v, replicate (suc (P .slots .m)) 0) (drop j points)
 
 -- the answer area with the ties of the walk from there on
 abbrev pub tiedFrom : (P : Instance) (q : Measures) (parts counts work : List ℕ) (points : List Point) (order labels out : List ℕ) (j v : ℕ) → List ℕ
 tiedFrom P q parts counts work points order L out j v =
     writeTies out (drop j order)
-    (walkBy (process P) (valueIn P parts counts work (q .colours) (q .budgets) (length points)) (L, v, replicate (suc (P .m)) 0) (drop j points))
+    (walkBy (process P) (valueIn P parts counts work (q .colours) (q .budgets) (length points)) (L, v, replicate (suc (P .slots .m)) 0) (drop j points))

@@ -1,5 +1,5 @@
-use Rattle.optimum.specs.Strips.{farFrom}
-use Rattle.strips.specs.Strips.{instanceOn}
+use Rattle.optimum.specs.Slots.{farFrom}
+use Rattle.arrays.specs.Arrays.{slotsBy}
 use Rattle.strips.proofs.Windows.{near-up}
 use mathlib.Core.Path.{_≡_, sym, _∙_}
 use mathlib.Core.Bool.{false}
@@ -10,7 +10,7 @@ use Rattle.strips.proofs.far_end.Statement.{statement}
 use Rattle.strips.proofs.far_end.Tie as tie
 
 abbrev Inv-loop : tie.InvT-loop
-Inv-loop q heights bounds p from c k₀ k = (0 < k → k < p .b) × ((j : ℕ) → k ≤ j → j + 1 < p .b → farFrom (instanceOn q heights bounds) (p .b) (p .cb) j c ≡ false)
+Inv-loop q heights bounds p from c k₀ k = (0 < k → k < p .b) × ((j : ℕ) → k ≤ j → j + 1 < p .b → farFrom (slotsBy q heights) (p .b) (p .cb) j c ≡ false)
 
 abbrev μ-loop : tie.MeasureT-loop
 μ-loop q heights bounds p from c k₀ k = k - from

@@ -1,5 +1,5 @@
-use Rattle.optimum.specs.Strips.{farFrom}
-use Rattle.strips.specs.Strips.{instanceOn}
+use Rattle.optimum.specs.Slots.{farFrom}
+use Rattle.arrays.specs.Arrays.{slotsBy}
 use Rattle.strips.proofs.Windows.{near-down}
 use mathlib.Core.Path.{_≡_, sym, _∙_}
 use mathlib.Core.Bool.{false}
@@ -10,7 +10,7 @@ use Rattle.strips.proofs.first_far.Statement.{statement}
 use Rattle.strips.proofs.first_far.Tie as tie
 
 abbrev Inv-loop : tie.InvT-loop
-Inv-loop q heights bounds p c end k₀ k = (p .a ≤ k) × (p .a < k → k < p .b) × ((j : ℕ) → p .a ≤ j → j < k → farFrom (instanceOn q heights bounds) (p .a) (p .ca) j c ≡ false)
+Inv-loop q heights bounds p c end k₀ k = (p .a ≤ k) × (p .a < k → k < p .b) × ((j : ℕ) → p .a ≤ j → j < k → farFrom (slotsBy q heights) (p .a) (p .ca) j c ≡ false)
 
 abbrev μ-loop : tie.MeasureT-loop
 μ-loop q heights bounds p c end k₀ k = end - k

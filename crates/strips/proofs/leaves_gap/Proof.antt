@@ -12,7 +12,7 @@ use Rattle.strips.proofs.leaves_gap.Statement.{statement}
 use Rattle.strips.proofs.leaves_gap.Tie as tie
 use Rattle.strips.proofs.leaves_gap.Reads as reads
 use Rattle.strips.proofs.leaves_gap.Lts as lts
-use Rattle.strips.proofs.is_far.Reads as is-far-reads
+use Rattle.places.proofs.is_far.Reads as is-far-reads
 use Rattle.words.proofs.both.Reads as both-reads
 
 -- src/lib.rt:101:13

@@ -1,5 +1,5 @@
 use Rattle.strips.specs.Strips.{siteOpens}
-use Rattle.strips.proofs.Decisions.{default-any}
+use Rattle.lists.proofs.Places.{default-any}
 use mathlib.Core.Path.{_≡_, refl, ap, sym, _∙_}
 use mathlib.Core.List.{List, [], _∷_, _++_}
 use mathlib.Core.Logic.{⊎-elim}
@@ -13,7 +13,7 @@ use Rattle.strips.proofs.site_opens.Statement.{statement}
 use Rattle.strips.proofs.site_opens.Tie as tie
 use Rattle.strips.proofs.site_opens.Reads as reads
 use Rattle.strips.proofs.site_opens.Lts as lts
-use Rattle.strips.proofs.is_clear.Reads as is-clear-reads
+use Rattle.places.proofs.is_clear.Reads as is-clear-reads
 use Rattle.words.proofs.both.Reads as both-reads
 use Rattle.words.proofs.is_not.Reads as is-not-reads
 use Rattle.words.proofs.same.Reads as same-reads

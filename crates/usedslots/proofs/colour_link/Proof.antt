@@ -1,6 +1,8 @@
 use mathlib.Core.Bool.{true, false}
 use borrow.Author.Tests.{not-true, not-false}
-use Rattle.usedslots.specs.Table.{none, farAt, stripOf, upperAt, lowerAt}
+use Rattle.optimum.specs.Slots.{farFrom}
+use Rattle.arrays.specs.Arrays.{slotsBy}
+use Rattle.usedslots.specs.Table.{none, stripOf, upperAt, lowerAt}
 use Rattle.usedslots.proofs.Links.{product-low, blocks-of, row-near, row-lost, row-links, row-there}
 use mathlib.Core.Path.{_≡_, refl, ap, sym, _∙_}
 use mathlib.Core.List.{List, [], _∷_, _++_}
@@ -16,7 +18,7 @@ use Rattle.usedslots.proofs.colour_link.Tie as tie
 use Rattle.usedslots.proofs.colour_link.Reads as reads
 use Rattle.usedslots.proofs.colour_link.Lts as lts
 use Rattle.usedslots.proofs.block_size.Reads as block-size-reads
-use Rattle.usedslots.proofs.is_far.Reads as is-far-reads
+use Rattle.places.proofs.is_far.Reads as is-far-reads
 use Rattle.usedslots.proofs.link.Reads as link-reads
 use Rattle.usedslots.proofs.link_cost.Reads as link-cost-reads
 use Rattle.usedslots.proofs.row_start.Reads as row-start-reads
@@ -39,7 +41,7 @@ is-far-requires c κs = search needs
 returns : tie.Need-returns
 returns c =
     let a = c .before .before .before .before .before .before .before .before .before .before .before .args in let p = c .before .before .before .before .before .before .before .before .before .before .before .pre in
-    let e : farAt (a .q) (a .heights .now) (a .a) (a .code) (a .a + a .j) (a .d + 1) ≡ false = sym (c .before .is-far .ensures) ∙ not-true _ (c .if1 .taken) in
+    let e : farFrom (slotsBy (a .q) (a .heights .now)) (a .a) (a .code) (a .a + a .j) (a .d + 1) ≡ false = sym (c .before .is-far .ensures) ∙ not-true _ (c .if1 .taken) in
     row-near (a .q) (a .heights .now) (a .bounds .now) (a .radices .now) (a .draws .now) (a .ys .now) (a .colours .now) (a .caps .now) (p .0) (a .d) (p .1 .0 .1) (a .a) (a .code) (a .j) (a .row .now) (rw add-one at e) (p .1 .1 .1)
 
 -- src/lib.rt:271:74

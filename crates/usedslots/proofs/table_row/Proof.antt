@@ -47,7 +47,7 @@ cast-all c =
 strip-between-requires : tie.Need-strip-between-requires Inv-loop μ-loop
 strip-between-requires c κs =
     let p = c .before .before .before .before .before .before .before .before .before .before .before .before .pre in
-    ((p .0 .colours-long, p .0 .caps-long, omega (arith, p .0 .few-slots)), (c .first-below .ensures, record { few = omega arith; some = λ i l u. absurd (omega arith); lower = λ i l u. absurd (omega arith) }))
+    ((p .0 .colours-long, p .0 .caps-long, p .1 .0 .0, omega (arith, p .0 .few-slots)), (c .first-below .ensures, record { few = omega arith; some = λ i l u. absurd (omega arith); lower = λ i l u. absurd (omega arith) }))
 
 -- src/lib.rt:614:19
 cast-fill-row : tie.Need-cast-fill-row Inv-loop μ-loop

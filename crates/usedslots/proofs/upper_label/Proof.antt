@@ -30,7 +30,7 @@ get-requires c κs = search needs
 -- src/lib.rt:138:1
 returns-2 : tie.Need-returns-2
 returns-2 c =
-    let a = c .before .before .before .args in rw (upper-label (a .heights .now) (a .a) (a .code) (c .before .if1 .left), c .get .ensures)
+    let a = c .before .before .before .args in rw (upper-label (a .heights .now) (a .a) (a .code) (c .before .if1 .left) (c .before .before .before .pre), c .get .ensures)
 
 pub upper-label-spec : {M : Type 1} → statement M
 upper-label-spec = tie.close (tie.spec returns sub-get get-requires returns-2)

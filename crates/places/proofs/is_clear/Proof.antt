@@ -1,4 +1,4 @@
-use Rattle.strips.proofs.Decisions.{clear-edge, clear-bottom, clear-label}
+use Rattle.places.proofs.Places.{clear-edge, clear-bottom, clear-label}
 use mathlib.Core.Path.{_≡_, refl, ap, sym, _∙_}
 use mathlib.Core.List.{List, [], _∷_, _++_}
 use mathlib.Core.Logic.{⊎-elim}
@@ -8,12 +8,11 @@ use native.Mathlib.Numerals.{add-one}
 use lib.ListN.{length, getD, take, drop, set, length-set}
 use borrow.Author.Tests.{eq-eqb, ne-eqb, lt-ltb, le-ltb, le-leb, lt-leb}
 use borrow.Author.Needs.{needs}
-use Rattle.strips.proofs.is_clear.Statement.{statement}
-use Rattle.strips.proofs.is_clear.Tie as tie
-use Rattle.strips.proofs.is_clear.Reads as reads
-use Rattle.strips.proofs.is_clear.Lts as lts
-use Rattle.drops.proofs.apart_of.Reads as apart-of-reads
-use Rattle.words.proofs.at_most.Reads as at-most-reads
+use Rattle.places.proofs.is_clear.Statement.{statement}
+use Rattle.places.proofs.is_clear.Tie as tie
+use Rattle.places.proofs.is_clear.Reads as reads
+use Rattle.places.proofs.is_clear.Lts as lts
+use Rattle.places.proofs.is_clear_at.Reads as is-clear-at-reads
 use Rattle.words.proofs.get.Reads as get-reads
 
 -- src/lib.rt:86:9
@@ -39,17 +38,13 @@ get-requires : tie.Need-get-requires
 get-requires c κs = search needs
 
 -- src/lib.rt:92:20
-apart-of-requires : tie.Need-apart-of-requires
-apart-of-requires c κs = search needs
-
--- src/lib.rt:92:5
-at-most-requires : tie.Need-at-most-requires
-at-most-requires c κs = search needs
+is-clear-at-requires : tie.Need-is-clear-at-requires
+is-clear-at-requires c κs = search needs
 
 -- src/lib.rt:82:1
 returns-3 : tie.Need-returns-3
 returns-3 c =
-    c .at-most .ensures ∙ rw (c .before .apart-of .ensures, c .before .before .get .ensures) (sym (clear-label _ _ _ (omega arith) (omega arith)))
+    c .is-clear-at .ensures ∙ rw (c .before .get .ensures) (sym (clear-label _ _ _ (omega arith) (omega arith)))
 
 pub is-clear-spec : {M : Type 1} → statement M
 is-clear-spec =
@@ -60,6 +55,5 @@ is-clear-spec =
     cast-if2
     returns-2
     get-requires
-    apart-of-requires
-    at-most-requires
+    is-clear-at-requires
     returns-3)

@@ -1,4 +1,4 @@
-use Rattle.strips.proofs.Decisions.{under-edge, under-bottom, under-label}
+use Rattle.places.proofs.Places.{under-edge, under-bottom, under-label}
 use mathlib.Core.Path.{_≡_, refl, ap, sym, _∙_}
 use mathlib.Core.List.{List, [], _∷_, _++_}
 use mathlib.Core.Logic.{⊎-elim}
@@ -8,10 +8,10 @@ use native.Mathlib.Numerals.{add-one}
 use lib.ListN.{length, getD, take, drop, set, length-set}
 use borrow.Author.Tests.{eq-eqb, ne-eqb, lt-ltb, le-ltb, le-leb, lt-leb}
 use borrow.Author.Needs.{needs}
-use Rattle.strips.proofs.is_under.Statement.{statement}
-use Rattle.strips.proofs.is_under.Tie as tie
-use Rattle.strips.proofs.is_under.Reads as reads
-use Rattle.strips.proofs.is_under.Lts as lts
+use Rattle.places.proofs.is_under.Statement.{statement}
+use Rattle.places.proofs.is_under.Tie as tie
+use Rattle.places.proofs.is_under.Reads as reads
+use Rattle.places.proofs.is_under.Lts as lts
 use Rattle.words.proofs.get.Reads as get-reads
 use Rattle.words.proofs.less.Reads as less-reads
 

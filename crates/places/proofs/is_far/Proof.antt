@@ -1,4 +1,4 @@
-use Rattle.strips.proofs.Decisions.{far-edge, far-bottom, far-label}
+use Rattle.places.proofs.Places.{far-edge, far-bottom, far-label}
 use mathlib.Core.Path.{_≡_, refl, ap, sym, _∙_}
 use mathlib.Core.List.{List, [], _∷_, _++_}
 use mathlib.Core.Logic.{⊎-elim}
@@ -8,10 +8,10 @@ use native.Mathlib.Numerals.{add-one}
 use lib.ListN.{length, getD, take, drop, set, length-set}
 use borrow.Author.Tests.{eq-eqb, ne-eqb, lt-ltb, le-ltb, le-leb, lt-leb}
 use borrow.Author.Needs.{needs}
-use Rattle.strips.proofs.is_far.Statement.{statement}
-use Rattle.strips.proofs.is_far.Tie as tie
-use Rattle.strips.proofs.is_far.Reads as reads
-use Rattle.strips.proofs.is_far.Lts as lts
+use Rattle.places.proofs.is_far.Statement.{statement}
+use Rattle.places.proofs.is_far.Tie as tie
+use Rattle.places.proofs.is_far.Reads as reads
+use Rattle.places.proofs.is_far.Lts as lts
 use Rattle.drops.proofs.apart_of.Reads as apart-of-reads
 use Rattle.words.proofs.at_most.Reads as at-most-reads
 use Rattle.words.proofs.get.Reads as get-reads
