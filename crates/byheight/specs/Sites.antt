@@ -4,8 +4,8 @@ use mathlib.Core.List.{List}
 use Prim.Native.Nat.{ℕ, suc}
 use lib.ListN.{length, getD, set}
 use Rattle.arrays.specs.declared.Measures.{Measures}
-use Rattle.usedslots.specs.declared.Label.{Label}
-use Rattle.usedslots.specs.Table.{stripOf}
+use Rattle.stripcosts.specs.declared.Label.{Label}
+use Rattle.stripcosts.specs.Costs.{stripOf}
 
 -- a list with the words at i and at i + 1 exchanged
 abbrev pub exchanged : List ℕ → (i : ℕ) → List ℕ
