@@ -16,8 +16,9 @@ use Rattle.search.proofs.Sums.{listing-at, length-listing}
 use Rattle.optimum.specs.Slots.{farFrom}
 use Rattle.optimum.specs.UsedSlots.{Instance, may, draw, strip, price, next, final, labels, State, below, T, value}
 use Rattle.arrays.specs.declared.Measures.{Measures}
-use Rattle.usedslots.specs.declared.Label.{Label}
-use Rattle.usedslots.specs.Table.{none, tableBy, capsIn, upperAt, lowerAt, siteOf, stripOf, Fits}
+use Rattle.stripcosts.specs.declared.Label.{Label}
+use Rattle.stripcosts.specs.Costs.{upperAt, lowerAt, siteOf, stripOf}
+use Rattle.usedslots.specs.Table.{none, tableBy, capsIn, Fits}
 use Rattle.usedslots.proofs.Strips.{strip-is}
 use Rattle.byheight.specs.Sites.{exchanged, Reorders, taken}
 

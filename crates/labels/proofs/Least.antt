@@ -15,8 +15,10 @@ use Rattle.optimum.specs.UsedSlots.{Instance, may, draw, strip, below, T, value
 use Rattle.optimum.specs.Rows.{link}
 use Rattle.optimum.proofs.Rows.{below-le, below-end, below-step, link-is}
 use Rattle.arrays.specs.declared.Measures.{Measures}
-use Rattle.arrays.specs.Arrays.{slotsBy}
-use Rattle.usedslots.specs.Table.{none, labelCost, tableBy, capsIn, upperAt, lowerAt, stripOf, sizeOf, Fits}
+use Rattle.arrays.specs.Arrays.{slotsBy, labelCost}
+use Rattle.stripcosts.specs.Costs.{upperAt, lowerAt, stripOf}
+use Rattle.links.specs.Rows.{sizeOf}
+use Rattle.usedslots.specs.Table.{none, tableBy, capsIn, Fits}
 use Rattle.usedslots.proofs.Strips.{strip-is}
 use Rattle.usedslots.proofs.Links.{may-is, draw-is}
 use Rattle.labels.specs.declared.Chosen.{Chosen}

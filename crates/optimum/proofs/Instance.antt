@@ -20,7 +20,7 @@ use Rattle.optimum.proofs.Budgets.{positive, radix-at, draws-none, draw
 use Rattle.optimum.proofs.CostWord.{word-nothing, word-adds}
 use Rattle.optimum.proofs.Pays.{Budgeted}
 
--- ---- what is asked of a step beside them: nothing; a site leaves no mark
+-- ---- what is asked of a step beside the slots: nothing; a site leaves no mark
 
 pub tip-clear : (s : Sheet) (t : Point) (k : ℕ) → tipClear s t k ≡ true
 unfolding tipClear

@@ -1,33 +1,16 @@
 -- The table's entries: rows that are stored, and what is right then. Assumes nothing.
-use mathlib.Core.Path.{_≡_, refl, sym, ap, ap₂, _∙_}
-use mathlib.Core.List.{List, [], _∷_}
-use Prim.Native.Nat.{ℕ, zero, suc, _+_, _*_, _-_, _≤_, _<_}
+use mathlib.Core.Path.{_≡_, _∙_}
+use mathlib.Core.List.{List}
+use Prim.Native.Nat.{ℕ, suc, _+_, _*_, _-_, _≤_, _<_}
 use native.Mathlib.Nat.{mul-le-mul-right}
 use native.Mathlib.Omega.{arith}
-use native.Mathlib.Numerals.{add-one}
-use lib.ListN.{length, getD, set, drop}
-use lib.Seq.{getD-set-same, getD-set-other, drop-set-lt}
-use Rattle.lists.proofs.Tests.{by-order, by-equal}
+use lib.ListN.{getD}
+use Rattle.lists.proofs.Tests.{by-equal}
 use Rattle.optimum.specs.UsedSlots.{Instance, T}
 use Rattle.optimum.specs.Rows.{cell}
 use Rattle.optimum.proofs.Rows.{cell-apart}
-use Rattle.usedslots.specs.Table.{Stored, RightFrom, RowOf}
-
--- ---- a row stored, number by number
-
-pub stored-none : (old row : List ℕ) (at : ℕ) → Stored old old row at 0
-stored-none old row at = record { inside = λ i l. absurd (omega arith); before = λ i l. refl; after = λ i l. refl; rest = λ n l. refl }
-
-pub stored-more : (old now row : List ℕ) (at i : ℕ) → at + i < length now → Stored old now row at i → Stored old (set now (at + i) (getD row i 0)) row at (i + 1)
-stored-more old now row at i h s =
-    record {
-      inside = λ k l. by-equal k i
-          (λ e. rw e (getD-set-same now (at + i) (getD row i 0) 0 h))
-          (λ e. getD-set-other now (at + i) (at + k) (getD row i 0) 0 (λ z. e (omega arith)) ∙ s .inside k (omega (arith, e)));
-      before = λ k l. getD-set-other now (at + i) k (getD row i 0) 0 (λ z. omega arith) ∙ s .before k l;
-      after = λ k l. getD-set-other now (at + i) k (getD row i 0) 0 (λ z. omega arith) ∙ s .after k (omega arith);
-      rest = λ n l. drop-set-lt n now (at + i) (getD row i 0) (omega arith) ∙ s .rest n (omega arith);
-    }
+use Rattle.links.specs.Rows.{Stored}
+use Rattle.usedslots.specs.Table.{RightFrom, RowOf}
 
 -- ---- the rows of a place, code by code
 

@@ -4,7 +4,7 @@ use mathlib.Core.Logic.{_≢_}
 use mathlib.Core.Bool.{true, false, cond}
 use mathlib.Core.List.{List, []}
 use Prim.Native.Nat.{ℕ, zero, suc, _+_, _*_, _-_, _/_, _%_, _≤_, _<_, min}
-use native.Mathlib.Nat.{mul-le-mul, mul-comm, mod-lt}
+use native.Mathlib.Nat.{mul-comm, mod-lt}
 use native.Mathlib.Omega.{arith}
 use native.Mathlib.Numerals.{add-one}
 use lib.Dec.{ltb, leb, eqb}
@@ -20,11 +20,14 @@ use Rattle.optimum.specs.UsedSlots.{Instance, may, draw, strip, T}
 use Rattle.optimum.specs.Rows.{link, acc, cell}
 use Rattle.optimum.proofs.Rows.{link-near, link-spent, link-lost, link-is, acc-le, acc-start, acc-link, acc-next, acc-same, acc-end, cell-low, digit-flat}
 use Rattle.arrays.specs.declared.Measures.{Measures}
-use Rattle.arrays.specs.Arrays.{slotsBy}
-use Rattle.usedslots.specs.Table.{none, labelCost, tableBy, capsIn, upperAt, lowerAt, stripOf, linked, Blocks, sizeOf, Fits, tableWords, RightFrom, RowTo, RowOf}
-use Rattle.usedslots.specs.Bands.{Lost, Barred}
+use Rattle.arrays.specs.Arrays.{slotsBy, labelCost}
+use Rattle.bands.specs.Bands.{Lost, Barred}
+use Rattle.stripcosts.specs.Costs.{upperAt, lowerAt, stripOf}
+use Rattle.links.specs.Rows.{linked, Blocks, sizeOf}
+use Rattle.usedslots.specs.Table.{none, tableBy, capsIn, Fits, tableWords, RightFrom, RowTo, RowOf}
+use Rattle.bands.proofs.Bands.{lost-down}
+use Rattle.stripcosts.proofs.Costs.{lost-strip}
 use Rattle.usedslots.proofs.Strips.{strip-is}
-use Rattle.usedslots.proofs.Bands.{lost-strip, lost-down}
 
 -- a product that is not 0
 pos-of : (a b : ℕ) → 0 < a * b → (0 < a) × (0 < b)
@@ -167,14 +170,6 @@ module _ (q : Measures) (hs bs rs ds ys cs caps : List ℕ) (f : Fits q hs bs rs
         let z₁ : from ≡ cell (q .colours) (q .budgets) (suc (a + j)) (suc d) 0 = simp add-one at e₁ in
         e v l ∙ rw (z₁, e₂, z₃, z₄))
         h
-
--- ---- where a row begins
-
-pub start-low : (C P a ca : ℕ) → a ≤ 49 → ca ≤ 8 → C ≤ 8 → P ≤ 64 → (a * (C + 1) ≤ 441) × ((a * (C + 1) + ca) * P ≤ 28736)
-start-low C P a ca h i j k =
-    let x : a * (C + 1) ≤ 49 * 9 = mul-le-mul {n₂ = 49} {m₂ = 9} h (omega arith) in
-    let y : (a * (C + 1) + ca) * P ≤ 449 * 64 = mul-le-mul {n₂ = 449} {m₂ = 64} (omega arith) k in
-    (omega arith, omega arith)
 
 -- a whole row lies in the table
 pub row-there : (q : Measures) (hs : List ℕ) (a ca : ℕ) → 0 < q .budgets → a ≤ suc (length hs) → ca ≤ q .colours → cell (q .colours) (q .budgets) a ca 0 + q .budgets ≤ tableWords q hs

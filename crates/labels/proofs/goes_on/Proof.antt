@@ -1,4 +1,4 @@
-use Rattle.usedslots.proofs.Links.{start-low}
+use Rattle.links.proofs.Rows.{start-low}
 use mathlib.Core.Path.{_≡_, refl, ap, sym, _∙_}
 use mathlib.Core.List.{List, [], _∷_, _++_}
 use mathlib.Core.Logic.{⊎-elim}
@@ -12,7 +12,7 @@ use Rattle.labels.proofs.goes_on.Statement.{statement}
 use Rattle.labels.proofs.goes_on.Tie as tie
 use Rattle.labels.proofs.goes_on.Reads as reads
 use Rattle.labels.proofs.goes_on.Lts as lts
-use Rattle.usedslots.proofs.row_start.Reads as row-start-reads
+use Rattle.links.proofs.row_start.Reads as row-start-reads
 use Rattle.words.proofs.get.Reads as get-reads
 use Rattle.words.proofs.plus_of.Reads as plus-of-reads
 

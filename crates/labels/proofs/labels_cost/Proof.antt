@@ -17,7 +17,7 @@ use Rattle.labels.proofs.labels_cost.Tie as tie
 use Rattle.labels.proofs.labels_cost.Reads as reads
 use Rattle.labels.proofs.labels_cost.Lts as lts
 use Rattle.labels.proofs.after_slot.Reads as after-slot-reads
-use Rattle.usedslots.proofs.strip_between.Reads as strip-between-reads
+use Rattle.stripcosts.proofs.strip_between.Reads as strip-between-reads
 use Rattle.words.proofs.get.Reads as get-reads
 use Rattle.words.proofs.plus_of.Reads as plus-of-reads
 

@@ -20,9 +20,9 @@ use Rattle.labels.proofs.with_label.Reads as reads
 use Rattle.labels.proofs.with_label.Lts as lts
 use Rattle.labels.proofs.has_left.Reads as has-left-reads
 use Rattle.places.proofs.is_far.Reads as is-far-reads
-use Rattle.usedslots.proofs.block_size.Reads as block-size-reads
-use Rattle.usedslots.proofs.link_cost.Reads as link-cost-reads
-use Rattle.usedslots.proofs.strip_between.Reads as strip-between-reads
+use Rattle.links.proofs.block_size.Reads as block-size-reads
+use Rattle.links.proofs.link_cost.Reads as link-cost-reads
+use Rattle.stripcosts.proofs.strip_between.Reads as strip-between-reads
 use Rattle.words.proofs.at_most.Reads as at-most-reads
 use Rattle.words.proofs.both.Reads as both-reads
 use Rattle.words.proofs.get.Reads as get-reads

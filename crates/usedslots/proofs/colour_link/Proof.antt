@@ -2,7 +2,8 @@ use mathlib.Core.Bool.{true, false}
 use borrow.Author.Tests.{not-true, not-false}
 use Rattle.optimum.specs.Slots.{farFrom}
 use Rattle.arrays.specs.Arrays.{slotsBy}
-use Rattle.usedslots.specs.Table.{none, stripOf, upperAt, lowerAt}
+use Rattle.stripcosts.specs.Costs.{stripOf, upperAt, lowerAt}
+use Rattle.usedslots.specs.Table.{none}
 use Rattle.usedslots.proofs.Links.{product-low, blocks-of, row-near, row-lost, row-links, row-there}
 use mathlib.Core.Path.{_≡_, refl, ap, sym, _∙_}
 use mathlib.Core.List.{List, [], _∷_, _++_}
@@ -17,12 +18,12 @@ use Rattle.usedslots.proofs.colour_link.Statement.{statement}
 use Rattle.usedslots.proofs.colour_link.Tie as tie
 use Rattle.usedslots.proofs.colour_link.Reads as reads
 use Rattle.usedslots.proofs.colour_link.Lts as lts
-use Rattle.usedslots.proofs.block_size.Reads as block-size-reads
+use Rattle.links.proofs.block_size.Reads as block-size-reads
 use Rattle.places.proofs.is_far.Reads as is-far-reads
-use Rattle.usedslots.proofs.link.Reads as link-reads
-use Rattle.usedslots.proofs.link_cost.Reads as link-cost-reads
-use Rattle.usedslots.proofs.row_start.Reads as row-start-reads
-use Rattle.usedslots.proofs.strip_between.Reads as strip-between-reads
+use Rattle.links.proofs.link.Reads as link-reads
+use Rattle.links.proofs.link_cost.Reads as link-cost-reads
+use Rattle.links.proofs.row_start.Reads as row-start-reads
+use Rattle.stripcosts.proofs.strip_between.Reads as strip-between-reads
 use Rattle.words.proofs.get.Reads as get-reads
 
 -- src/lib.rt:267:13

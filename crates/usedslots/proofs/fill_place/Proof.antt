@@ -14,8 +14,8 @@ use Rattle.usedslots.proofs.fill_place.Statement.{statement}
 use Rattle.usedslots.proofs.fill_place.Tie as tie
 use Rattle.usedslots.proofs.fill_place.Reads as reads
 use Rattle.usedslots.proofs.fill_place.Lts as lts
-use Rattle.usedslots.proofs.row_start.Reads as row-start-reads
-use Rattle.usedslots.proofs.store_row.Reads as store-row-reads
+use Rattle.links.proofs.row_start.Reads as row-start-reads
+use Rattle.links.proofs.store_row.Reads as store-row-reads
 use Rattle.usedslots.proofs.table_row.Reads as table-row-reads
 
 abbrev Inv-loop : tie.InvT-loop

@@ -1,6 +1,6 @@
+use Rattle.bands.specs.Bands.{Barred, Ends}
 use Rattle.usedslots.specs.Table.{tableBy, capsIn, RowTo}
-use Rattle.usedslots.specs.Bands.{Barred, Ends}
-use Rattle.usedslots.proofs.Bands.{barred-none, barred-down, barred-more}
+use Rattle.bands.proofs.Bands.{barred-none, barred-down, barred-more}
 use Rattle.usedslots.proofs.Links.{row-first, row-whole, row-ends}
 use mathlib.Core.Path.{_≡_, refl, ap, sym, _∙_}
 use mathlib.Core.List.{List, [], _∷_, _++_}
@@ -15,11 +15,11 @@ use Rattle.usedslots.proofs.table_row.Statement.{statement}
 use Rattle.usedslots.proofs.table_row.Tie as tie
 use Rattle.usedslots.proofs.table_row.Reads as reads
 use Rattle.usedslots.proofs.table_row.Lts as lts
-use Rattle.usedslots.proofs.fill_row.Reads as fill-row-reads
-use Rattle.usedslots.proofs.first_below.Reads as first-below-reads
-use Rattle.usedslots.proofs.other_in.Reads as other-in-reads
+use Rattle.links.proofs.fill_row.Reads as fill-row-reads
+use Rattle.bands.proofs.first_below.Reads as first-below-reads
+use Rattle.bands.proofs.other_in.Reads as other-in-reads
 use Rattle.usedslots.proofs.slot_links.Reads as slot-links-reads
-use Rattle.usedslots.proofs.strip_between.Reads as strip-between-reads
+use Rattle.stripcosts.proofs.strip_between.Reads as strip-between-reads
 use Rattle.words.proofs.get.Reads as get-reads
 
 abbrev Inv-loop : tie.InvT-loop

@@ -11,7 +11,7 @@ use Rattle.usedslots.proofs.value_of.Statement.{statement}
 use Rattle.usedslots.proofs.value_of.Tie as tie
 use Rattle.usedslots.proofs.value_of.Reads as reads
 use Rattle.usedslots.proofs.value_of.Lts as lts
-use Rattle.usedslots.proofs.mark_slots.Reads as mark-slots-reads
+use Rattle.bands.proofs.mark_slots.Reads as mark-slots-reads
 use Rattle.usedslots.proofs.value_marked.Reads as value-marked-reads
 
 -- src/lib.rt:810:38

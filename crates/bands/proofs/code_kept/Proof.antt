@@ -1,0 +1,53 @@
+use Rattle.bands.proofs.Bands.{codes-first, codes-second}
+use mathlib.Core.Path.{_≡_, refl, ap, sym, _∙_}
+use mathlib.Core.List.{List, [], _∷_, _++_}
+use mathlib.Core.Logic.{⊎-elim}
+use Prim.Native.Nat.{ℕ, zero, suc, _+_, _-_, _*_, _<_, _≤_}
+use native.Mathlib.Omega.{arith}
+use native.Mathlib.Numerals.{add-one}
+use lib.ListN.{length, getD, take, drop, set, length-set}
+use borrow.Author.Tests.{eq-eqb, ne-eqb, lt-ltb, le-ltb, le-leb, lt-leb}
+use borrow.Author.Needs.{needs}
+use Rattle.bands.proofs.code_kept.Statement.{statement}
+use Rattle.bands.proofs.code_kept.Tie as tie
+use Rattle.bands.proofs.code_kept.Reads as reads
+use Rattle.bands.proofs.code_kept.Lts as lts
+
+-- src/lib.rt:302:9
+returns : tie.Need-returns
+returns c = search needs
+
+-- src/lib.rt:304:16
+add-code : tie.Need-add-code
+add-code c = search needs
+
+-- src/lib.rt:306:9
+returns-2 : tie.Need-returns-2
+returns-2 c =
+    let a = c .before .before .args in λ hs ys cs p k h b. codes-first hs ys cs p k (a .colour) (omega arith) b
+
+-- src/lib.rt:309:9
+returns-3 : tie.Need-returns-3
+returns-3 c = search needs
+
+-- src/lib.rt:312:9
+returns-4 : tie.Need-returns-4
+returns-4 c = search needs
+
+-- src/lib.rt:314:13
+mul-result : tie.Need-mul-result
+mul-result c = search needs
+
+-- src/lib.rt:314:5
+add-result : tie.Need-add-result
+add-result c = search needs
+
+-- src/lib.rt:298:1
+returns-5 : tie.Need-returns-5
+returns-5 c =
+    let a = c .before .before .before .before .args in λ hs ys cs p k h b. codes-second hs ys cs p k (a .codes) (a .colour) (omega arith) h b
+
+pub code-kept-spec : {M : Type 1} → statement M
+code-kept-spec =
+    tie.close
+    (tie.spec returns add-code returns-2 returns-3 returns-4 mul-result add-result returns-5)

@@ -1,0 +1,34 @@
+use mathlib.Core.Path.{_≡_, refl, ap, sym, _∙_}
+use mathlib.Core.List.{List, [], _∷_, _++_}
+use mathlib.Core.Logic.{⊎-elim}
+use Prim.Native.Nat.{ℕ, zero, suc, _+_, _-_, _*_, _<_, _≤_}
+use native.Mathlib.Omega.{arith}
+use native.Mathlib.Numerals.{add-one}
+use lib.ListN.{length, getD, take, drop, set, length-set}
+use borrow.Author.Tests.{eq-eqb, ne-eqb, lt-ltb, le-ltb, le-leb, lt-leb}
+use borrow.Author.Needs.{needs}
+use Rattle.bands.proofs.codes_after.Statement.{statement}
+use Rattle.bands.proofs.codes_after.Tie as tie
+use Rattle.bands.proofs.codes_after.Reads as reads
+use Rattle.bands.proofs.codes_after.Lts as lts
+use Rattle.bands.proofs.code_kept.Reads as code-kept-reads
+
+-- src/lib.rt:322:9
+returns : tie.Need-returns
+returns c = search needs
+
+-- src/lib.rt:325:9
+returns-2 : tie.Need-returns-2
+returns-2 c = search needs
+
+-- src/lib.rt:327:5
+code-kept-requires : tie.Need-code-kept-requires
+code-kept-requires c κs = search needs
+
+-- src/lib.rt:318:1
+returns-3 : tie.Need-returns-3
+returns-3 c =
+    λ hs ys cs p k h f. c .code-kept .ensures hs ys cs p k h (f (omega arith) (omega arith))
+
+pub codes-after-spec : {M : Type 1} → statement M
+codes-after-spec = tie.close (tie.spec returns returns-2 code-kept-requires returns-3)

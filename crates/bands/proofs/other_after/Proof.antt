@@ -1,0 +1,39 @@
+use Rattle.bands.proofs.Bands.{barred-all}
+use mathlib.Core.Path.{_≡_, refl, ap, sym, _∙_}
+use mathlib.Core.List.{List, [], _∷_, _++_}
+use mathlib.Core.Logic.{⊎-elim}
+use Prim.Native.Nat.{ℕ, zero, suc, _+_, _-_, _*_, _<_, _≤_}
+use native.Mathlib.Omega.{arith}
+use native.Mathlib.Numerals.{add-one}
+use lib.ListN.{length, getD, take, drop, set, length-set}
+use borrow.Author.Tests.{eq-eqb, ne-eqb, lt-ltb, le-ltb, le-leb, lt-leb}
+use borrow.Author.Needs.{needs}
+use Rattle.bands.proofs.other_after.Statement.{statement}
+use Rattle.bands.proofs.other_after.Tie as tie
+use Rattle.bands.proofs.other_after.Reads as reads
+use Rattle.bands.proofs.other_after.Lts as lts
+
+-- src/lib.rt:364:9
+returns : tie.Need-returns
+returns c = search needs
+
+-- src/lib.rt:367:9
+returns-2 : tie.Need-returns-2
+returns-2 c = search needs
+
+-- src/lib.rt:370:9
+returns-3 : tie.Need-returns-3
+returns-3 c = search needs
+
+-- src/lib.rt:373:9
+returns-4 : tie.Need-returns-4
+returns-4 c = search needs
+
+-- src/lib.rt:360:1
+returns-5 : tie.Need-returns-5
+returns-5 c =
+    let a = c .before .before .before .before .args in
+    λ hs ys cs p k old b d s n. barred-all hs ys cs p k (a .own) (a .code) (a .other) (c .before .before .if2 .left) (c .before .if3 .left) (c .if4 .left) (b (c .before .before .before .if1 .left)) old d
+
+pub other-after-spec : {M : Type 1} → statement M
+other-after-spec = tie.close (tie.spec returns returns-2 returns-3 returns-4 returns-5)

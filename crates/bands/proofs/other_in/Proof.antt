@@ -1,0 +1,35 @@
+use mathlib.Core.Path.{_≡_, refl, ap, sym, _∙_}
+use mathlib.Core.List.{List, [], _∷_, _++_}
+use mathlib.Core.Logic.{⊎-elim}
+use Prim.Native.Nat.{ℕ, zero, suc, _+_, _-_, _*_, _<_, _≤_}
+use native.Mathlib.Omega.{arith}
+use native.Mathlib.Numerals.{add-one}
+use lib.ListN.{length, getD, take, drop, set, length-set}
+use borrow.Author.Tests.{eq-eqb, ne-eqb, lt-ltb, le-ltb, le-leb, lt-leb}
+use borrow.Author.Needs.{needs}
+use Rattle.bands.proofs.other_in.Statement.{statement}
+use Rattle.bands.proofs.other_in.Tie as tie
+use Rattle.bands.proofs.other_in.Reads as reads
+use Rattle.bands.proofs.other_in.Lts as lts
+use Rattle.bands.proofs.other_after.Reads as other-after-reads
+
+-- src/lib.rt:378:9
+returns : tie.Need-returns
+returns c =
+    λ hs ys cs p k old m. old
+
+-- src/lib.rt:380:17
+other-after-requires : tie.Need-other-after-requires
+other-after-requires c κs = search needs
+
+-- src/lib.rt:380:5
+other-after-requires-2 : tie.Need-other-after-requires-2
+other-after-requires-2 c κs = search needs
+
+-- src/lib.rt:374:1
+returns-2 : tie.Need-returns-2
+returns-2 c =
+    λ hs ys cs p k old m. c .other-after2 .ensures hs ys cs p k (c .before .other-after .ensures hs ys cs p k old (m .first)) (m .second)
+
+pub other-in-spec : {M : Type 1} → statement M
+other-in-spec = tie.close (tie.spec returns other-after-requires other-after-requires-2 returns-2)

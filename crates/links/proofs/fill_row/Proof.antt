@@ -1,0 +1,77 @@
+use lib.Seq.{getD-set-same, getD-set-other}
+use Rattle.lists.proofs.Tests.{by-equal}
+use mathlib.Core.Path.{_≡_, refl, ap, sym, _∙_}
+use mathlib.Core.List.{List, [], _∷_, _++_}
+use mathlib.Core.Logic.{⊎-elim}
+use Prim.Native.Nat.{ℕ, zero, suc, _+_, _-_, _*_, _<_, _≤_}
+use native.Mathlib.Omega.{arith}
+use native.Mathlib.Numerals.{add-one}
+use lib.ListN.{length, getD, take, drop, set, length-set}
+use borrow.Author.Tests.{eq-eqb, ne-eqb, lt-ltb, le-ltb, le-leb, lt-leb}
+use borrow.Author.Needs.{needs}
+use Rattle.links.proofs.fill_row.Statement.{statement}
+use Rattle.links.proofs.fill_row.Tie as tie
+use Rattle.links.proofs.fill_row.Reads as reads
+use Rattle.links.proofs.fill_row.Lts as lts
+
+abbrev Inv-loop : tie.InvT-loop
+Inv-loop row₀ count cost v₀ row v = (length row ≡ length row₀) × (v ≤ count) × ((k : ℕ) → k < v → getD row k 0 ≡ cost)
+
+abbrev μ-loop : tie.MeasureT-loop
+μ-loop row₀ count cost v₀ row v = count - v
+
+-- src/lib.rt:316:5
+loop-holds : tie.Need-loop-holds Inv-loop μ-loop
+loop-holds c =
+    (refl, omega arith, λ k h. absurd (omega arith))
+
+-- src/lib.rt:317:9
+mul-row : tie.Need-mul-row Inv-loop μ-loop
+mul-row c = search needs
+
+-- src/lib.rt:317:9
+slice-write-row : tie.Need-slice-write-row Inv-loop μ-loop
+slice-write-row c = search needs
+
+-- src/lib.rt:318:9
+add-v : tie.Need-add-v Inv-loop μ-loop
+add-v c = search needs
+
+-- src/lib.rt:316:5
+loop-less : tie.Need-loop-less Inv-loop μ-loop
+loop-less c = search needs
+
+-- src/lib.rt:316:5
+loop-again : tie.Need-loop-again Inv-loop μ-loop
+loop-again c =
+    let l = c .before .loop in let a = c .before .before .args in (
+      length-set (l .row) (l .v) (a .cost) ∙ l .inv .0,
+      omega arith,
+      λ k h. by-equal k (l .v)
+          (λ e. rw e (getD-set-same (l .row) (l .v) (a .cost) 0 (omega arith)))
+          (λ e. getD-set-other (l .row) (l .v) k (a .cost) 0 e ∙ l .inv .2 k (omega (arith, e))),
+    )
+
+-- src/lib.rt:311:1
+same-length : tie.Need-same-length Inv-loop μ-loop
+same-length c = search needs
+
+-- src/lib.rt:311:1
+returns : tie.Need-returns Inv-loop μ-loop
+returns c =
+    let l = c .before .loop in λ k h. l .inv .2 k (omega arith)
+
+pub fill-row-spec : {M : Type 1} → statement M
+fill-row-spec =
+    tie.close
+    (tie.spec
+    Inv-loop
+    μ-loop
+    loop-holds
+    mul-row
+    slice-write-row
+    add-v
+    loop-less
+    loop-again
+    same-length
+    returns)

@@ -1,0 +1,35 @@
+use mathlib.Core.Path.{_≡_, refl, ap, sym, _∙_}
+use mathlib.Core.List.{List, [], _∷_, _++_}
+use mathlib.Core.Logic.{⊎-elim}
+use Prim.Native.Nat.{ℕ, zero, suc, _+_, _-_, _*_, _<_, _≤_}
+use native.Mathlib.Omega.{arith}
+use native.Mathlib.Numerals.{add-one}
+use lib.ListN.{length, getD, take, drop, set, length-set}
+use borrow.Author.Tests.{eq-eqb, ne-eqb, lt-ltb, le-ltb, le-leb, lt-leb}
+use borrow.Author.Needs.{needs}
+use Rattle.stripcosts.proofs.is_capped.Statement.{statement}
+use Rattle.stripcosts.proofs.is_capped.Tie as tie
+use Rattle.stripcosts.proofs.is_capped.Reads as reads
+use Rattle.stripcosts.proofs.is_capped.Lts as lts
+use Rattle.words.proofs.at_most.Reads as at-most-reads
+use Rattle.words.proofs.either.Reads as either-reads
+use Rattle.words.proofs.same.Reads as same-reads
+
+-- src/lib.rt:63:12
+same-requires : tie.Need-same-requires
+same-requires c κs = search needs
+
+-- src/lib.rt:63:26
+at-most-requires : tie.Need-at-most-requires
+at-most-requires c κs = search needs
+
+-- src/lib.rt:63:5
+either-requires : tie.Need-either-requires
+either-requires c κs = search needs
+
+-- src/lib.rt:60:1
+returns : tie.Need-returns
+returns c = cc
+
+pub is-capped-spec : {M : Type 1} → statement M
+is-capped-spec = tie.close (tie.spec same-requires at-most-requires either-requires returns)

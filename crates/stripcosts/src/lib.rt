@@ -1,0 +1,207 @@
+// The cost of a strip's sites: each is tied to the label above or to the one below.
+ghost use mathlib.Core.Path.{_≡_};
+ghost use mathlib.Core.Bool.{_||_};
+ghost use Prim.Native.Nat.{suc, _<_, _≤_, min};
+ghost use lib.Dec.{eqb, leb};
+ghost use lib.ListN.{length};
+ghost use Rattle.bands.specs.Bands.{Starts, Ends};
+ghost use Rattle.stripcosts.specs.Costs.{upperAt, lowerAt, insideOf, upFits, downFits, tieCost, siteOf, stripOf, Among};
+use arrays::Measures;
+use drops::apart_of;
+use places::is_clear_at;
+use words::NONE;
+use words::at_most;
+use words::both;
+use words::either;
+use words::get;
+use words::less;
+use words::same;
+
+// A label or an edge, as an end of a strip: its place (0 the top edge, k + 1 slot k, m + 1 the bottom edge), its code (0 none, c + 1 colour c), its height.
+pub struct Label {
+    pub edge: bool,
+    pub place: u32,
+    pub code: u32,
+    pub height: u32,
+}
+
+// A code that stands for a colour.
+fn is_code(code: u32, colour: u32) -> bool
+    ensures { λ r. ⌜ r ≡ eqb code (suc colour) ⌝ }
+{
+    let c = (colour as u64) + 1;
+    code as u64 == c
+}
+
+// A cap lets a site go to a place.
+fn is_capped(cap: u32, place: u32) -> bool
+    ensures { λ r. ⌜ r ≡ eqb cap 0 || leb place cap ⌝ }
+{
+    either(same(cap, 0), at_most(place, cap))
+}
+
+// The cost of a tie that fits.
+fn tie_cost(q: Measures, fits: bool, height: u32, y: u32) -> u64
+    ensures { λ r. ⌜ r ≡ tieCost q fits height y ⌝ }
+{
+    if !fits {
+        return NONE as u64;
+    }
+    let share = apart_of(height, y) as u64;
+    if q.shortest {
+        return share * 64;
+    }
+    share
+}
+
+fn is_inside(above: Label, below: Label, y: u32) -> bool
+    ensures { λ r. ⌜ r ≡ insideOf above below y ⌝ }
+{
+    both(
+        either(above.edge, at_most(above.height, y)),
+        either(below.edge, less(y, below.height)),
+    )
+}
+
+fn fits_up(q: Measures, above: Label, below: Label, y: u32, colour: u32, cap: u32) -> bool
+    ensures { λ r. ⌜ r ≡ upFits q above below y colour cap ⌝ }
+{
+    if !is_code(above.code, colour) {
+        return false;
+    }
+    both(
+        either(below.edge, is_clear_at(q, below.height, y)),
+        is_capped(cap, above.place),
+    )
+}
+
+fn fits_down(q: Measures, above: Label, below: Label, y: u32, colour: u32, cap: u32) -> bool
+    ensures { λ r. ⌜ r ≡ downFits q above below y colour cap ⌝ }
+{
+    if !is_code(below.code, colour) {
+        return false;
+    }
+    both(
+        either(above.edge, is_clear_at(q, above.height, y)),
+        is_capped(cap, below.place),
+    )
+}
+
+fn least_of(a: u64, b: u64) -> u64
+    ensures { λ r. ⌜ r ≡ min a b ⌝ }
+{
+    if b < a {
+        return b;
+    }
+    a
+}
+
+fn site_cost(q: Measures, above: Label, below: Label, y: u32, colour: u32, cap: u32) -> u64
+    ensures { λ r. ⌜ r ≡ siteOf q above below y colour cap ⌝ }
+{
+    if is_inside(above, below, y) {
+        let up = tie_cost(q, fits_up(q, above, below, y, colour, cap), above.height, y);
+        let down = tie_cost(
+            q,
+            fits_down(q, above, below, y, colour, cap),
+            below.height,
+            y,
+        );
+        return least_of(up, down);
+    }
+    0
+}
+
+// The sum of its sites' costs, of those from start to end; it ends at a site that has neither neighbour.
+fn strip_cost(
+    q: Measures,
+    above: Label,
+    below: Label,
+    ys: &[u32],
+    colours: &[u32],
+    caps: &[u32],
+    start: u32,
+    end: u32,
+) -> u32
+    requires { ⌜ (length (now colours) ≡ length (now ys)) × (length (now caps) ≡ length (now ys)) × Among above below (now ys) start end ⌝ }
+    ensures { λ r. ⌜ r ≡ stripOf q above below (now (ys .entry)) (now (colours .entry)) (now (caps .entry)) ⌝ }
+{
+    let last = end as usize;
+    let mut sum: u32 = 0;
+    let mut i = start as usize;
+    while i < last {
+        let cost = site_cost(q, above, below, ys[i], colours[i], caps[i]);
+        let room = (NONE - sum) as u64;
+        if room <= cost {
+            return NONE;
+        }
+        sum += cost as u32;
+        i += 1;
+    }
+    sum
+}
+
+fn upper_label(heights: &[u32], a: u32, code: u32) -> Label
+    requires { ⌜ a ≤ length (now heights) ⌝ }
+    ensures { λ r. ⌜ r ≡ upperAt (now (heights .entry)) a code ⌝ }
+{
+    if a == 0 {
+        return Label {
+            edge: true,
+            place: 0,
+            code: code,
+            height: 0,
+        };
+    }
+    let height = get(heights, a - 1);
+    Label {
+        edge: false,
+        place: a,
+        code: code,
+        height: height,
+    }
+}
+
+fn lower_label(heights: &[u32], k: u32, code: u32) -> Label
+    requires { ⌜ k < 4294967295 ⌝ }
+    ensures { λ r. ⌜ r ≡ lowerAt (now (heights .entry)) k code ⌝ }
+{
+    let edge = heights.len() <= k as usize;
+    let height = get(heights, k);
+    Label {
+        edge: edge,
+        place: k + 1,
+        code: code,
+        height: height,
+    }
+}
+
+// The strip between the place a and slot k, or the bottom edge where k is m.
+pub fn strip_between(
+    q: Measures,
+    heights: &[u32],
+    ys: &[u32],
+    colours: &[u32],
+    caps: &[u32],
+    a: u32,
+    code: u32,
+    k: u32,
+    below: u32,
+    start: u32,
+    end: u32,
+) -> u32
+    requires { ⌜ (length (now colours) ≡ length (now ys)) × (length (now caps) ≡ length (now ys)) × (a ≤ length (now heights)) × (k < 4294967295) ⌝ }
+    requires { ⌜ Starts (now heights) (now ys) a start × Ends (now heights) (now ys) k end ⌝ }
+    ensures { λ r. ⌜ r ≡ stripOf q (upperAt (now (heights .entry)) a code) (lowerAt (now (heights .entry)) k below) (now (ys .entry)) (now (colours .entry)) (now (caps .entry)) ⌝ }
+{
+    strip_cost(
+        q,
+        upper_label(heights, a, code),
+        lower_label(heights, k, below),
+        ys,
+        colours,
+        caps,
+        start,
+        end,
+    )
+}
