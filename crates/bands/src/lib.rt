@@ -88,16 +88,19 @@ fn codes_after(codes: u32, top: u32, bottom: u32, y: u32, colour: u32) -> u32
     code_kept(codes, colour)
 }
 
-// Codes of sites in the band between slot k and the place next above.
-fn band_codes(heights: &[u32], ys: &[u32], colours: &[u32], k: u32) -> u32
+// Codes of sites in the band between slot k and the place next above, from one of the sites on to the first that is not above the slot.
+fn band_codes(heights: &[u32], ys: &[u32], colours: &[u32], k: u32, first: u32) -> u32
     requires { ⌜ length (now colours) ≡ length (now ys) ⌝ }
     ensures { λ r. ⌜ Codes (now (heights .entry)) (now (ys .entry)) (now (colours .entry)) k k r ⌝ }
 {
     let top = top_of(heights, k);
     let bottom = get(heights, k);
     let mut codes: u32 = 0;
-    let mut i: usize = 0;
+    let mut i = first as usize;
     while i < ys.len() {
+        if bottom <= ys[i] {
+            return codes;
+        }
         codes = codes_after(codes, top, bottom, ys[i], colours[i]);
         i += 1;
     }
@@ -110,10 +113,13 @@ pub fn mark_slots(heights: &[u32], ys: &[u32], colours: &[u32], bands: &mut [u32
     requires { ⌜ (length (now heights) ≤ length (now bands)) × (length (now heights) ≤ length (now ends)) ⌝ }
     ensures { λ _. ⌜ Marks (now (heights .entry)) (now (ys .entry)) (now (colours .entry)) (now (bands .exit)) (now (ends .exit)) (length (now (heights .entry))) ⌝ }
 {
+    let mut first: u32 = 0;
     let mut k: usize = 0;
     while k < heights.len() {
-        bands[k] = band_codes(heights, ys, colours, k as u32);
-        ends[k] = end_above(heights, ys, k as u32);
+        let end = end_above(heights, ys, k as u32);
+        bands[k] = band_codes(heights, ys, colours, k as u32, first);
+        ends[k] = end;
+        first = end;
         k += 1;
     }
 }

@@ -1,4 +1,4 @@
-use Rattle.bands.specs.Bands.{Between, Codes}
+use Rattle.bands.specs.Bands.{Codes}
 use Rattle.bands.proofs.Bands.{codes-none}
 use mathlib.Core.Path.{_≡_, refl, ap, sym, _∙_}
 use mathlib.Core.List.{List, [], _∷_, _++_}
@@ -18,65 +18,77 @@ use Rattle.bands.proofs.top_of.Reads as top-of-reads
 use Rattle.words.proofs.get.Reads as get-reads
 
 abbrev Inv-loop : tie.InvT-loop
-Inv-loop heights ys colours k top bottom codes₀ i₀ codes i = (i ≤ length ys) × Codes heights ys colours k k codes
+Inv-loop heights ys colours k first top bottom codes₀ i₀ codes i = Codes heights ys colours k k codes
 
 abbrev μ-loop : tie.MeasureT-loop
-μ-loop heights ys colours k top bottom codes₀ i₀ codes i = length ys - i
+μ-loop heights ys colours k first top bottom codes₀ i₀ codes i = length ys - i
 
--- src/lib.rt:335:9
+-- src/lib.rt:96:9
 top-of-requires : tie.Need-top-of-requires Inv-loop μ-loop
 top-of-requires c κs = search needs
 
--- src/lib.rt:336:9
+-- src/lib.rt:97:9
 get-requires : tie.Need-get-requires Inv-loop μ-loop
 get-requires c κs = search needs
 
--- src/lib.rt:339:5
+-- src/lib.rt:100:5
 loop-holds : tie.Need-loop-holds Inv-loop μ-loop
 loop-holds c =
-    let a = c .before .before .before .before .before .args in (omega arith, codes-none (a .heights .now) (a .ys .now) (a .colours .now) (a .k) (a .k))
+    let a = c .before .before .before .before .before .args in codes-none (a .heights .now) (a .ys .now) (a .colours .now) (a .k) (a .k)
 
--- src/lib.rt:340:49
+-- src/lib.rt:101:22
+mul-if1 : tie.Need-mul-if1 Inv-loop μ-loop
+mul-if1 c = search needs
+
+-- src/lib.rt:101:22
+shared-slice-read-if1 : tie.Need-shared-slice-read-if1 Inv-loop μ-loop
+shared-slice-read-if1 c = search needs
+
+-- src/lib.rt:102:13
+returns : tie.Need-returns Inv-loop μ-loop
+returns c =
+    c .before .before .before .loop .inv
+
+-- src/lib.rt:104:49
 mul-codes-after : tie.Need-mul-codes-after Inv-loop μ-loop
 mul-codes-after c = search needs
 
--- src/lib.rt:340:49
+-- src/lib.rt:104:49
 shared-slice-read-codes-after : tie.Need-shared-slice-read-codes-after Inv-loop μ-loop
 shared-slice-read-codes-after c = search needs
 
--- src/lib.rt:340:56
+-- src/lib.rt:104:56
 mul-codes-after-2 : tie.Need-mul-codes-after-2 Inv-loop μ-loop
 mul-codes-after-2 c = search needs
 
--- src/lib.rt:340:56
+-- src/lib.rt:104:56
 shared-slice-read-codes-after-2 : tie.Need-shared-slice-read-codes-after-2 Inv-loop μ-loop
-shared-slice-read-codes-after-2 c = search needs
+shared-slice-read-codes-after-2 c =
+    omega (arith, c .before .before .before .before .loop-test .taken, c .before .before .before .before .before .before .before .before .before .before .before .pre)
 
--- src/lib.rt:340:9
+-- src/lib.rt:104:9
 codes-after-requires : tie.Need-codes-after-requires Inv-loop μ-loop
 codes-after-requires c κs = search needs
 
--- src/lib.rt:341:9
+-- src/lib.rt:105:9
 add-i : tie.Need-add-i Inv-loop μ-loop
 add-i c = search needs
 
--- src/lib.rt:339:5
+-- src/lib.rt:100:5
 loop-less : tie.Need-loop-less Inv-loop μ-loop
 loop-less c = search needs
 
--- src/lib.rt:339:5
+-- src/lib.rt:100:5
 loop-again : tie.Need-loop-again Inv-loop μ-loop
 loop-again c =
-    let a = c .before .before .before .before .before .before .before .before .before .before .args in let l = c .before .before .before .before .loop in (
-      omega arith,
-      c .codes-after .ensures (a .heights .now) (a .ys .now) (a .colours .now) (a .k) (a .k) (l .inv .1)
-          (λ p u. record { site = l .i; there = c .before .before .before .loop-test .taken; coded = refl; below = λ j e. rw (sym (c .before .before .before .before .before .before .top-of .ensures j e)) p; above = rw (sym (c .before .before .before .before .before .get .ensures)) u }),
-    )
+    let a = c .before .before .before .before .before .before .before .before .before .before .before .before .args in let l = c .before .before .before .before .before .before .loop in
+    c .codes-after .ensures (a .heights .now) (a .ys .now) (a .colours .now) (a .k) (a .k) (l .inv)
+    (λ p u. record { site = l .i; there = c .before .before .before .before .before .loop-test .taken; coded = refl; below = λ j e. rw (sym (c .before .before .before .before .before .before .before .before .top-of .ensures j e)) p; above = rw (sym (c .before .before .before .before .before .before .before .get .ensures)) u })
 
--- src/lib.rt:331:1
-returns : tie.Need-returns Inv-loop μ-loop
-returns c =
-    c .before .loop .inv .1
+-- src/lib.rt:92:1
+returns-2 : tie.Need-returns-2 Inv-loop μ-loop
+returns-2 c =
+    c .before .loop .inv
 
 pub band-codes-spec : {M : Type 1} → statement M
 band-codes-spec =
@@ -87,6 +99,9 @@ band-codes-spec =
     top-of-requires
     get-requires
     loop-holds
+    mul-if1
+    shared-slice-read-if1
+    returns
     mul-codes-after
     shared-slice-read-codes-after
     mul-codes-after-2
@@ -95,4 +110,4 @@ band-codes-spec =
     add-i
     loop-less
     loop-again
-    returns)
+    returns-2)
