@@ -81,3 +81,13 @@ pub fn place_of(text: &[u8], from: usize, b: u8) -> usize
     }
     i
 }
+
+// A number, or the most that it may be.
+pub fn within(n: usize, most: usize) -> usize
+    ensures { λ r. ⌜ r ≤ most ⌝ }
+{
+    if most < n {
+        return most;
+    }
+    n
+}

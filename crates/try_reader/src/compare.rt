@@ -1,5 +1,6 @@
 // What the reader gives, compared with what document 01 says; cases and differences are counted.
 ghost use Prim.Native.Nat.{_≤_};
+use cases::within;
 use libc::STDOUT_FILENO;
 use reader::ColourSize;
 use reader::Sizes;
@@ -88,15 +89,6 @@ fn wanted_words(words: &[u32]) -> usize
         return 1;
     }
     6 + 2 * (word_at(words, 3) % 9) as usize
-}
-
-pub fn within(n: usize, most: usize) -> usize
-    ensures { λ r. ⌜ r ≤ most ⌝ }
-{
-    if most < n {
-        return most;
-    }
-    n
 }
 
 fn compare(words: &[u32]) -> Tally {

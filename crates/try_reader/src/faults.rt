@@ -3,9 +3,9 @@ use crate::compare::Tally;
 use crate::compare::case;
 use crate::compare::none;
 use crate::compare::sum;
-use crate::compare::within;
 use cases::place_of;
 use cases::take_line;
+use cases::within;
 
 // Fault k is in a set if bit k is.
 fn has(set: u32, fault: u32) -> bool {
