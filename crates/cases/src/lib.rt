@@ -54,6 +54,19 @@ pub fn take_words(text: &[u8], words: &mut [u32]) -> usize
     begun
 }
 
+// The words of a line that begins with a blank; another line is a remark.
+pub fn take_line(line: &[u8], words: &mut [u32]) -> usize
+    ensures { λ r. ⌜ r ≤ length (now (words .entry)) ⌝ }
+{
+    if line.len() == 0 {
+        return 0;
+    }
+    if line[0] != b' ' {
+        return 0;
+    }
+    take_words(line, words)
+}
+
 // The first place of a byte from a place on, or the end.
 pub fn place_of(text: &[u8], from: usize, b: u8) -> usize
     requires { ⌜ from ≤ length (now text) ⌝ }
@@ -67,4 +80,14 @@ pub fn place_of(text: &[u8], from: usize, b: u8) -> usize
         i += 1;
     }
     i
+}
+
+// A number, or the most that it may be.
+pub fn within(n: usize, most: usize) -> usize
+    ensures { λ r. ⌜ r ≤ most ⌝ }
+{
+    if most < n {
+        return most;
+    }
+    n
 }

@@ -6,7 +6,6 @@ use mathlib.Core.List.{List}
 use Prim.Native.Nat.{ℕ, suc, _+_, _*_, _-_, _<_, _≤_, min}
 use native.Mathlib.Nat.{le-antisymm, le-trans}
 use native.Mathlib.Omega.{arith}
-use native.Mathlib.Numerals.{add-one}
 use lib.Dec.{ltb}
 use lib.ListN.{length, getD, drop}
 use borrow.Author.Tests.{lt-ltb, le-ltb, ltb-true, eqb-true}
@@ -25,6 +24,7 @@ use Rattle.strips.specs.Strips.{instanceOn, gapLeft, siteOpens, openCost, joinC
 use Rattle.strips.proofs.Decisions.{inside-on, opens-on, joins-up-on, joins-down-on}
 use Rattle.budgets.specs.Budgets.{Within, Splits, partAt, shareBy, leftBy}
 use Rattle.budgets.proofs.Sharing.{share-by}
+use Rattle.entries.proofs.Places.{upper-is, lower-is}
 use Rattle.entries.proofs.Joins.{opening, opens-of, shut, up-at, down-at, up-least, down-least}
 use Rattle.entries.specs.Rows.{rowOf, rowIn, Lies, openBy, upperPart, lowerPart, joinLeast, noPart, slotTerm, slotsLeast, insideEntry, entryBy, entryIn}
 
@@ -83,12 +83,6 @@ module _ (q : Measures) (hs bs rs ds work parts counts left : List ℕ) (low : �
       ap₂ (λ (f g : ℕ → ℕ). conv topWord (below rs) f g u) (fun-ext (λ w. cell x w d)) (fun-ext (λ w. cell y w e))
       ∙ sym (share-by rs (q .budgets) parts counts splits (row x) (row y) u h)
 
-  upper-is : (k : ℕ) → upperPart p s k ≡ record { a = p .a; ca = p .ca; b = suc k; cb = suc (s .c); d = 0 }
-  upper-is k = ap₂ (λ (b cb : ℕ). record { a = p .a; ca = p .ca; b = b; cb = cb; d = 0 }) (add-one k) (add-one (s .c))
-
-  lower-is : (k : ℕ) → lowerPart p s k ≡ record { a = suc k; ca = suc (s .c); b = p .b; cb = p .cb; d = 0 }
-  lower-is k = ap₂ (λ (a ca : ℕ). record { a = a; ca = ca; b = p .b; cb = p .cb; d = 0 }) (add-one k) (add-one (s .c))
-
   own-is : record { a = p .a; ca = p .ca; b = p .b; cb = p .cb; d = 0 } ≡ p
   own-is = ap (λ (d : ℕ). record { a = p .a; ca = p .ca; b = p .b; cb = p .cb; d = d }) (sym (lies .dLow))
 
@@ -116,7 +110,7 @@ module _ (q : Measures) (hs bs rs ds work parts counts left : List ℕ) (low : �
   step-open : inside (instanceOn q hs bs) p s ≡ true → (k : ℕ) → opens (instanceOn q hs bs) p s k ≡ true → step k ≡ term k
   unfolding stepCell slotTerm
   step-open i k o =
-      rw (opens-on q hs bs rs ds p s k, o, opening q hs bs p s k o .gap, ← (upper-is k), ← (lower-is k)) (by-draw k (below rs (getD ds (s .c) 0) v) refl ∙ by-part i k o (noPart q hs bs parts counts left row p s k) refl)
+      rw (opens-on q hs bs rs ds p s k, o, opening q hs bs p s k o .gap, ← (upper-is p s k), ← (lower-is p s k)) (by-draw k (below rs (getD ds (s .c) 0) v) refl ∙ by-part i k o (noPart q hs bs parts counts left row p s k) refl)
 
   step-join : (k : ℕ) → opens (instanceOn q hs bs) p s k ≡ false → joinsUp (instanceOn q hs bs) p s k || joinsDown (instanceOn q hs bs) p s k ≡ true
       → step k ≡ plus topWord (joinCost q hs s k) (row p v)

@@ -1,18 +1,16 @@
 -- Where rows stand: bounds on the products, and rows as digits. Assumes nothing.
-use mathlib.Core.Path.{_≡_, refl, ap}
+use mathlib.Core.Path.{_≡_, refl, ap, ap₂, fun-ext}
 use mathlib.Core.List.{List}
 use Prim.Native.Nat.{ℕ, suc, _+_, _*_, _-_, _<_, _≤_}
 use native.Mathlib.Nat.{mul-le-mul}
+use native.Mathlib.Numerals.{add-one}
 use native.Mathlib.Omega.{arith}
 use lib.ListN.{length}
 use Rattle.optimum.specs.Strips.{Point, Strip}
+use Rattle.optimum.proofs.Levels.{pack-lt}
 use Rattle.arrays.specs.declared.Measures.{Measures}
-use Rattle.entries.specs.Rows.{rowOf, rowsOf, Lies, Ready, upperPart, lowerPart}
-
-pack-lt : (x y X B : ℕ) → x < X → y < B → x * B + y < X * B
-pack-lt x y X B h k =
-    let e : X ≡ suc x + (X - suc x) = omega arith in
-    omega (arith, ap (λ (z : ℕ). z * B) e)
+use Rattle.budgets.specs.Budgets.{Others}
+use Rattle.entries.specs.Rows.{rowOf, rowIn, rowsOf, Lies, Ready, upperPart, lowerPart}
 
 pub row-low : (m C : ℕ) (p : Strip) → Lies m C p → rowOf m C p < rowsOf m C
 row-low m C p r =
@@ -50,7 +48,17 @@ row-fits m C n p r =
     let e : rowsOf m C ≡ suc (rowOf m C p) + (rowsOf m C - suc (rowOf m C p)) = omega (arith, row-low m C p r) in
     omega (arith, ap (λ (z : ℕ). z * n) e)
 
+-- rows past the words that changed are the same
+pub same-rows : (old new : List ℕ) (base count low m C n : ℕ) → base + count ≤ low → Others old new base count → rowIn new low m C n ≡ rowIn old low m C n
+same-rows old new base count low m C n h o = fun-ext (λ p. fun-ext (λ v. o .after _ (omega arith)))
+
 -- the parts that a label at slot k leaves of a strip
+pub upper-is : (p : Strip) (s : Point) (k : ℕ) → upperPart p s k ≡ record { a = p .a; ca = p .ca; b = suc k; cb = suc (s .c); d = 0 }
+upper-is p s k = ap₂ (λ (b cb : ℕ). record { a = p .a; ca = p .ca; b = b; cb = cb; d = 0 }) (add-one k) (add-one (s .c))
+
+pub lower-is : (p : Strip) (s : Point) (k : ℕ) → lowerPart p s k ≡ record { a = suc k; ca = suc (s .c); b = p .b; cb = p .cb; d = 0 }
+lower-is p s k = ap₂ (λ (a ca : ℕ). record { a = a; ca = ca; b = p .b; cb = p .cb; d = 0 }) (add-one k) (add-one (s .c))
+
 pub upper-lies : (m C : ℕ) (p : Strip) (s : Point) (k : ℕ) → Lies m C p → s .c < C → k + 1 < p .b → Lies m C (upperPart p s k)
 upper-lies m C p s k r c h = record { aLow = r .aLow; caLow = r .caLow; bLow = omega (arith, r .bLow); cbLow = omega arith; dLow = refl }
 

@@ -7,10 +7,11 @@ use Prim.Native.Nat.{ℕ, _+_, _*_, _-_, _<_, _≤_, min}
 use native.Mathlib.Nat.{le-antisymm}
 use native.Mathlib.Omega.{arith}
 use native.Mathlib.Numerals.{add-one}
+use lib.Dec.{eqb}
 use lib.ListN.{length, getD, set}
 use lib.Seq.{getD-set-same, getD-set-other}
 use borrow.Author.Tests.{lt-ltb, eqb-true}
-use Rattle.lists.proofs.Tests.{by-test, by-order, by-either, or-e}
+use Rattle.lists.proofs.Tests.{by-test, by-order, by-either, and-both, or-e}
 use Rattle.search.specs.Cost.{plus, least}
 use Rattle.search.proofs.Cost.{plus-top, top-plus, plus-le, least-le, least-le-top, least-most}
 use Rattle.optimum.specs.Strips.{Point, Strip}
@@ -19,8 +20,16 @@ use Rattle.arrays.specs.declared.Measures.{Measures}
 use Rattle.strips.specs.declared.Window.{Window}
 use Rattle.strips.specs.Strips.{instanceOn, WindowOf, gapLeft, openCost}
 use Rattle.budgets.specs.Budgets.{Others, partAt, shareBy}
-use Rattle.entries.specs.Rows.{rowOf, rowIn, openBy, upperPart, lowerPart, noPart, slotTerm, slotsLeast, singleTerm, Single}
+use Rattle.entries.specs.Rows.{rowOf, rowIn, openBy, upperPart, lowerPart, noPart, slotTerm, slotsLeast, singleTerm, Single, isSingle}
 use Rattle.entries.proofs.Terms.{window-gap, window-shut}
+
+-- by its test
+pub single-of : (n : ℕ) (parts counts left : List ℕ) → isSingle n parts counts left ≡ true → Single n parts counts left
+single-of n parts counts left h =
+    let a = and-both (eqb n 1) _ h in
+    let b = and-both (eqb (getD parts 0 0) 0) _ (a .1) in
+    let c = and-both (eqb (getD counts 0 0) 1) _ (b .1) in
+    record { one = eqb-true _ _ (a .0); own = eqb-true _ _ (b .0); counted = eqb-true _ _ (c .0); drawn = eqb-true _ _ (c .1) }
 
 -- the sum, as code works it out
 pub single-term : (q : Measures) (hs work : List ℕ) (low : ℕ) (p : Strip) (s : Point) (k upper lower parts cost t : ℕ)

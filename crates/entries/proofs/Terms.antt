@@ -1,5 +1,5 @@
 -- The terms of an entry, as the rows are written. Assumes nothing.
-use mathlib.Core.Path.{_≡_, refl, sym, ap, ap₂, _∙_, fun-ext, subst}
+use mathlib.Core.Path.{_≡_, refl, sym, ap, ap₂, _∙_, subst}
 use mathlib.Core.Logic.{_⊎_, inl, inr}
 use mathlib.Core.Bool.{Bool, true, false, _&&_, _||_}
 use mathlib.Core.List.{List}
@@ -18,6 +18,7 @@ use Rattle.arrays.specs.declared.Measures.{Measures}
 use Rattle.strips.specs.declared.Window.{Window}
 use Rattle.strips.specs.Strips.{instanceOn, WindowOf, gapLeft, siteOpens, openCost}
 use Rattle.budgets.specs.Budgets.{Others}
+use Rattle.entries.proofs.Places.{same-rows}
 use Rattle.entries.specs.Rows.{rowOf, rowIn, openBy, upperPart, lowerPart, joinLeast, noPart, slotTerm, slotsLeast, insideEntry, entryBy}
 
 -- slots in a window, and out of it
@@ -72,9 +73,6 @@ module _ (q : Measures) (hs bs parts counts left : List ℕ) where
       one n g = unfold least in rw g (omega (arith, least-le-top topWord n (λ i. slotTerm q hs bs parts counts left row p s (p .a + i) v)))
 
   -- rows a level below do not change while a row is filled
-  pub same-rows : (old new : List ℕ) (base n low m C : ℕ) → base + n ≤ low → Others old new base n → rowIn new low m C n ≡ rowIn old low m C n
-  same-rows old new base n low m C h o = fun-ext (λ p. fun-ext (λ v. o .after (low + rowOf m C p * n + v) (omega arith)))
-
   -- a row after so many of the slots between the strip's ends
   pub record Tried (old new : List ℕ) (base low : ℕ) (p : Strip) (s : Point) (count : ℕ) : Type 0 where
     pub long : length new ≡ length old
@@ -96,7 +94,7 @@ module _ (q : Measures) (hs bs parts counts left : List ℕ) where
     long = l ∙ t .long;
     others = record { before = λ i k. o .before i k ∙ t .others .before i k; after = λ i k. o .after i k ∙ t .others .after i k };
     row = λ v k.
-        let g = f v k ∙ ap₂ (λ (x : ℕ) (r : Strip → ℕ → ℕ). min x (slotTerm q hs bs parts counts left r p s (p .a + count) v)) (t .row v k) (same-rows old new base (q .budgets) low (length hs) (q .colours) h (t .others)) in
+        let g = f v k ∙ ap₂ (λ (x : ℕ) (r : Strip → ℕ → ℕ). min x (slotTerm q hs bs parts counts left r p s (p .a + count) v)) (t .row v k) (same-rows old new base (q .budgets) low (length hs) (q .colours) (q .budgets) h (t .others)) in
         rw add-one (g ∙ omega arith);
   }
 
@@ -152,4 +150,4 @@ module _ (q : Measures) (hs bs parts counts left : List ℕ) where
   unfolding entryBy insideEntry
   row-opened old mid new base low same c p s b e o d f others g k v h =
       let start : getD mid (base + v) 0 ≡ plus topWord (joinLeast q hs bs p s) (rowIn old low (length hs) (q .colours) (q .budgets) p v) = g v h ∙ ap₂ (λ (x z : ℕ). plus topWord x (getD old (z + v) 0)) d f in
-      rw (e, o) (k v h ∙ ap₂ (λ (x : ℕ) (r : Strip → ℕ → ℕ). min x (slotsLeast q hs bs parts counts left r p s (p .b - 1 - p .a) v)) start (same-rows old mid base (q .budgets) low (length hs) (q .colours) b others))
+      rw (e, o) (k v h ∙ ap₂ (λ (x : ℕ) (r : Strip → ℕ → ℕ). min x (slotsLeast q hs bs parts counts left r p s (p .b - 1 - p .a) v)) start (same-rows old mid base (q .budgets) low (length hs) (q .colours) (q .budgets) b others))

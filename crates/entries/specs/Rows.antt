@@ -121,6 +121,10 @@ pub record Single (n : ℕ) (parts counts left : List ℕ) : Type 0 where
   pub counted : getD counts 0 0 ≡ 1
   pub drawn : getD left 0 0 ≡ 0
 
+-- the test of it
+abbrev pub isSingle : (n : ℕ) (parts counts left : List ℕ) → Bool
+isSingle n parts counts left = eqb n 1 && (eqb (getD parts 0 0) 0 && (eqb (getD counts 0 0) 1 && eqb (getD left 0 0) 0))
+
 -- the same by the model, from the level that begins at the word `low`: C colours, budgets below R
 abbrev pub entryIn : (P : Instance) (C R : ℕ) → (work : List ℕ) → (low : ℕ) → Strip → Point → (v : ℕ) → ℕ
 entryIn P C R work low p s v =

@@ -7,7 +7,7 @@ ghost use Rattle.search.specs.Cost.{plus, least};
 ghost use Rattle.optimum.specs.OneSided.{topWord};
 ghost use Rattle.strips.specs.Strips.{instanceOn, stripOf, pointOf, gapLeft, Measured, WindowOf};
 ghost use Rattle.budgets.specs.Budgets.{Others, Within};
-ghost use Rattle.entries.specs.Rows.{rowOf, rowsOf, Framed, Lies, Stands, Ready, rowIn, upperPart, lowerPart, openBy, joinLeast, slotTerm, singleTerm, slotsLeast, Single, entryBy};
+ghost use Rattle.entries.specs.Rows.{rowOf, rowsOf, Framed, Lies, Stands, Ready, rowIn, upperPart, lowerPart, openBy, joinLeast, slotTerm, singleTerm, slotsLeast, isSingle, entryBy};
 use arrays::Measures;
 use strips::Site;
 use strips::Strip;
@@ -244,7 +244,7 @@ fn open_each(
 // There is but one budget, and it allows the label.
 fn is_single(n: usize, parts: &[u8], counts: &[u8], left: &[u8]) -> bool
     requires { ⌜ Within n (now parts) (now counts) × (n ≤ length (now left)) × (0 < n) ⌝ }
-    ensures { λ r. ⌜ (r ≡ true → Single n (now (parts .entry)) (now (counts .entry)) (now (left .entry))) ⌝ }
+    ensures { λ r. ⌜ r ≡ isSingle n (now (parts .entry)) (now (counts .entry)) (now (left .entry)) ⌝ }
 {
     if n != 1 {
         return false;

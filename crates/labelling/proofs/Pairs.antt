@@ -3,6 +3,7 @@
 use mathlib.Core.Path.{_≡_, refl, sym, ap, _∙_, subst, subst⁻¹, fun-ext}
 use mathlib.Core.Bool.{Bool, true, false, _&&_, _||_, not}
 use mathlib.Core.List.{List}
+use mathlib.Core.Logic.{_↔_}
 use Prim.Native.Nat.{ℕ, _≤_, _<_}
 use native.Mathlib.Omega.{arith}
 use lib.Dec.{eqb, leb}
@@ -80,12 +81,8 @@ pub record InOrder (s : Sheet) (js : List ℕ) (i j : ℕ) : Type 0 where
 abbrev pub AllInOrder : Sheet → (ties : List ℕ) → Type 0
 AllInOrder s js = (i j : ℕ) → i < length (s .sites) → j < length (s .sites) → InOrder s js i j
 
--- what the rules ask of the layout that is about no pair: nothing
-pub record Others (s : Sheet) (js : List ℕ) : Type 0 where
-
 module _ (s : Sheet) (inside : all (insideBy (s .width)) (s .sites) ≡ true) (js : List ℕ) (long : length js ≡ length (s .sites)) where
-  -- THEOREM 0, to pairs
-  pub rules-pairs : Rules s js → AllInOrder s js
+  rules-pairs : Rules s js → AllInOrder s js
   rules-pairs r i j hi hj = record {
     colour = r .one i j hi hj;
     far = r .three i j hi hj;
@@ -96,9 +93,8 @@ module _ (s : Sheet) (inside : all (insideBy (s .width)) (s .sites) ≡ true) (j
       used : isUsed (getD js i 0) js ≡ true
       used = used-at js i (omega arith)
 
-  -- THEOREM 0, from pairs: with rule 2 they are the rules
-  pub pairs-rules : AllInOrder s js → Others s js → RuleTwo s js → Rules s js
-  pairs-rules p o b = record {
+  pairs-rules : AllInOrder s js → RuleTwo s js → Rules s js
+  pairs-rules p b = record {
     one = λ i j hi hj. p i j hi hj .colour;
     two = b;
     three = λ i j hi hj. p i j hi hj .far;
@@ -109,3 +105,7 @@ module _ (s : Sheet) (inside : all (insideBy (s .width)) (s .sites) ≡ true) (j
         leb-true (s .gap) _ (subst (λ (z : ℕ). isClear s z ((siteAt s i) .y) ≡ true) eq
         (p q i hq hi .clear (λ t. n (sym t ∙ eq)) (subst (λ (z : ℕ). Counted s z ((siteAt s i) .x)) rq e)));
   }
+
+  -- THEOREM 0: the rules are every pair in order, and rule 2
+  pub rules-are-pairs : Rules s js ↔ (AllInOrder s js × RuleTwo s js)
+  rules-are-pairs = (λ r. (rules-pairs r, r .two), λ p. pairs-rules (p .0) (p .1))

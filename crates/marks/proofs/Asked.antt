@@ -1,11 +1,10 @@
 -- What a strip asks for, and that what the whole sheet leads to has the shape that is looked for. Assumes nothing.
-use mathlib.Core.Path.{_≡_, sym, ap, ap₂, _∙_, subst}
+use mathlib.Core.Path.{_≡_, sym, ap, _∙_, subst}
 use mathlib.Core.Logic.{_⊎_, inl, inr}
 use mathlib.Core.Bool.{true, false, _||_}
 use mathlib.Core.List.{List}
 use Prim.Native.Nat.{ℕ, suc, _-_, _<_, _≤_}
 use native.Mathlib.Omega.{arith}
-use native.Mathlib.Numerals.{add-one}
 use lib.ListN.{length}
 use borrow.Author.Tests.{leb-true, ltb-true}
 use Rattle.lists.proofs.Tests.{by-test, by-either, and-both, or-e, clash}
@@ -16,6 +15,7 @@ use Rattle.arrays.specs.declared.Measures.{Measures}
 use Rattle.strips.specs.Strips.{instanceOn, siteOpens, WindowOf}
 use Rattle.strips.specs.declared.Window.{Window}
 use Rattle.entries.specs.Rows.{Framed, Lies, Stands, joinLeast, upperPart, lowerPart}
+use Rattle.entries.proofs.Places.{upper-is, lower-is}
 use Rattle.entries.proofs.Joins.{Opening, opening, up-least, down-least, join-low}
 use Rattle.marks.specs.Marks.{Marked, PartsMarked}
 
@@ -34,12 +34,6 @@ module _ (q : Measures) (hs bs : List ℕ) (p : Strip) (s : Point) where
     pub opened : Opening q hs bs p s k
     pub which : (x ≡ upperPart p s k) ⊎ (x ≡ lowerPart p s k)
 
-  upper-is : (k : ℕ) → upperPart p s k ≡ record { a = p .a; ca = p .ca; b = suc k; cb = suc (s .c); d = 0 }
-  upper-is k = ap₂ (λ (b cb : ℕ). record { a = p .a; ca = p .ca; b = b; cb = cb; d = 0 }) (add-one k) (add-one (s .c))
-
-  lower-is : (k : ℕ) → lowerPart p s k ≡ record { a = suc k; ca = suc (s .c); b = p .b; cb = p .cb; d = 0 }
-  lower-is k = ap₂ (λ (a ca : ℕ). record { a = a; ca = ca; b = p .b; cb = p .cb; d = 0 }) (add-one k) (add-one (s .c))
-
   -- a site inside joins a label, which leaves the strip as it is, or opens one
   pub asked-in : (x : Strip) → Lies (length hs) (q .colours) p → Framed q hs bs → Stands (q .colours) s → inside P p s ≡ true → Asks P p s x
       → ((x ≡ p) × (joinLeast q hs bs p s < topWord)) ⊎ Part x
@@ -51,8 +45,8 @@ module _ (q : Measures) (hs bs : List ℕ) (p : Strip) (s : Point) where
       (λ o. inl (one (rw o at m), least o (rw o at t)))
     where
       two : (x ≡ record { a = p .a; ca = p .ca; b = suc k; cb = suc (s .c); d = 0 }) ⊎ ((x ≡ record { a = suc k; ca = suc (s .c); b = p .b; cb = p .cb; d = 0 }) ⊎ ⊥) → (x ≡ upperPart p s k) ⊎ (x ≡ lowerPart p s k)
-      two (inl z) = inl (z ∙ sym (upper-is k))
-      two (inr (inl z)) = inr (z ∙ sym (lower-is k))
+      two (inl z) = inl (z ∙ sym (upper-is p s k))
+      two (inr (inl z)) = inr (z ∙ sym (lower-is p s k))
 
       one : (x ≡ record { a = p .a; ca = p .ca; b = p .b; cb = p .cb; d = 0 }) ⊎ ⊥ → x ≡ p
       one (inl z) = z ∙ ap (λ (d : ℕ). record { a = p .a; ca = p .ca; b = p .b; cb = p .cb; d = d }) (sym (l .dLow))
@@ -71,7 +65,7 @@ module _ (q : Measures) (hs bs : List ℕ) (p : Strip) (s : Point) where
   unfolding children In
   asks-parts k i o =
       let l = opening q hs bs p s k o .slot in
-      (inr (i, (k, l, rw o, rw o (inl (upper-is k)))), inr (i, (k, l, rw o, rw o (inr (inl (lower-is k))))))
+      (inr (i, (k, l, rw o, rw o (inl (upper-is p s k)))), inr (i, (k, l, rw o, rw o (inr (inl (lower-is p s k))))))
 
   -- where the site lies outside, all that is asked for is marked if the strip is
   pub marked-out : (work : List ℕ) (low : ℕ) → inside P p s ≡ false → Marked work low (length hs) (q .colours) (q .budgets) p

@@ -35,6 +35,12 @@ slot-high C a c d h e = by-order a c (λ l. l) (λ l. absurd (omega (arith, late
 pub slot-low : (C a c d : ℕ) → a ≤ c → endPlace C a 0 ≤ endPlace C c d
 slot-low C a c d h = let e : c ≡ a + (c - a) = omega arith in omega (arith, ap (λ (z : ℕ). z * (C + 1)) e)
 
+-- no strip has an upper end that is none
+pub ended : (m C slot colour : ℕ) → colour ≤ C → upperEnd slot colour ≡ false → (p : Strip) → Shaped m C p → endPlace C (p .a) (p .ca) ≡ endPlace C slot colour → ⊥
+ended m C slot colour c u p t e =
+    let x = same-end C (p .a) (p .ca) slot colour (omega (arith, t .lies .caLow)) c e in
+    clash (ap₂ upperEnd (sym (x .0)) (sym (x .1)) ∙ t .ends) u
+
 -- the row of a strip, by its ends
 pub row-ends : (m C : ℕ) (p : Strip) → rowOf m C p ≡ endPlace C (p .a) (p .ca) * ((m + 2) * (C + 1)) + endPlace C (p .b) (p .cb)
 row-ends m C p = omega arith
@@ -100,13 +106,6 @@ module _ (q : Measures) (hs bs : List ℕ) (base low : ℕ) (s : Point) where
       → (p : Strip) → Shaped (length hs) (q .colours) p → endPlace (q .colours) (p .a) (p .ca) ≡ above → Led P q old new base low s p
   followed-all old new above c d h f p t e =
       f .led p t e (later-end (q .colours) (p .b) (p .cb) c d (omega (arith, t .lies .cbLow)) (omega (arith, t .lies .bLow)))
-
-  -- no strip has an upper end that is none
-  pub ended : (old new : List ℕ) (slot colour : ℕ) → colour ≤ q .colours → upperEnd slot colour ≡ false
-      → (p : Strip) → Shaped (length hs) (q .colours) p → endPlace (q .colours) (p .a) (p .ca) ≡ endPlace (q .colours) slot colour → Led P q old new base low s p
-  ended old new slot colour c u p t e =
-      let x = same-end (q .colours) (p .a) (p .ca) slot colour (omega (arith, t .lies .caLow)) c e in
-      clash (ap₂ upperEnd (sym (x .0)) (sym (x .1)) ∙ t .ends) u
 
   -- the strips below all upper ends, up to one
   pub record Passed (old new : List ℕ) (place : ℕ) : Type 0 where

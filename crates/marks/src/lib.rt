@@ -262,6 +262,7 @@ fn follow_level(
 // Clears the first word of each of so many rows.
 fn clear_marks(work: &mut [u32], rows: usize, n: usize)
     requires { ⌜ (rows * n ≤ length (now work)) × (0 < n) ⌝ }
+    ensures { λ _. ⌜ ((r : ℕ) → r < rows → getD (now (work .exit)) (r * n) 0 ≡ 0) ⌝ }
     ensures { λ _. ⌜ ((i : ℕ) → rows * n ≤ i → getD (now (work .exit)) i 0 ≡ getD (now (work .entry)) i 0) ⌝ }
 {
     let mut at: usize = 0;

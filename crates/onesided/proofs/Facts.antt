@@ -29,7 +29,8 @@ use Rattle.table.specs.Rows.{Given}
 use Rattle.budgets.specs.Budgets.{Splits}
 use Rattle.optimum.specs.Reached.{TableOf}
 use Rattle.walk.proofs.Tying.{points-long}
-use Rattle.onesided.specs.Laid.{Ranked, TableFilled, wiped}
+use Rattle.answer.specs.Laid.{TableFilled, wiped}
+use Rattle.onesided.specs.Ranked.{Ranked}
 
 gathered-get : (l os : List ℕ) (i : ℕ) → i < length os → getD (gathered l os) i 0 ≡ getD l (getD os i 0) 0
 unfolding gathered

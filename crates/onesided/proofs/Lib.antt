@@ -1,4 +1,3 @@
-mod Finished
 mod Called
 mod Facts
 mod Parts

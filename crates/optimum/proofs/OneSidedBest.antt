@@ -19,7 +19,7 @@ use Rattle.labelling.proofs.Best.{Obeys, below as lowTies}
 use Rattle.labelling.proofs.Rules.{Rules, Bounded, obeys-rules, rules-obey}
 use Rattle.labelling.proofs.Earlier.{Earlier, better-e}
 use Rattle.labelling.proofs.Maker.{First, best-some-iff, best-none-iff}
-use Rattle.labelling.proofs.Pairs.{AllInOrder, rules-pairs, pairs-rules}
+use Rattle.labelling.proofs.Pairs.{AllInOrder, rules-are-pairs}
 use Rattle.optimum.specs.Strips.{Point, Instance, labels, walked}
 use Rattle.optimum.specs.Budgets.{isUnbounded, digitIn}
 use Rattle.optimum.specs.CostWord.{layoutCost}
@@ -77,7 +77,7 @@ module _ (s : Sheet) (o : Sound s) (one : s .isTwoSided ≡ false) where
         r = obeys-rules s js b
 
         p : AllInOrder s js
-        p = rules-pairs s (o .inside) js long r
+        p = rules-are-pairs s (o .inside) js long .0 r .0
 
         low : (i : ℕ) → isUsed i (order s) ≡ true → getD js i 0 < length (s .slots)
         low i u = ltb-true _ _ (all-at (λ j. ltb j (length (s .slots))) 0 js (b .low) i (omega (arith, ordered s o .low i u .0)))
@@ -103,7 +103,7 @@ module _ (s : Sheet) (o : Sound s) (one : s .isTwoSided ≡ false) where
         → Pays (instanceOf s) (replicate (length (s .slots)) 0) (fullBudget s) (pointsAt s (order s)) (gather js (order s))
         → Tips (instanceOf s) (replicate (length (s .slots)) 0) (pointsAt s (order s)) (gather js (order s))
         → Turns (instanceOf s) (replicate (length (s .slots)) 0) (replicate (suc (length (s .slots))) 0) (pointsAt s (order s)) (gather js (order s)) → Obeys s js
-    steps-obey t y w x = rules-obey s js long low (pairs-rules s (o .inside) js long p (record {}) two)
+    steps-obey t y w x = rules-obey s js long low (rules-are-pairs s (o .inside) js long .1 (p, two))
       where
         q : StepAll (instanceOf s) (replicate (length (s .slots)) 0) (pointsAt s (order s)) (gather js (order s)) × Pairs (instanceOf s) (pointsAt s (order s)) (gather js (order s))
         q = steps-e (instanceOf s) (pointsAt s (order s)) (gather js (order s)) _ empty-long t

@@ -1,6 +1,6 @@
 -- THE OPTIMUM, an end in itself: for every accepted sheet the best layout of all is what the model finds. What stands behind it,
 -- one-sided:
---   0 rules are about pairs       labelling/proofs/Pairs rules-pairs, pairs-rules; by rank: RankedPairs pairs-rising, rising-pairs
+--   0 rules are about pairs       labelling/proofs/Pairs rules-are-pairs; by rank: RankedPairs pairs-rising, rising-pairs
 --   1 steps are rules             Pairs steps-e, steps-i; Steps run-e, run-i; Pays pays-e, pays-i; Counts; OneSidedBest obeys-steps, steps-obey
 --   2 neighbours are enough       Neighbours open-step, up-step, down-step and back step-open, step-join
 --   3 strips are independent      search/proofs/Plan strips-independent (Strips independent); StripsHeld value-best

@@ -1,19 +1,19 @@
 // The rules of a lawful layout, each as its sentence says. A layout here is the slot of each site.
-use crate::numbers::apart;
-use crate::numbers::at;
-use crate::numbers::lesser;
-use crate::numbers::sum;
-use crate::recipe::bound;
-use crate::recipe::colours;
-use crate::recipe::gap;
-use crate::recipe::height;
-use crate::recipe::is_two_sided;
-use crate::recipe::site_colour;
-use crate::recipe::sites;
-use crate::recipe::slots;
-use crate::recipe::width;
-use crate::recipe::x;
-use crate::recipe::y;
+use small_sheet::numbers::apart;
+use small_sheet::numbers::at;
+use small_sheet::numbers::lesser;
+use small_sheet::numbers::sum;
+use small_sheet::parts::bound;
+use small_sheet::parts::colours;
+use small_sheet::parts::gap;
+use small_sheet::parts::height;
+use small_sheet::parts::is_two_sided;
+use small_sheet::parts::site_colour;
+use small_sheet::parts::sites;
+use small_sheet::parts::slots;
+use small_sheet::parts::width;
+use small_sheet::parts::x;
+use small_sheet::parts::y;
 
 // A slot is used if some site has it.
 pub fn is_used(sheet: &[u32], layout: &[u32], slot: u32) -> bool {

@@ -1,15 +1,15 @@
 // The best lawful layout of a sheet: all layouts are tried, in the order in which equals come.
-use crate::numbers::at;
-use crate::numbers::last_of;
-use crate::numbers::put;
-use crate::numbers::sum;
-use crate::recipe::is_shortest;
-use crate::recipe::sites;
-use crate::recipe::slots;
-use crate::recipe::x;
 use crate::rules::is_lawful;
 use crate::rules::label_count;
 use crate::rules::layout_length;
+use small_sheet::numbers::at;
+use small_sheet::numbers::last_of;
+use small_sheet::numbers::put;
+use small_sheet::numbers::sum;
+use small_sheet::parts::is_shortest;
+use small_sheet::parts::sites;
+use small_sheet::parts::slots;
+use small_sheet::parts::x;
 
 pub struct Found {
     pub some: bool,
@@ -145,4 +145,12 @@ pub fn search(sheet: &[u32], answer: &mut [u32]) -> Found {
         tried += 1;
     }
     best
+}
+
+// The answer's words: count and length, then a word for each site.
+pub fn answer_word(layout: &[u32], best: Found, i: u32) -> u32 {
+    if i == 0 {
+        return 2147483648 + best.labels % 128 * 2097152 + best.length % 2097152;
+    }
+    2415919104 + at(layout, i - 1) % 256
 }

@@ -1,7 +1,75 @@
-// The program's run: it reads, calls and writes.
+// The program's text, from the bytes of its input; and its run, which reads, calls and writes.
+ghost use mathlib.Core.Path.{_≡_};
+ghost use Prim.Native.Nat.{_≤_};
+ghost use lib.ListN.{length};
+ghost use Rattle.text.specs.Text.{written, pastOf};
+ghost use Rattle.program.specs.Report.{sheetText, programSheetText, isUnfit, programText, reportSize, reportArea};
 use libc::STDIN_FILENO;
 use libc::STDOUT_FILENO;
-use report::report;
+use lines::put_layout;
+use lines::put_refused;
+use lines::put_words;
+use lines::wide;
+use maker::make_layout;
+
+// Bytes that hold every text: a first line of at most 36 and 32 lines of at most 50.
+pub const LONGEST: usize = 1636;
+
+// What the layout maker says of a sheet, with areas for its work and its answer.
+fn put_sheet(text: &mut [u8], sheet: &[u32], work: &mut [u32], answer: &mut [u32]) -> usize
+    requires { ⌜ length (now sheet) ≤ 256 ⌝ }
+    ensures { λ r. ⌜ r ≡ pastOf (now (text .entry)) 0 (sheetText (now (sheet .entry)) (now (work .entry)) (now (answer .entry))) ⌝ }
+    ensures { λ r. ⌜ now (text .exit) ≡ written (now (text .entry)) 0 (sheetText (now (sheet .entry)) (now (work .entry)) (now (answer .entry))) ⌝ }
+{
+    let fault = make_layout(sheet, work, answer);
+    if fault != 0 {
+        return put_refused(text, 0, wide(fault));
+    }
+    put_layout(text, answer, sheet)
+}
+
+// The same with the program's areas.
+fn put_program_sheet(text: &mut [u8], sheet: &[u32]) -> usize
+    requires { ⌜ length (now sheet) ≤ 256 ⌝ }
+    ensures { λ r. ⌜ r ≡ pastOf (now (text .entry)) 0 (programSheetText (now (sheet .entry))) ⌝ }
+    ensures { λ r. ⌜ now (text .exit) ≡ written (now (text .entry)) 0 (programSheetText (now (sheet .entry))) ⌝ }
+{
+    let mut work = [0u32; 16384];
+    let mut answer = [0u32; 33];
+    put_sheet(text, sheet, &mut work, &mut answer)
+}
+
+fn put_program(text: &mut [u8], input: &[u8]) -> usize
+    ensures { λ r. ⌜ r ≡ pastOf (now (text .entry)) 0 (programText (now (input .entry))) ⌝ }
+    ensures { λ r. ⌜ now (text .exit) ≡ written (now (text .entry)) 0 (programText (now (input .entry))) ⌝ }
+{
+    if is_unfit(input.len()) {
+        return put_refused(text, 0, 12);
+    }
+    let mut words = [0u32; 256];
+    let n = put_words(&mut words, input);
+    put_program_sheet(text, &words[..n])
+}
+
+fn is_unfit(size: usize) -> bool
+    ensures { λ r. ⌜ r ≡ isUnfit size ⌝ }
+{
+    if 1024 < size {
+        return true;
+    }
+    size % 4 != 0
+}
+
+// Puts the program's text for an input at the start of an area and answers its number of bytes, or 0 where the area is too short for some text.
+pub fn report(input: &[u8], text: &mut [u8]) -> usize
+    ensures { λ r. ⌜ r ≡ reportSize (now (input .entry)) (now (text .entry)) ⌝ }
+    ensures { λ r. ⌜ now (text .exit) ≡ reportArea (now (input .entry)) (now (text .entry)) ⌝ }
+{
+    if text.len() < LONGEST {
+        return 0;
+    }
+    put_program(text, input)
+}
 
 // One byte more than the longest input that is served.
 pub fn run() {

@@ -10,7 +10,6 @@ use refusals::body_of;
 use refusals::count_kind;
 use refusals::counts_fit;
 use refusals::in_order;
-use refusals::is_head;
 use refusals::product;
 use refusals::ranks_differ;
 use refusals::rises;
@@ -20,6 +19,7 @@ use words::kind_of;
 use words::low_field;
 use words::same;
 use words::side_bit;
+use wordwise::is_head;
 
 #[repr(C)]
 pub struct ColourSize {

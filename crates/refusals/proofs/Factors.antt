@@ -11,7 +11,7 @@ use borrow.Author.Tests.{le-ltb}
 use Rattle.lists.proofs.Places.{at}
 use Rattle.lists.proofs.Tests.{by-test}
 use Rattle.sheet.specs.Sheet.{kindOf, bits, Colour, coloursIn, productOf}
-use Rattle.refusals.specs.Wordwise.{factorOf, capped}
+use Rattle.wordwise.specs.Wordwise.{factorOf, capped}
 
 by : (b : Bool) (n : ℕ) (q : ℕ) (c : Colour) (cs : List Colour) → cond (eqb (c .bound) 255) 1 (c .bound + 1) ≡ n → productOf cs ≡ q
     → productOf (cond b (c ∷ cs) cs) ≡ cond b n 1 * q

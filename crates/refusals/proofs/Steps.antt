@@ -9,7 +9,7 @@ use lib.ListN.{length, getD, drop}
 use Rattle.lists.proofs.Places.{at}
 use Rattle.lists.proofs.Tests.{by-test}
 use Rattle.sheet.specs.Sheet.{kindOf}
-use Rattle.refusals.specs.Wordwise.{lowOk, lowNext, risesFrom, widthOk, allInside, isRanked, someRanked, rankNew, allNew}
+use Rattle.wordwise.specs.Wordwise.{lowOk, lowNext, risesFrom, widthOk, allInside, isRanked, someRanked, rankNew, allNew}
 
 -- the least height that may come stays a number that fits
 pub low-le : (l w : ℕ) → l ≤ 16384 → lowNext l w ≤ 16384

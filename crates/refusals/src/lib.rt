@@ -1,25 +1,25 @@
-// The tests behind refusals 1 to 7, each over any list of words. `body`: a sheet's words after its head.
+// The tests behind refusals 2 to 7, each over any list of words. `body`: a sheet's words after its head.
 ghost use mathlib.Core.Path.{_≡_};
 ghost use mathlib.Core.Bool.{_&&_};
-ghost use Prim.Native.Nat.{ℕ, _+_, _<_};
+ghost use Prim.Native.Nat.{_+_, _<_};
 ghost use lib.Dec.{leb};
 ghost use lib.ListN.{length, getD, drop};
-ghost use Rattle.sheet.specs.Sheet.{all, hasSpare, inOrder, slotsIn, coloursIn, sitesIn, bodyOf, isHead, insideBy, rising, ranksDiffer, productOf};
+ghost use Rattle.sheet.specs.Sheet.{all, inOrder, slotsIn, coloursIn, sitesIn, bodyOf, insideBy, rising, ranksDiffer, productOf};
 ghost use Rattle.sheet.specs.Words.{countKind};
-ghost use Rattle.refusals.specs.Wordwise.{stageAfter, lowOk, lowNext, widthOk, isRanked, someRanked, rankNew, factorOf, capped};
-use words::at_most;
+ghost use Rattle.wordwise.specs.Wordwise.{someRanked, rankNew, capped};
 use words::both;
-use words::byte_field;
-use words::choose;
 use words::either;
 use words::few;
-use words::gap_field;
-use words::high_field;
 use words::is_not;
 use words::kind_of;
-use words::low_field;
 use words::rank_of;
 use words::same;
+use wordwise::factor;
+use wordwise::is_ranked;
+use wordwise::low_next;
+use wordwise::low_ok;
+use wordwise::stage_after;
+use wordwise::width_ok;
 
 // The words after the head.
 pub fn body_of(sheet: &[u32]) -> &[u32]
@@ -31,52 +31,7 @@ pub fn body_of(sheet: &[u32]) -> &[u32]
     &sheet[1..]
 }
 
-// Refusal 1.
-pub fn is_head(sheet: &[u32]) -> bool
-    ensures { λ r. ⌜ r ≡ isHead (now (sheet .entry)) ⌝ }
-{
-    if sheet.len() == 0 {
-        return false;
-    }
-    let head = sheet[0];
-    let width = both(same(kind_of(head), 1), is_not(same(low_field(head), 0)));
-    both(width, is_not(same(gap_field(head), 0)))
-}
-
 // Refusal 2.
-fn has_spare(w: u32) -> bool
-    ensures { λ r. ⌜ r ≡ hasSpare w ⌝ }
-{
-    let k = kind_of(w);
-    if k == 2 {
-        return high_field(w) != 0;
-    }
-    if k == 3 {
-        return w / 256 % 1048576 != 0;
-    }
-    false
-}
-
-// The stage after a word: 0 slots may come, 1 a colour has come, 2 out of order.
-fn stage_after(z: u32, w: u32) -> u32
-    ensures { λ r. ⌜ r ≡ stageAfter z w ⌝ }
-{
-    if has_spare(w) {
-        return 2;
-    }
-    let k = kind_of(w);
-    if k == 2 {
-        return choose(same(z, 0), 0, 2);
-    }
-    if k == 3 {
-        return 1;
-    }
-    if k == 4 {
-        return choose(same(z, 1), 1, 2);
-    }
-    2
-}
-
 pub fn in_order(body: &[u32]) -> bool
     ensures { λ r. ⌜ r ≡ inOrder 0 (now (body .entry)) ⌝ }
 {
@@ -117,18 +72,6 @@ pub fn counts_fit(body: &[u32]) -> bool
 }
 
 // Refusal 4.
-fn low_ok(low: u32, w: u32) -> bool
-    ensures { λ r. ⌜ r ≡ lowOk low w ⌝ }
-{
-    either(is_not(same(kind_of(w), 2)), at_most(low, low_field(w)))
-}
-
-fn low_next(low: u32, w: u32) -> u32
-    ensures { λ r. ⌜ r ≡ lowNext low w ⌝ }
-{
-    choose(same(kind_of(w), 2), w % 16384 + 1, low)
-}
-
 pub fn rises(body: &[u32]) -> bool
     ensures { λ r. ⌜ r ≡ rising (slotsIn (now (body .entry))) ⌝ }
 {
@@ -146,12 +89,6 @@ pub fn rises(body: &[u32]) -> bool
 }
 
 // Refusal 5.
-fn width_ok(width: u32, w: u32) -> bool
-    ensures { λ r. ⌜ r ≡ widthOk width w ⌝ }
-{
-    either(is_not(same(kind_of(w), 4)), at_most(high_field(w), width))
-}
-
 pub fn all_inside(body: &[u32], width: u32) -> bool
     ensures { λ r. ⌜ r ≡ all (insideBy width) (sitesIn 0 (now (body .entry))) ⌝ }
 {
@@ -165,14 +102,7 @@ pub fn all_inside(body: &[u32], width: u32) -> bool
     true
 }
 
-// Refusal 6.
-fn is_ranked(rank: u32, w: u32) -> bool
-    ensures { λ r. ⌜ r ≡ isRanked rank w ⌝ }
-{
-    both(same(kind_of(w), 4), same(rank_of(w), rank))
-}
-
-// Some word from a place on is a site of this rank.
+// Refusal 6: some word from a place on is a site of this rank.
 fn some_ranked(words: &[u32], from: usize, rank: u32) -> bool
     ensures { λ r. ⌜ r ≡ someRanked rank (drop from (now (words .entry))) ⌝ }
 {
@@ -210,16 +140,7 @@ pub fn ranks_differ(body: &[u32]) -> bool
     true
 }
 
-// Refusal 7: what a word multiplies P by.
-fn factor(w: u32) -> u32
-    ensures { λ r. ⌜ r ≡ factorOf w ⌝ }
-{
-    let bound = w % 256;
-    let times = choose(same(bound, 255), 1, bound + 1);
-    choose(same(kind_of(w), 3), times, 1)
-}
-
-// P, or 65 where it is above 64: it stops there, so that no product is too large.
+// Refusal 7: P, or 65 where it is above 64: it stops there, so that no product is too large.
 pub fn product(body: &[u32]) -> u32
     ensures { λ r. ⌜ r ≡ capped (productOf (coloursIn (now (body .entry)))) ⌝ }
 {

@@ -1,25 +1,21 @@
 -- Rows of a level filled one by one, by their ends. Assumes nothing.
-use mathlib.Core.Path.{_≡_, refl, sym, ap, ap₂, _∙_, fun-ext, subst}
-use mathlib.Core.Bool.{false}
+use mathlib.Core.Path.{_≡_, refl, sym, ap, _∙_, subst}
 use mathlib.Core.List.{List}
 use Prim.Native.Nat.{ℕ, _+_, _*_, _-_, _<_, _≤_}
 use native.Mathlib.Nat.{mul-le-mul, le-refl}
 use native.Mathlib.Omega.{arith}
 use lib.ListN.{length, getD, set}
 use lib.Seq.{getD-set-same, getD-set-other}
-use Rattle.lists.proofs.Tests.{by-order, clash}
+use Rattle.lists.proofs.Tests.{by-order}
 use Rattle.optimum.specs.Strips.{Point, Strip}
 use Rattle.arrays.specs.declared.Measures.{Measures}
 use Rattle.budgets.specs.Budgets.{Others}
 use Rattle.entries.specs.Rows.{rowOf, rowIn, levelSize, Lies, entryBy}
-use Rattle.entries.proofs.Places.{row-fits}
-use Rattle.marks.specs.Marks.{endPlace, endWords, upperEnd, Shaped}
+use Rattle.entries.proofs.Places.{row-fits, same-rows}
+use Rattle.marks.specs.Marks.{endPlace, endWords, Shaped}
 use Rattle.marks.proofs.Followed.{same-end, later-end, slot-high, slot-low, row-ends, same-strip}
 use Rattle.marks.proofs.Levels.{row-room}
 use Rattle.table.specs.Rows.{RowFilled}
-
-same-rows : (old new : List ℕ) (base count low m C n : ℕ) → base + count ≤ low → Others old new base count → rowIn new low m C n ≡ rowIn old low m C n
-same-rows old new base count low m C n h o = fun-ext (λ p. fun-ext (λ v. o .after _ (omega arith)))
 
 module _ (q : Measures) (hs bs parts counts left : List ℕ) (base low : ℕ) (s : Point) where
   abbrev C : ℕ
@@ -97,13 +93,6 @@ module _ (q : Measures) (hs bs parts counts left : List ℕ) (base low : ℕ) (s
         subst (λ (n : ℕ). Others old new (base + above * endWords q hs) (n * q .budgets)) e (f .others),
         λ p t a. f .rows p t a (later-end C (p .b) (p .cb) c d (omega (arith, t .lies .cbLow)) (omega (arith, t .lies .bLow))),
       )
-
-  -- no strip has an upper end that is none
-  pub ended : (old new : List ℕ) (slot colour : ℕ) → colour ≤ C → upperEnd slot colour ≡ false
-      → (p : Strip) → Shaped (length hs) C p → endPlace C (p .a) (p .ca) ≡ endPlace C slot colour → RowFilled q hs bs parts counts left old new base low s p
-  ended old new slot colour c u p t e =
-      let x = same-end C (p .a) (p .ca) slot colour (omega (arith, t .lies .caLow)) c e in
-      clash (ap₂ upperEnd (sym (x .0)) (sym (x .1)) ∙ t .ends) u
 
   -- the rows below all upper ends, up to one
   pub record Passed (old new : List ℕ) (place : ℕ) : Type 0 where

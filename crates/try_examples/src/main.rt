@@ -1,8 +1,8 @@
 // The layout maker on the drawn examples of document 01. Each line of the input is a case: a name, a colon, how many work words and
 // how many answer words are lent, and the sheet; a line that begins with # is a remark. The file stdout is worked out from document 01.
-ghost use Prim.Native.Nat.{_≤_};
 use cases::place_of;
 use cases::take_words;
+use cases::within;
 use libc::STDIN_FILENO;
 use libc::STDOUT_FILENO;
 use maker::make_layout;
@@ -31,16 +31,6 @@ fn print_answer(fault: u8, answer: &[u32]) {
     io::write_all(STDOUT_FILENO, b"\n");
 }
 
-fn within(n: u32, most: usize) -> usize
-    ensures { λ r. ⌜ r ≤ most ⌝ }
-{
-    let k = n as usize;
-    if most < k {
-        return most;
-    }
-    k
-}
-
 fn lay_out(sheet: &[u32], work: &mut [u32], answer: &mut [u32]) {
     let fault = make_layout(sheet, work, answer);
     print_answer(fault, answer);
@@ -53,8 +43,8 @@ fn lay_out_lent(
     work: &mut [u32],
     answer: &mut [u32],
 ) {
-    let k = within(work_words, work.len());
-    let a = within(answer_words, answer.len());
+    let k = within(work_words as usize, work.len());
+    let a = within(answer_words as usize, answer.len());
     lay_out(sheet, &mut work[..k], &mut answer[..a]);
 }
 

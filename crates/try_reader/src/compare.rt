@@ -1,8 +1,10 @@
 // What the reader gives, compared with what document 01 says; cases and differences are counted.
-use crate::build::Area;
+ghost use Prim.Native.Nat.{_≤_};
+use cases::within;
 use libc::STDOUT_FILENO;
 use reader::ColourSize;
 use reader::Sizes;
+use reader::read_sheet;
 
 pub struct Tally {
     pub cases: u32,
@@ -20,82 +22,34 @@ pub fn sum(a: Tally, b: Tally) -> Tally {
     }
 }
 
-// THE EIGHT COLOURS of a sheet that has none, one, two or three.
-pub fn colour(bound: u8, sites: u8) -> ColourSize {
-    ColourSize {
-        bound: bound,
-        sites: sites,
+fn tally_of(right: bool) -> Tally {
+    if right {
+        return Tally { cases: 1, wrong: 0 };
     }
+    Tally { cases: 1, wrong: 1 }
 }
 
-pub fn absent() -> [ColourSize; 8] {
-    [colour(0, 0); 8]
+// The word at a place, 0 past the end.
+fn word_at(words: &[u32], i: usize) -> u32 {
+    if i < words.len() {
+        return words[i];
+    }
+    0
 }
 
-pub fn one(a: ColourSize) -> [ColourSize; 8] {
-    let mut all = absent();
-    all[0] = a;
-    all
+fn wide(b: u8) -> u32 {
+    b as u32
 }
 
-pub fn two(a: ColourSize, b: ColourSize) -> [ColourSize; 8] {
-    let mut all = one(a);
-    all[1] = b;
-    all
-}
-
-pub fn three(a: ColourSize, b: ColourSize, c: ColourSize) -> [ColourSize; 8] {
-    let mut all = two(a, b);
-    all[2] = c;
-    all
-}
-
-// The first ones of one bound, those after them of another, all without sites.
-pub fn bounds(first: u8, many: usize, then: u8, more: usize) -> [ColourSize; 8] {
-    let mut all = absent();
+// Bound and sites of each colour stand in pairs; a colour that the sheet does not have has 0 and 0.
+fn same_colours(colours: [ColourSize; 8], wanted: &[u32]) -> bool {
     let mut i: usize = 0;
     while i < 8 {
-        if i < many {
-            all[i] = colour(first, 0);
-        } else if i - many < more {
-            all[i] = colour(then, 0);
-        }
-        i += 1;
-    }
-    all
-}
-
-pub fn sizes(n: u8, m: u8, c: u8, p: u8, work: u32, colours: [ColourSize; 8]) -> Sizes {
-    Sizes {
-        refusal: 0,
-        n: n,
-        m: m,
-        c: c,
-        p: p,
-        work: work,
-        colours: colours,
-    }
-}
-
-pub fn refusal(number: u8) -> Sizes {
-    Sizes {
-        refusal: number,
-        n: 0,
-        m: 0,
-        c: 0,
-        p: 0,
-        work: 0,
-        colours: absent(),
-    }
-}
-
-fn same_colours(a: [ColourSize; 8], b: [ColourSize; 8]) -> bool {
-    let mut i: usize = 0;
-    while i < 8 {
-        if a[i].bound != b[i].bound {
+        let colour = colours[i];
+        if wide(colour.bound) != word_at(wanted, 2 * i + 6) {
             return false;
         }
-        if a[i].sites != b[i].sites {
+        if wide(colour.sites) != word_at(wanted, 2 * i + 7) {
             return false;
         }
         i += 1;
@@ -103,58 +57,52 @@ fn same_colours(a: [ColourSize; 8], b: [ColourSize; 8]) -> bool {
     true
 }
 
-fn same(a: Sizes, b: Sizes) -> bool {
-    if a.refusal != b.refusal {
+// What is wanted: a refusal's number alone, or 0, n, m, C, P, the work words and the colours.
+fn same(sizes: Sizes, wanted: &[u32]) -> bool {
+    if wide(sizes.refusal) != word_at(wanted, 0) {
         return false;
     }
-    if a.n != b.n {
+    if wide(sizes.n) != word_at(wanted, 1) {
         return false;
     }
-    if a.m != b.m {
+    if wide(sizes.m) != word_at(wanted, 2) {
         return false;
     }
-    if a.c != b.c {
+    if wide(sizes.c) != word_at(wanted, 3) {
         return false;
     }
-    if a.p != b.p {
+    if wide(sizes.p) != word_at(wanted, 4) {
         return false;
     }
-    if a.work != b.work {
+    if sizes.work != word_at(wanted, 5) {
         return false;
     }
-    let ca = a.colours;
-    let cb = b.colours;
-    same_colours(ca, cb)
+    let colours = sizes.colours;
+    same_colours(colours, wanted)
 }
 
-// The first n words. They are copied, since a part of an array that was lent cannot be proved to lie within it.
-fn read(words: Area, n: usize) -> Sizes {
-    let mut sheet = [0u32; 128];
-    let mut i: usize = 0;
-    while i < 128 {
-        sheet[i] = words[i];
-        i += 1;
+// How many words say what is wanted.
+fn wanted_words(words: &[u32]) -> usize
+    ensures { λ r. ⌜ r ≤ 22 ⌝ }
+{
+    if word_at(words, 0) != 0 {
+        return 1;
     }
-    if n <= 128 {
-        return reader::read_sheet(&sheet[..n]);
-    }
-    refusal(0)
+    6 + 2 * (word_at(words, 3) % 9) as usize
 }
 
-// One case more: the first n words, and what the reader should give.
-pub fn case(t: Tally, words: Area, n: usize, want: Sizes) -> Tally {
-    let cases = std::num::wrapping_add_u32(t.cases, 1);
-    if same(read(words, n), want) {
-        return Tally {
-            cases: cases,
-            wrong: t.wrong,
-        };
+fn compare(words: &[u32]) -> Tally {
+    let k = within(wanted_words(words), words.len());
+    tally_of(same(read_sheet(&words[k..]), &words[0..k]))
+}
+
+// One case, the first n words: what is wanted, and the sheet after it; no word is no case.
+pub fn case(words: &[u32], n: usize) -> Tally {
+    let k = within(n, words.len());
+    if k == 0 {
+        return none();
     }
-    let wrong = std::num::wrapping_add_u32(t.wrong, 1);
-    Tally {
-        cases: cases,
-        wrong: wrong,
-    }
+    compare(&words[0..k])
 }
 
 // A line for a group of cases.

@@ -1,125 +1,106 @@
-// Sheets with any set of faults: the lowest number is given. Each fault has three forms.
-use crate::build::Area;
-use crate::build::area;
-use crate::build::colour;
-use crate::build::colours;
-use crate::build::head;
-use crate::build::of_kind;
-use crate::build::put;
-use crate::build::site;
-use crate::build::sites;
-use crate::build::slot;
-use crate::build::slots;
-use crate::build::with_bit;
-use crate::compare;
+// Sheets with any set of faults, from lines with a condition in front of the words: the lowest fault's number is given.
 use crate::compare::Tally;
 use crate::compare::case;
 use crate::compare::none;
-use crate::compare::refusal;
-use crate::compare::sizes;
-use crate::compare::two;
-use reader::Sizes;
+use crate::compare::sum;
+use cases::place_of;
+use cases::take_line;
+use cases::within;
 
 // Fault k is in a set if bit k is.
 fn has(set: u32, fault: u32) -> bool {
     (set >> (fault % 32)) % 2 == 1
 }
 
-// One of four numbers: the sound one, or the fault's by its form.
-fn pick(set: u32, fault: u32, form: u32, sound: u32, a: u32, b: u32, c: u32) -> u32 {
-    if !has(set, fault) {
-        return sound;
-    }
-    if form == 0 {
-        return a;
-    }
-    if form == 1 {
-        return b;
-    }
-    c
-}
-
-// 4: the second height is not above the first. 2, form 1: a spare bit. 3, form 0: 49 slots.
-fn put_slots(words: &mut Area, at: usize, set: u32, form: u32) -> usize {
-    let last = pick(
-        set,
-        2,
-        form,
-        slot(8),
-        slot(8),
-        with_bit(slot(8), 20),
-        slot(8),
-    );
-    let n = put(words, at, slot(2));
-    let n = put(words, n, slot(pick(set, 4, form, 5, 2, 1, 0)));
-    let n = put(words, n, last);
-    slots(words, n, 9, pick(set, 3, form, 0, 46, 0, 0))
-}
-
-// 5: an x above the width of 100. 6: an x that has come before. 7: 8 × 9, 8 × 255 or 8 × 65. 3: 9 colours or 33 sites.
-fn put_colours(words: &mut Area, at: usize, set: u32, form: u32) -> usize {
-    let n = put(words, at, colour(7));
-    let n = put(words, n, site(10, 4));
-    let n = put(words, n, site(pick(set, 5, form, 20, 101, 16383, 102), 6));
-    let n = put(words, n, colour(pick(set, 7, form, 7, 8, 254, 64)));
-    let n = put(words, n, site(pick(set, 6, form, 30, 10, 10, 10), 5));
-    let n = sites(words, n, 40, pick(set, 3, form, 0, 0, 0, 30));
-    colours(words, n, 255, pick(set, 3, form, 0, 0, 7, 0))
-}
-
-// 1: no gap, no width, another kind. 2: a word of kind 9, a spare bit, a slot after a colour.
-fn put_sheet(words: &mut Area, set: u32, form: u32) -> usize {
-    let first = pick(
-        set,
-        1,
-        form,
-        head(0, 0, 2, 100),
-        head(0, 0, 0, 100),
-        head(0, 0, 2, 0),
-        of_kind(0, 0x8064),
-    );
-    let n = put(words, 0, first);
-    let n = put_slots(words, n, set, form);
-    let n = put_colours(words, n, set, form);
-    if form == 1 {
-        return n;
-    }
-    if has(set, 2) {
-        return put(words, n, pick(set, 2, form, 0, of_kind(9, 0), 0, slot(60)));
-    }
-    n
-}
-
-// Without a fault: 3 sites, 3 slots, 2 colours, P = 8 × 8 and 5² × 3² × 4 × 64 = 57600 work words.
-fn wanted(set: u32) -> Sizes {
-    let mut number: u8 = 1;
-    while number < 8 {
-        if has(set, number as u32) {
-            return refusal(number);
+// The lowest fault of a set, 0 if it is empty.
+fn lowest(set: u32) -> u32 {
+    let mut fault: u32 = 1;
+    while fault < 8 {
+        if has(set, fault) {
+            return fault;
         }
-        number += 1;
+        fault += 1;
     }
-    sizes(
-        3,
-        3,
-        2,
-        64,
-        57600,
-        two(compare::colour(7, 2), compare::colour(7, 1)),
-    )
+    0
 }
 
-fn one_set(t: Tally, set: u32, form: u32) -> Tally {
-    let mut words = area();
-    let n = put_sheet(&mut words, set, form);
-    case(t, words, n, wanted(set))
+// 0 always, 1k if fault k is in the set, 2k if it is not, 3k if k is the lowest.
+fn holds(set: u32, condition: u32) -> bool {
+    let fault = condition % 16;
+    let kind = condition / 16;
+    if kind == 1 {
+        return has(set, fault);
+    }
+    if kind == 2 {
+        return !has(set, fault);
+    }
+    if kind == 3 {
+        return lowest(set) == fault;
+    }
+    true
 }
 
-pub fn sets(form: u32) -> Tally {
+// Puts a word at a place and gives the next place.
+fn put(words: &mut [u32], at: usize, w: u32) -> usize {
+    if at < words.len() {
+        words[at] = w;
+        return at + 1;
+    }
+    at
+}
+
+// The words after the first.
+fn put_words(words: &mut [u32], at: usize, part: &[u32]) -> usize {
+    let mut past = at;
+    let mut i: usize = 1;
+    while i < part.len() {
+        past = put(words, past, part[i]);
+        i += 1;
+    }
+    past
+}
+
+// The first n words, of which the first is the condition.
+fn put_part(words: &mut [u32], at: usize, part: &[u32], n: usize, set: u32) -> usize {
+    let k = within(n, part.len());
+    if k == 0 {
+        return at;
+    }
+    if holds(set, part[0]) {
+        return put_words(words, at, &part[0..k]);
+    }
+    at
+}
+
+fn put_line(words: &mut [u32], at: usize, line: &[u8], set: u32) -> usize {
+    let mut part = [0u32; 64];
+    let n = take_line(line, &mut part);
+    put_part(words, at, &part, n, set)
+}
+
+fn put_lines(words: &mut [u32], text: &[u8], set: u32) -> usize {
+    let mut past: usize = 0;
+    let mut from: usize = 0;
+    while from < text.len() {
+        let end = place_of(text, from, b'\n');
+        past = put_line(words, past, &text[from..end], set);
+        from = end + 1;
+    }
+    past
+}
+
+fn read_set(text: &[u8], set: u32) -> Tally {
+    let mut words = [0u32; 128];
+    let n = put_lines(&mut words, text, set);
+    case(&words, n)
+}
+
+// All sets of the faults 1 to 7.
+pub fn read_sets(text: &[u8]) -> Tally {
     let mut t = none();
     let mut i: u32 = 0;
     while i < 128 {
-        t = one_set(t, 2 * i, form);
+        t = sum(t, read_set(text, 2 * i));
         i += 1;
     }
     t

@@ -1,11 +1,10 @@
 // A plain search over all layouts of small sheets, written from the rules alone, and the layout maker on the same sheets.
 // The sheets come from a fixed arithmetic recipe. After each call the result and every word of both areas are compared.
 mod compare;
-mod counts;
 
 use crate::compare::compare_sheet;
-use crate::counts::print_counts;
-use plain_search::recipe::make_sheet;
+use met::print_counts;
+use recipe::make_sheet;
 
 const SHEETS: u32 = 20000;
 

@@ -1,4 +1,2 @@
 pub mod Value
-mod Holding
-mod Prices
 pub mod Tying

@@ -1,18 +1,15 @@
 -- THE WALK over the words of a table: the value of a state read off its level, and what the code asks for. Definitions.
 use mathlib.Core.Path.{_≡_}
-use mathlib.Core.Bool.{Bool, true, false, cond}
 use mathlib.Core.List.{List, [], _∷_}
-use Prim.Native.Nat.{ℕ, zero, suc, _+_, _-_, _*_, _≤_, _<_}
-use lib.Dec.{eqb}
-use lib.ListN.{length, getD, set, drop, replicate}
-use Rattle.search.specs.Cost.{plus}
-use Rattle.search.specs.Radix.{below}
+use Prim.Native.Nat.{ℕ, suc, _+_, _-_, _*_, _≤_, _<_}
+use lib.ListN.{length, getD, drop, replicate}
 use Rattle.search.specs.Walk.{Process, chooseBy, walkBy}
-use Rattle.optimum.specs.Strips.{Point, Strip, Instance, State, cost, draw, labels as process}
+use Rattle.optimum.specs.Strips.{Point, Instance, State, labels as process}
 use Rattle.optimum.specs.OneSided.{topWord, writeTies}
 use Rattle.arrays.specs.declared.Measures.{Measures}
-use Rattle.budgets.specs.Budgets.{Divides, Splits}
+use Rattle.budgets.specs.Budgets.{Splits}
 use Rattle.rest.specs.Rest.{levelSize, restRows}
+use Rattle.choice.specs.Choice.{SheetArrays, SiteIn}
 
 -- each step of the walk by these values finds its slot
 unfoldable pub Found : {X Site : Type 0} (G : Process X Site) → (X → List Site → ℕ) → X → List Site → Type 0
@@ -22,39 +19,6 @@ Found G value x (s ∷ ss) = (chooseBy G value x s ss < G .m) × Found G value (
 -- the value of a state with the sites ss left, of n sites in all: REST of their level
 unfoldable pub valueIn : (P : Instance) (parts counts work : List ℕ) (C R n : ℕ) → State P → List Point → ℕ
 valueIn P parts counts work C R n x ss = restRows parts counts work ((n - length ss) * levelSize (P .slots .m) C R) (P .slots .m) C R (x .0) (x .1)
-
--- ---- one step, of the site s in the strip p
-
--- what it costs to tie s to slot k with the budget v; none if that is not lawful or not to be had
-abbrev pub priceIn : Instance → Strip → Point → (v k : ℕ) → ℕ
-priceIn P p s v k = cond (below (P .radices) (draw P p s k) v) (cost P p s k) (P .top)
-
--- the labels and the budget after it
-abbrev pub labelled : (labels : List ℕ) → Point → (k : ℕ) → List ℕ
-labelled L s k = set L k (suc (s .c))
-
-abbrev pub budgetLeft : Instance → Strip → Point → (v k : ℕ) → ℕ
-budgetLeft P p s v k = v - draw P p s k
-
--- slot k keeps the least cost `here`; the next level begins at the word `base`
-abbrev pub keepsCost : (P : Instance) (parts counts work : List ℕ) (base C R : ℕ) → Strip → Point → (labels : List ℕ) → (v here k : ℕ) → Bool
-keepsCost P parts counts work base C R p s L v here k =
-    eqb (plus topWord (priceIn P p s v k) (restRows parts counts work base (P .slots .m) C R (labelled L s k) (budgetLeft P p s v k))) here
-
--- ---- what is asked of the arrays of a sheet: they are an accepted sheet's
-pub record SheetArrays (q : Measures) (heights bounds radices draws : List ℕ) : Type 0 where
-  pub fewSlots : length heights ≤ 48
-  pub fewColours : q .colours ≤ 8
-  pub divides : Divides radices
-  pub bounded : length bounds ≡ q .colours
-  pub drawn : length draws ≡ q .colours
-  pub narrow : q .width < 16384
-  pub heightLow : (k : ℕ) → getD heights k 0 < 16384
-
--- of a site of the sheet
-pub record SiteIn (q : Measures) (s : Point) : Type 0 where
-  pub yLow : s .y < 16384
-  pub colourLow : s .c < q .colours
 
 -- ---- what is asked besides: lists say what may be taken from each budget, the sites come by rising rank, a table fits the work area
 pub record WalkArrays (q : Measures) (heights bounds radices draws parts counts work xs ys colours order : List ℕ) : Type 0 where

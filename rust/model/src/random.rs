@@ -1,6 +1,6 @@
 //! Random sheets and damage to them, the same on each run.
 
-use crate::rules::layout_words;
+use crate::rules::{self, layout_words};
 use crate::sheet::{Sheet, Site, MOST_BUDGETS, UNBOUNDED};
 
 /// Splitmix64: one 64-bit state, good enough to spread over small sheets.
@@ -216,13 +216,32 @@ pub fn invented_layout(sheet: &Sheet, random: &mut Random) -> Vec<u32> {
 }
 
 /// A small sheet with an invented layout, as it is or damaged.
-pub fn stored_sheet(random: &mut Random) -> Vec<u32> {
+fn stored_sheet(random: &mut Random) -> Vec<u32> {
     let sheet = small_sheet(random);
     let mut stored = [sheet.words(), invented_layout(&sheet, random)].concat();
     for _ in 0..random.pick(&[0, 0, 1, 1, 2]) {
         damage(&mut stored, random);
     }
     stored
+}
+
+/// Holds a judge to the plain one on so many stored sheets, among which each rule and each refusal is met.
+pub fn hold_judge(judge: impl Fn(&[u32]) -> (u8, u8), sheets: usize, seed: u64) {
+    let mut random = Random::new(seed);
+    let (mut rules_met, mut refusals_met) = ([0; 7], [0; 12]);
+    for _ in 0..sheets {
+        let stored = stored_sheet(&mut random);
+        let (refusal, rule) = rules::judge(&stored);
+        assert_eq!(judge(&stored), (refusal, rule), "{stored:x?}");
+        if refusal == 0 {
+            rules_met[usize::from(rule)] += 1;
+        }
+        refusals_met[usize::from(refusal)] += 1;
+    }
+    assert!(rules_met.iter().all(|times| *times > sheets / 1000), "{rules_met:?}");
+    for refusal in [1, 2, 4, 5, 6, 7, 11] {
+        assert!(refusals_met[refusal] > sheets / 2000, "{refusals_met:?}");
+    }
 }
 
 /// A list of words of any sort: random sheets, whole or damaged, edges of the counts, and noise.

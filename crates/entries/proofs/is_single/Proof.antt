@@ -1,6 +1,5 @@
-use borrow.Author.Tests.{eqb-true}
-use Rattle.lists.proofs.Tests.{and-both, clash}
-use mathlib.Core.Path.{refl, sym, _∙_}
+use mathlib.Core.Path.{refl}
+use borrow.Author.Tests.{eq-eqb, ne-eqb}
 use Prim.Native.Nat.{_-_}
 use native.Mathlib.Omega.{arith}
 use borrow.Author.Needs.{needs}
@@ -12,8 +11,7 @@ use Rattle.words.proofs.both.Reads as both-reads
 
 -- src/lib.rt:234:9
 returns : tie.Need-returns
-returns c =
-    λ e. clash e refl
+returns c = rw (ne-eqb (c .before .before .before .before .args .n) 1 (c .if1 .taken)) refl
 
 -- src/lib.rt:237:9
 shared-slice-read-both : tie.Need-shared-slice-read-both
@@ -38,10 +36,7 @@ both-requires-2 c κs = search needs
 -- src/lib.rt:229:1
 returns-2 : tie.Need-returns-2
 returns-2 c =
-    λ e.
-    let w = and-both _ _ (sym (c .both2 .ensures) ∙ e) in
-    let x = and-both _ _ (sym (c .before .both .ensures) ∙ w .1) in
-    record { one = omega (arith, c .before .before .before .before .before .if1 .left); own = eqb-true _ _ (w .0); counted = eqb-true _ _ (x .0); drawn = eqb-true _ _ (x .1) }
+    rw (c .both2 .ensures, c .before .both .ensures, eq-eqb (c .before .before .before .before .before .before .before .before .before .args .n) 1 (c .before .before .before .before .before .if1 .left)) refl
 
 pub is-single-spec : {M : Type 1} → statement M
 is-single-spec =

@@ -1,6 +1,7 @@
 use Rattle.strips.specs.Strips.{stripOf, pointOf}
 use Rattle.entries.proofs.Terms.{tried-empty}
-use Rattle.entries.proofs.Single.{single-row}
+use Rattle.entries.proofs.Single.{single-of, single-row}
+use mathlib.Core.Path.{sym, _∙_}
 use Prim.Native.Nat.{_-_}
 use native.Mathlib.Omega.{arith}
 use borrow.Author.Needs.{needs}
@@ -53,8 +54,9 @@ slice-reshared-read-least-open c =
 least-open-requires : tie.Need-least-open-requires
 least-open-requires c κs =
     let p = c .before .before .before .before .before .before .before .before .before .before .before .before .before .pre in
+    let a = c .before .before .before .before .before .before .before .before .before .before .before .before .before .args in
     let f = p .0 .framed in
-    let o = c .before .before .is-single .ensures (c .before .if2 .taken) in
+    let o = single-of (a .q .budgets) (a .parts .now) (a .counts .now) (a .left .now) (sym (c .before .before .is-single .ensures) ∙ c .before .if2 .taken) in
     let w = c .before .before .before .before .before .before .open-window .ensures in
     let l = c .before .before .before .before .if1 .left in
     ((record { narrow = f .narrow; heightLow = f .heightLow; yLow = p .0 .stands .yLow }, f .slotsFew, f .coloursFew, p .0 .stands .colourLow, o .one), ((p .1, p .0 .within), (l, w .high l)))
@@ -80,7 +82,7 @@ returns-2 : tie.Need-returns-2
 returns-2 c =
     let a = c .before .before .before .before .before .before .before .before .before .before .before .before .before .before .args in
     let p = c .before .before .before .before .before .before .before .before .before .before .before .before .before .before .pre in
-    let o = c .before .before .before .is-single .ensures (c .before .before .if2 .taken) in
+    let o = single-of (a .q .budgets) (a .parts .now) (a .counts .now) (a .left .now) (sym (c .before .before .before .is-single .ensures) ∙ c .before .before .if2 .taken) in
     let w = c .before .before .before .before .before .before .before .open-window in
     single-row (a .q) (a .heights .now) (a .bounds .now) (a .parts .now) (a .counts .now) (a .left .now) (a .work .now) (a .base) (a .low) (stripOf (a .p)) (pointOf (a .s)) o (w .result) _ (omega (arith, p .0 .apart, p .0 .within, p .0 .framed .budgetsSome)) (w .ensures) (c .before .before .before .before .before .if1 .left) (c .least-open .ensures)
 

@@ -1,7 +1,8 @@
-use lib.Seq.{getD-set-other}
+use lib.Seq.{getD-set-same, getD-set-other}
+use Rattle.lists.proofs.Tests.{by-order}
 use Rattle.marks.proofs.Levels.{row-room}
 use mathlib.Core.Path.{_≡_, refl, ap, _∙_}
-use Prim.Native.Nat.{ℕ, _+_, _-_, _*_, _≤_}
+use Prim.Native.Nat.{ℕ, _+_, _-_, _*_, _<_, _≤_}
 use native.Mathlib.Omega.{arith}
 use lib.ListN.{length, getD, length-set}
 use borrow.Author.Needs.{needs}
@@ -11,7 +12,7 @@ use Rattle.marks.proofs.clear_marks.Reads as reads
 use Rattle.marks.proofs.clear_marks.Lts as lts
 
 abbrev Inv-loop : tie.InvT-loop
-Inv-loop work₀ rows n at₀ r₀ work at r = (r ≤ rows) × (at ≡ r * n) × (length work ≡ length work₀) × ((i : ℕ) → rows * n ≤ i → getD work i 0 ≡ getD work₀ i 0)
+Inv-loop work₀ rows n at₀ r₀ work at r = (r ≤ rows) × (at ≡ r * n) × (length work ≡ length work₀) × ((i : ℕ) → rows * n ≤ i → getD work i 0 ≡ getD work₀ i 0) × ((j : ℕ) → j < r → getD work (j * n) 0 ≡ 0)
 
 abbrev μ-loop : tie.MeasureT-loop
 μ-loop work₀ rows n at₀ r₀ work at r = rows - r
@@ -19,7 +20,7 @@ abbrev μ-loop : tie.MeasureT-loop
 -- src/lib.rt:261:5
 loop-holds : tie.Need-loop-holds Inv-loop μ-loop
 loop-holds c =
-    (omega arith, omega arith, refl, λ i h. refl)
+    (omega arith, omega arith, refl, λ i h. refl, λ j h. absurd (omega arith))
 
 -- src/lib.rt:262:9
 mul-work : tie.Need-mul-work Inv-loop μ-loop
@@ -60,6 +61,9 @@ loop-again c =
       ap (λ (z : ℕ). z + a .n) (l .inv .1) ∙ omega arith,
       simp length-set (l .inv .2),
       λ i h. getD-set-other (l .work) (l .at) i 0 0 (λ (e : i ≡ l .at). omega (arith, l .inv .1, k, c .before .before .pre .1)) ∙ l .inv .3 i h,
+      λ j h. by-order (l .r) j
+          (λ u. let e : j ≡ l .r = omega arith in rw (e, ← (l .inv .1)) (getD-set-same (l .work) (l .at) 0 0 (omega (arith, l .inv .1, l .inv .2, c .before .before .pre .0, c .before .before .pre .1, k))))
+          (λ u. getD-set-other (l .work) (l .at) (j * a .n) 0 0 (λ (e : j * a .n ≡ l .at). omega (arith, l .inv .1, row-room j (l .r) (a .n) u, c .before .before .pre .1)) ∙ l .inv .4 j u),
     )
 
 -- src/lib.rt:255:1
@@ -70,7 +74,7 @@ same-length c =
 -- src/lib.rt:255:1
 returns : tie.Need-returns Inv-loop μ-loop
 returns c =
-    c .before .loop .inv .3
+    let l = c .before .loop in (λ r h. l .inv .4 r (omega (arith, c .loop-test .left)), l .inv .3)
 
 pub clear-marks-spec : {M : Type 1} → statement M
 clear-marks-spec =

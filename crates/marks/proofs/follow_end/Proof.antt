@@ -1,4 +1,3 @@
-use Rattle.strips.specs.Strips.{pointOf}
 use Rattle.marks.proofs.Marking.{marking-none}
 use Rattle.marks.proofs.Followed.{ended}
 use mathlib.Core.Path.{sym, _∙_}
@@ -31,7 +30,7 @@ returns c = search needs
 returns-2 : tie.Need-returns-2
 returns-2 c =
     let a = c .before .before .before .before .before .args in
-    (marking-none _ _ _, ended (a .q) (a .heights .now) (a .bounds .now) (a .base) (a .low) (pointOf (a .s)) (a .work .now) (a .work .now) (a .above .slot) (a .above .colour) (c .before .before .before .before .before .pre .1 .1) (sym (c .before .is-upper-end .ensures) ∙ c .if1 .left))
+    (marking-none _ _ _, λ p t e. absurd (ended _ (a .q .colours) (a .above .slot) (a .above .colour) (c .before .before .before .before .before .pre .1 .1) (sym (c .before .is-upper-end .ensures) ∙ c .if1 .left) p t e))
 
 pub follow-end-spec : {M : Type 1} → statement M
 follow-end-spec =

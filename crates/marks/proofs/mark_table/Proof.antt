@@ -131,7 +131,7 @@ returns c =
       to-level (instanceOn (a .q) (a .heights .now) (a .bounds .now)) (a .q) (pointsBy (a .xs .now) (a .ys .now) (a .cs .now)) (l .work) _ _ (l .j) (l .inv .0) z (l .inv .3 (p .0 .0) (p .0 .1)),
       λ i h.
           let e = ap (λ (z : ℕ). z * a .q .budgets) (p .1 .0) in
-          l .inv .4 i (rw (l .inv .0) h) ∙ c .before .before .before .before .mark-own .ensures .0 .others .after i (first-room _ _ _ h) ∙ c .before .before .before .before .before .before .before .before .clear-marks .ensures i (count-words (length (a .xs .now) + 1) (a .rows) (a .q .budgets) _ _ e h),
+          l .inv .4 i (rw (l .inv .0) h) ∙ c .before .before .before .before .mark-own .ensures .0 .others .after i (first-room _ _ _ h) ∙ c .before .before .before .before .before .before .before .before .clear-marks .ensures .1 i (count-words (length (a .xs .now) + 1) (a .rows) (a .q .budgets) _ _ e h),
     )
 
 pub mark-table-spec : {M : Type 1} → statement M

@@ -6,7 +6,7 @@ use lib.Dec.{ltb}
 use borrow.Author.Tests.{not-true, not-false, lt-ltb, le-ltb}
 use borrow.Author.Needs.{needs}
 use Rattle.sheet.specs.Sheet.{all, bits, headIn, bodyOf, sheetIn, inOrder, slotsIn, coloursIn, sitesIn, isHead, countsFit, rising, insideBy, ranksDiffer, productOf}
-use Rattle.refusals.specs.Wordwise.{capped}
+use Rattle.wordwise.specs.Wordwise.{capped}
 use Rattle.refusals.proofs.Factors.{capped-over}
 use Rattle.reader.proofs.sheet_fault.Statement.{statement}
 use Rattle.reader.proofs.sheet_fault.Tie as tie

@@ -5,7 +5,7 @@ use lib.ListN.{drop-of-length-le, length, drop}
 use borrow.Author.Tests.{not-true, not-false}
 use borrow.Author.Needs.{needs}
 use Rattle.lists.proofs.Places.{stop, go}
-use Rattle.refusals.specs.Wordwise.{allInside}
+use Rattle.wordwise.specs.Wordwise.{allInside}
 use Rattle.refusals.proofs.Wordwise.{inside}
 use Rattle.refusals.proofs.Steps.{inside-at}
 use Rattle.refusals.proofs.all_inside.Statement.{statement}

@@ -5,7 +5,7 @@ use lib.ListN.{drop-of-length-le, length, getD, drop}
 use borrow.Author.Tests.{not-true, not-false}
 use borrow.Author.Needs.{needs}
 use Rattle.lists.proofs.Places.{stop, go}
-use Rattle.refusals.specs.Wordwise.{risesFrom}
+use Rattle.wordwise.specs.Wordwise.{risesFrom}
 use Rattle.refusals.proofs.Wordwise.{rises}
 use Rattle.refusals.proofs.Steps.{low-le, rises-at}
 use Rattle.refusals.proofs.rises.Statement.{statement}

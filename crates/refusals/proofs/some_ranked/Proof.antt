@@ -4,7 +4,7 @@ use Prim.Native.Nat.{_-_}
 use lib.ListN.{drop-of-length-le, length, drop}
 use borrow.Author.Needs.{needs}
 use Rattle.lists.proofs.Places.{found, on}
-use Rattle.refusals.specs.Wordwise.{someRanked}
+use Rattle.wordwise.specs.Wordwise.{someRanked}
 use Rattle.refusals.proofs.Steps.{some-at}
 use Rattle.refusals.proofs.some_ranked.Statement.{statement}
 use Rattle.refusals.proofs.some_ranked.Tie as tie

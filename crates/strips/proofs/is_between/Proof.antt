@@ -41,7 +41,7 @@ both-requires-2 c κs = search needs
 -- src/lib.rt:116:1
 returns : tie.Need-returns
 returns c =
-    cc
+    rw (c .both2 .ensures, c .before .both .ensures, c .before .before .less2 .ensures, c .before .before .before .less .ensures) refl
 
 pub is-between-spec : {M : Type 1} → statement M
 is-between-spec =

@@ -30,7 +30,7 @@ either-requires c κs = search needs
 -- src/lib.rt:151:1
 returns : tie.Need-returns
 returns c =
-    cc
+    rw (c .either .ensures, c .before .joins-down .ensures, c .before .before .joins-up .ensures) refl
 
 pub joins-spec : {M : Type 1} → statement M
 joins-spec = tie.close (tie.spec joins-up-requires joins-down-requires either-requires returns)

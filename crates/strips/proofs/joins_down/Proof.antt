@@ -51,7 +51,7 @@ both-requires-3 c κs = search needs
 -- src/lib.rt:142:1
 returns : tie.Need-returns
 returns c =
-    rw (joins-down-by) cc
+    rw (c .both3 .ensures, c .before .is-clear .ensures, c .before .before .both2 .ensures, c .before .before .before .same2 .ensures, c .before .before .before .before .before .both .ensures, c .before .before .before .before .before .before .same .ensures, joins-down-by) refl
 
 pub joins-down-spec : {M : Type 1} → statement M
 joins-down-spec =

@@ -35,7 +35,7 @@ both-requires c κs = search needs
 returns : tie.Need-returns
 unfolding gapLeft
 returns c =
-    rw (← (add-one (c .before .before .before .before .before .before .args .s .c))) cc
+    rw (← (add-one (c .before .before .before .before .before .before .args .s .c)), c .both .ensures, c .before .is-far2 .ensures, c .before .before .is-far .ensures) refl
 
 pub leaves-gap-spec : {M : Type 1} → statement M
 leaves-gap-spec =

@@ -40,7 +40,7 @@ both-requires-2 c κs = search needs
 -- src/lib.rt:125:1
 returns : tie.Need-returns
 returns c =
-    rw (opens-split) cc
+    rw (opens-split, c .both2 .ensures, c .before .both .ensures, c .before .before .site-opens .ensures, c .before .before .before .is-between .ensures, c .before .before .before .before .leaves-gap .ensures) refl
 
 pub opens-spec : {M : Type 1} → statement M
 opens-spec =

@@ -59,7 +59,7 @@ returns : tie.Need-returns
 unfolding siteOpens
 returns c =
     let b = c .before .before .before .before .before .before .before .before .before .before .args .bounds .now in
-    cc (default-any b (c .before .before .before .before .before .before .before .before .before .before .args .s .c) 255 0 (c .before .before .before .before .before .before .before .before .before .before .pre))
+    rw (c .both2 .ensures, c .before .is-not .ensures, c .before .before .same .ensures, c .before .before .before .before .both .ensures, c .before .before .before .before .before .is-clear2 .ensures, c .before .before .before .before .before .before .is-clear .ensures, default-any b (c .before .before .before .before .before .before .before .before .before .before .args .s .c) 255 0 (c .before .before .before .before .before .before .before .before .before .before .pre)) refl
 
 pub site-opens-spec : {M : Type 1} → statement M
 site-opens-spec =

@@ -1,5 +1,4 @@
-use Rattle.strips.specs.Strips.{pointOf}
-use Rattle.table.proofs.Filling.{ended}
+use Rattle.marks.proofs.Followed.{ended}
 use mathlib.Core.Path.{refl, sym, _∙_}
 use Prim.Native.Nat.{_-_}
 use borrow.Author.Needs.{needs}
@@ -30,7 +29,7 @@ returns c = search needs
 returns-2 : tie.Need-returns-2
 returns-2 c =
     let a = c .before .before .before .before .before .before .before .before .args in
-    (record { before = λ i h. refl; after = λ i h. refl }, ended (a .q) (a .heights .now) (a .bounds .now) (a .parts .now) (a .counts .now) (a .left .now) (a .base) (a .low) (pointOf (a .s)) (a .work .now) (a .work .now) (a .above .slot) (a .above .colour) (c .before .before .before .before .before .before .before .before .pre .1 .1) (sym (c .before .is-upper-end .ensures) ∙ c .if1 .left))
+    (record { before = λ i h. refl; after = λ i h. refl }, λ p t e. absurd (ended _ (a .q .colours) (a .above .slot) (a .above .colour) (c .before .before .before .before .before .before .before .before .pre .1 .1) (sym (c .before .is-upper-end .ensures) ∙ c .if1 .left) p t e))
 
 pub fill-end-spec : {M : Type 1} → statement M
 fill-end-spec =

@@ -2,7 +2,7 @@ use Rattle.walk.proofs.Tying.{base-low}
 use native.Mathlib.Nat.{mul-le-mul-right}
 use mathlib.Core.Path.{subst, subst⁻¹}
 use Rattle.optimum.specs.Strips.{Point}
-use Rattle.walk.specs.Walk.{SiteIn}
+use Rattle.choice.specs.Choice.{SiteIn}
 use Rattle.rest.specs.Rest.{LevelIn}
 use Rattle.strips.specs.Strips.{stripOf, pointOf}
 use Rattle.walk.proofs.Tying.{long, level-of, Tied, tied}
@@ -19,9 +19,9 @@ use Rattle.walk.proofs.tie_site.Statement.{statement}
 use Rattle.walk.proofs.tie_site.Tie as tie
 use Rattle.walk.proofs.tie_site.Reads as reads
 use Rattle.walk.proofs.tie_site.Lts as lts
-use Rattle.walk.proofs.choose_slot.Reads as choose-slot-reads
-use Rattle.walk.proofs.hold_of.Reads as hold-of-reads
-use Rattle.walk.proofs.left_after.Reads as left-after-reads
+use Rattle.choice.proofs.choose_slot.Reads as choose-slot-reads
+use Rattle.choice.proofs.hold_of.Reads as hold-of-reads
+use Rattle.choice.proofs.left_after.Reads as left-after-reads
 use Rattle.rest.proofs.level_size.Reads as level-size-reads
 use Rattle.walk.proofs.site_at.Reads as site-at-reads
 

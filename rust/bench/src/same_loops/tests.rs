@@ -2,11 +2,10 @@
 
 use super::judge;
 use backbone::Rule;
-use model::random::{banded_sheet, damage, medium_sheet, stored_sheet, Random};
+use model::random::{banded_sheet, damage, hold_judge, medium_sheet, Random};
 use model::sheet::Sheet;
 use model::{maker, rules};
 
-const STORED_SHEETS: usize = 200_000;
 const LAWFUL_SHEETS: usize = 2_000;
 
 fn library_verdict(stored: &[u32]) -> (u8, u8) {
@@ -16,10 +15,16 @@ fn library_verdict(stored: &[u32]) -> (u8, u8) {
     }
 }
 
-/// The verdict that all three judges give.
-fn judged_alike(stored: &[u32]) -> (u8, u8) {
+/// The verdict that the library and its loops both give.
+fn same_verdict(stored: &[u32]) -> (u8, u8) {
     let verdict = judge(stored);
     assert_eq!(verdict, library_verdict(stored), "{stored:x?}");
+    verdict
+}
+
+/// The verdict that all three judges give.
+fn judged_alike(stored: &[u32]) -> (u8, u8) {
+    let verdict = same_verdict(stored);
     assert_eq!(verdict, rules::judge(stored), "{stored:x?}");
     verdict
 }
@@ -34,19 +39,7 @@ fn stored_with_best(sheet: &Sheet) -> Option<Vec<u32>> {
 
 #[test]
 fn invented_and_damaged_layouts() {
-    let mut random = Random::new(71);
-    let (mut rules_met, mut refusals_met) = ([0; 7], [0; 12]);
-    for _ in 0..STORED_SHEETS {
-        let (refusal, rule) = judged_alike(&stored_sheet(&mut random));
-        if refusal == 0 {
-            rules_met[usize::from(rule)] += 1;
-        }
-        refusals_met[usize::from(refusal)] += 1;
-    }
-    assert!(rules_met.iter().all(|times| *times > STORED_SHEETS / 1000), "{rules_met:?}");
-    for refusal in [1, 2, 4, 5, 6, 7, 11] {
-        assert!(refusals_met[refusal] > STORED_SHEETS / 2000, "{refusals_met:?}");
-    }
+    hold_judge(same_verdict, 200_000, 71);
 }
 
 #[test]

@@ -1,0 +1,49 @@
+use Rattle.strips.specs.Strips.{stripOf, pointOf}
+use Rattle.choice.proofs.Prices.{draw-opens, draw-joins}
+use mathlib.Core.Path.{_≡_, refl, ap, sym, _∙_}
+use mathlib.Core.List.{List, [], _∷_, _++_}
+use mathlib.Core.Logic.{⊎-elim}
+use Prim.Native.Nat.{ℕ, zero, suc, _+_, _-_, _*_, _<_, _≤_}
+use native.Mathlib.Omega.{arith}
+use native.Mathlib.Numerals.{add-one}
+use lib.ListN.{length, getD, take, drop, set, length-set}
+use borrow.Author.Tests.{eq-eqb, ne-eqb, lt-ltb, le-ltb, le-leb, lt-leb}
+use borrow.Author.Needs.{needs}
+use Rattle.choice.proofs.draw_of.Statement.{statement}
+use Rattle.choice.proofs.draw_of.Tie as tie
+use Rattle.choice.proofs.draw_of.Reads as reads
+use Rattle.choice.proofs.draw_of.Lts as lts
+use Rattle.strips.proofs.opens.Reads as opens-reads
+
+-- src/lib.rt:204:8
+opens-requires : tie.Need-opens-requires
+opens-requires c κs = search needs
+
+-- src/lib.rt:205:17
+cast-c : tie.Need-cast-c
+cast-c c = search needs
+
+-- src/lib.rt:206:16
+mul-result : tie.Need-mul-result
+mul-result c = search needs
+
+-- src/lib.rt:206:16
+shared-slice-read-result : tie.Need-shared-slice-read-result
+shared-slice-read-result c = search needs
+
+-- src/lib.rt:206:9
+returns : tie.Need-returns
+returns c =
+    let a = c .before .before .before .before .before .before .before .before .args in
+    sym (draw-opens (a .q) (a .heights .now) (a .bounds .now) (a .radices .now) (a .draws .now) (stripOf (a .p)) (pointOf (a .s)) (a .k) (sym (c .before .before .before .opens .ensures) ∙ c .before .before .if1 .taken))
+
+-- src/lib.rt:199:1
+returns-2 : tie.Need-returns-2
+returns-2 c =
+    let a = c .before .before .before .before .before .before .args in
+    sym (draw-joins (a .q) (a .heights .now) (a .bounds .now) (a .radices .now) (a .draws .now) (stripOf (a .p)) (pointOf (a .s)) (a .k) (sym (c .before .opens .ensures) ∙ c .if1 .left))
+
+pub draw-of-spec : {M : Type 1} → statement M
+draw-of-spec =
+    tie.close
+    (tie.spec opens-requires cast-c mul-result shared-slice-read-result returns returns-2)

@@ -1,0 +1,54 @@
+use Rattle.sheet.specs.Sheet.{kindOf}
+use Rattle.text.specs.Text.{written}
+use mathlib.Core.Path.{refl, sym, _∙_}
+use native.Mathlib.Omega.{arith}
+use borrow.Author.Tests.{eq-eqb, ne-eqb}
+use borrow.Author.Needs.{needs}
+use Rattle.lines.proofs.put_line_of.Statement.{statement}
+use Rattle.lines.proofs.put_line_of.Tie as tie
+
+kind-of-requires : tie.Need-kind-of-requires
+kind-of-requires c κs = search needs
+
+returns : tie.Need-returns
+unfolding written
+returns c =
+    let w = c .before .before .before .before .args .word in rw (ne-eqb (kindOf w) 4 (λ e. c .if1 .taken (c .before .kind-of .ensures ∙ e))) (omega arith, refl)
+
+add-get : tie.Need-add-get
+add-get c = search needs
+
+get-requires : tie.Need-get-requires
+get-requires c κs = search needs
+
+byte-field-requires : tie.Need-byte-field-requires
+byte-field-requires c κs = search needs
+
+monus-requires : tie.Need-monus-requires
+monus-requires c κs = search needs
+
+put-site-line-requires : tie.Need-put-site-line-requires
+put-site-line-requires c κs = search needs
+
+same-length : tie.Need-same-length
+same-length c = search needs
+
+returns-2 : tie.Need-returns-2
+returns-2 c =
+    let w = c .before .before .before .before .before .before .before .before .before .before .before .args .word in
+    rw (eq-eqb (kindOf w) 4 (sym (c .before .before .before .before .before .before .before .before .kind-of .ensures) ∙ c .before .before .before .before .before .before .before .if1 .left))
+    (rw (c .before .before .before .monus .ensures, c .before .before .before .before .before .byte-field .ensures, c .before .before .before .before .before .before .get .ensures) at (c .before .before .put-site-line .ensures))
+
+pub put-line-of-spec : {M : Type 1} → statement M
+put-line-of-spec =
+    tie.close
+    (tie.spec
+    kind-of-requires
+    returns
+    add-get
+    get-requires
+    byte-field-requires
+    monus-requires
+    put-site-line-requires
+    same-length
+    returns-2)

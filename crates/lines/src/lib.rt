@@ -1,0 +1,162 @@
+// The words of an input, and the lines of a report.
+ghost use mathlib.Core.Path.{_≡_};
+ghost use mathlib.Core.List.{[], _∷_};
+ghost use Prim.Native.Nat.{_+_, _*_, _<_, _≤_};
+ghost use lib.ListN.{length, getD, drop};
+ghost use Rattle.sheet.specs.Sheet.{bits, sitesIn, sheetIn};
+ghost use Rattle.text.specs.Text.{written, pastOf};
+ghost use Rattle.lines.specs.Lines.{wordsIn, refusedLine, layoutLine, siteLine, siteLines, lineOf, countWith, layoutText};
+use text::put_byte;
+use text::put_bytes;
+use text::put_decimal;
+use words::byte_field;
+use words::get;
+use words::kind_of;
+use words::monus;
+
+pub fn wide(b: u8) -> u32
+    ensures { λ r. ⌜ (r ≡ b) × (r < 256) ⌝ }
+{
+    b as u32
+}
+
+fn word_at(bytes: &[u8], i: usize) -> u32
+    requires { ⌜ i + 4 ≤ length (now bytes) ⌝ }
+    ensures { λ r. ⌜ r ≡ getD (now (bytes .entry)) i 0 + 256 * getD (now (bytes .entry)) (i + 1) 0 + 65536 * getD (now (bytes .entry)) (i + 2) 0 + 16777216 * getD (now (bytes .entry)) (i + 3) 0 ⌝ }
+{
+    wide(bytes[i])
+        + 256 * wide(bytes[i + 1])
+        + 65536 * wide(bytes[i + 2])
+        + 16777216 * wide(bytes[i + 3])
+}
+
+fn put_word(words: &mut [u32], at: usize, word: u32) -> usize
+    ensures { λ r. ⌜ r ≡ pastOf (now (words .entry)) at (word ∷ []) ⌝ }
+    ensures { λ r. ⌜ now (words .exit) ≡ written (now (words .entry)) at (word ∷ []) ⌝ }
+{
+    if at < words.len() {
+        words[at] = word;
+        return at + 1;
+    }
+    at
+}
+
+pub fn put_words(words: &mut [u32], bytes: &[u8]) -> usize
+    ensures { λ r. ⌜ r ≡ pastOf (now (words .entry)) 0 (wordsIn (now (bytes .entry))) ⌝ }
+    ensures { λ r. ⌜ now (words .exit) ≡ written (now (words .entry)) 0 (wordsIn (now (bytes .entry))) ⌝ }
+{
+    let mut past: usize = 0;
+    let mut i: usize = 0;
+    while bytes.len() - i >= 4 {
+        past = put_word(words, past, word_at(bytes, i));
+        i += 4;
+    }
+    past
+}
+
+pub fn put_refused(text: &mut [u8], at: usize, number: u32) -> usize
+    ensures { λ r. ⌜ r ≡ pastOf (now (text .entry)) at (refusedLine number) ⌝ }
+    ensures { λ r. ⌜ now (text .exit) ≡ written (now (text .entry)) at (refusedLine number) ⌝ }
+{
+    let word = put_bytes(text, at, b"refused ");
+    let digits = put_decimal(text, word, number);
+    put_byte(text, digits, b'\n')
+}
+
+fn put_layout_line(text: &mut [u8], at: usize, labels: u32, size: u32) -> usize
+    ensures { λ r. ⌜ r ≡ pastOf (now (text .entry)) at (layoutLine labels size) ⌝ }
+    ensures { λ r. ⌜ now (text .exit) ≡ written (now (text .entry)) at (layoutLine labels size) ⌝ }
+{
+    let mut past = put_bytes(text, at, b"labels ");
+    past = put_decimal(text, past, labels);
+    past = put_bytes(text, past, b" length ");
+    past = put_decimal(text, past, size);
+    put_byte(text, past, b'\n')
+}
+
+fn put_site_line(text: &mut [u8], at: usize, site: u32, colour: u32, slot: u32) -> usize
+    ensures { λ r. ⌜ r ≡ pastOf (now (text .entry)) at (siteLine site colour slot) ⌝ }
+    ensures { λ r. ⌜ now (text .exit) ≡ written (now (text .entry)) at (siteLine site colour slot) ⌝ }
+{
+    let mut past = put_bytes(text, at, b"site ");
+    past = put_decimal(text, past, site);
+    past = put_bytes(text, past, b" colour ");
+    past = put_decimal(text, past, colour);
+    past = put_bytes(text, past, b" slot ");
+    past = put_decimal(text, past, slot);
+    put_byte(text, past, b'\n')
+}
+
+// The line of a site's word, and nothing for another word.
+fn put_line_of(
+    text: &mut [u8],
+    at: usize,
+    layout: &[u32],
+    site: u32,
+    colours: u32,
+    word: u32,
+) -> usize
+    requires { ⌜ site < 256 ⌝ }
+    ensures { λ r. ⌜ r ≡ pastOf (now (text .entry)) at (lineOf (now (layout .entry)) site colours word) ⌝ }
+    ensures { λ r. ⌜ now (text .exit) ≡ written (now (text .entry)) at (lineOf (now (layout .entry)) site colours word) ⌝ }
+{
+    if kind_of(word) != 4 {
+        return at;
+    }
+    let slot = byte_field(get(layout, site + 1));
+    put_site_line(text, at, site, monus(colours, 1), slot)
+}
+
+// One more after a word of the kind.
+fn count_of(number: u32, kind: u32, word: u32) -> u32
+    requires { ⌜ number < 256 ⌝ }
+    ensures { λ r. ⌜ r ≡ countWith number kind word ⌝ }
+{
+    if kind_of(word) == kind {
+        return number + 1;
+    }
+    number
+}
+
+fn put_site_lines(text: &mut [u8], at: usize, layout: &[u32], sheet: &[u32]) -> usize
+    requires { ⌜ length (now sheet) ≤ 256 ⌝ }
+    ensures { λ r. ⌜ r ≡ pastOf (now (text .entry)) at (siteLines (now (layout .entry)) 0 (sitesIn 0 (drop 1 (now (sheet .entry))))) ⌝ }
+    ensures { λ r. ⌜ now (text .exit) ≡ written (now (text .entry)) at (siteLines (now (layout .entry)) 0 (sitesIn 0 (drop 1 (now (sheet .entry))))) ⌝ }
+{
+    let mut past = at;
+    let mut site: u32 = 0;
+    let mut colours: u32 = 0;
+    let mut i: usize = 1;
+    while i < sheet.len() {
+        let word = sheet[i];
+        past = put_line_of(text, past, layout, site, colours, word);
+        site = count_of(site, 4, word);
+        colours = count_of(colours, 3, word);
+        i += 1;
+    }
+    past
+}
+
+// Bits 27 to 21 of a layout's first word: the label count.
+fn count_field(w: u32) -> u32
+    ensures { λ r. ⌜ r ≡ bits w 21 7 ⌝ }
+{
+    w / 2097152 % 128
+}
+
+// Bits 20 to 0: the length.
+fn length_field(w: u32) -> u32
+    ensures { λ r. ⌜ r ≡ bits w 0 21 ⌝ }
+{
+    w % 2097152
+}
+
+pub fn put_layout(text: &mut [u8], layout: &[u32], sheet: &[u32]) -> usize
+    requires { ⌜ length (now sheet) ≤ 256 ⌝ }
+    ensures { λ r. ⌜ r ≡ pastOf (now (text .entry)) 0 (layoutText (sheetIn (now (sheet .entry))) (now (layout .entry))) ⌝ }
+    ensures { λ r. ⌜ now (text .exit) ≡ written (now (text .entry)) 0 (layoutText (sheetIn (now (sheet .entry))) (now (layout .entry))) ⌝ }
+{
+    let first = get(layout, 0);
+    let past = put_layout_line(text, 0, count_field(first), length_field(first));
+    put_site_lines(text, past, layout, sheet)
+}

@@ -1,3 +1,0 @@
-mod Words
-mod Lines
-pub mod Program
