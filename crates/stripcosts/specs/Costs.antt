@@ -2,7 +2,7 @@
 use mathlib.Core.Path.{_≡_}
 use mathlib.Core.Bool.{Bool, true, false, cond, _&&_, _||_}
 use mathlib.Core.List.{List}
-use Prim.Native.Nat.{ℕ, zero, suc, _*_, _≤_, _<_, min}
+use Prim.Native.Nat.{ℕ, zero, suc, _+_, _*_, _≤_, _<_, min}
 use lib.Dec.{ltb, leb, eqb}
 use lib.ListN.{length, getD}
 use Rattle.search.specs.Sums.{sumTo}
@@ -24,12 +24,12 @@ lowerAt hs k cb = record { edge = leb (length hs) k; place = suc k; code = cb; h
 unfoldable pub insideOf : Label → Label → (y : ℕ) → Bool
 insideOf a b y = (a .edge || leb (a .height) y) && (b .edge || ltb y (b .height))
 
--- it may be tied to the upper one, to the lower one
+-- it may be tied to the upper one, to the lower one; it lies between them, so that a label is clear of it if it is far enough above or below
 unfoldable pub upFits : Measures → Label → Label → (y colour cap : ℕ) → Bool
-upFits q a b y c cap = eqb (a .code) (suc c) && ((b .edge || leb (q .gap) (apart (b .height) y)) && (eqb cap 0 || leb (a .place) cap))
+upFits q a b y c cap = eqb (a .code) (suc c) && ((b .edge || leb (y + q .gap) (b .height)) && (eqb cap 0 || leb (a .place) cap))
 
 unfoldable pub downFits : Measures → Label → Label → (y colour cap : ℕ) → Bool
-downFits q a b y c cap = eqb (b .code) (suc c) && ((a .edge || leb (q .gap) (apart (a .height) y)) && (eqb cap 0 || leb (b .place) cap))
+downFits q a b y c cap = eqb (b .code) (suc c) && ((a .edge || leb (a .height + q .gap) y) && (eqb cap 0 || leb (b .place) cap))
 
 -- its cost tied to one of them, to the better of the two, or 0 outside
 abbrev pub tieCost : Measures → (fits : Bool) → (height y : ℕ) → ℕ

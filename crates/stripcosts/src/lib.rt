@@ -1,14 +1,13 @@
 // The cost of a strip's sites: each is tied to the label above or to the one below.
 ghost use mathlib.Core.Path.{_≡_};
 ghost use mathlib.Core.Bool.{_||_};
-ghost use Prim.Native.Nat.{suc, _<_, _≤_, min};
+ghost use Prim.Native.Nat.{suc, _+_, _<_, _≤_, min};
 ghost use lib.Dec.{eqb, leb};
 ghost use lib.ListN.{length};
 ghost use Rattle.bands.specs.Bands.{Starts, Ends};
 ghost use Rattle.stripcosts.specs.Costs.{upperAt, lowerAt, insideOf, upFits, downFits, tieCost, siteOf, stripOf, Among};
 use arrays::Measures;
 use drops::apart_of;
-use places::is_clear_at;
 use words::NONE;
 use words::at_most;
 use words::both;
@@ -23,6 +22,14 @@ pub struct Label {
     pub place: u32,
     pub code: u32,
     pub height: u32,
+}
+
+// A label is clear of a site, the lower of the two far enough below the upper.
+fn is_clear(q: Measures, upper: u32, lower: u32) -> bool
+    ensures { λ r. ⌜ r ≡ leb (upper + q .gap) lower ⌝ }
+{
+    let end = (upper as u64) + (q.gap as u64);
+    end <= lower as u64
 }
 
 // A code that stands for a colour.
@@ -70,7 +77,7 @@ fn fits_up(q: Measures, above: Label, below: Label, y: u32, colour: u32, cap: u3
         return false;
     }
     both(
-        either(below.edge, is_clear_at(q, below.height, y)),
+        either(below.edge, is_clear(q, y, below.height)),
         is_capped(cap, above.place),
     )
 }
@@ -82,7 +89,7 @@ fn fits_down(q: Measures, above: Label, below: Label, y: u32, colour: u32, cap: 
         return false;
     }
     both(
-        either(above.edge, is_clear_at(q, above.height, y)),
+        either(above.edge, is_clear(q, above.height, y)),
         is_capped(cap, below.place),
     )
 }
