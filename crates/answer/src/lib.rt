@@ -6,20 +6,9 @@ ghost use lib.ListN.{length, drop, replicate};
 ghost use Rattle.arrays.specs.Arrays.{instanceBy, pointsBy};
 ghost use Rattle.optimum.specs.OneSided.{topWord};
 ghost use Rattle.answer.specs.Laid.{leastCost, headWord, written, laidFault, laidOut, wiped, TableFilled};
+use areas::clear;
 use arrays::Measures;
 use choice::Left;
-
-// Zeros the first n words.
-fn clear(work: &mut [u32], n: usize)
-    requires { ⌜ n ≤ length (now work) ⌝ }
-    ensures { λ _. ⌜ now (work .exit) ≡ replicate n 0 ++ drop n (now (work .entry)) ⌝ }
-{
-    let mut i: usize = 0;
-    while i < n {
-        work[i] = 0;
-        i += 1;
-    }
-}
 
 // A layout's first word from its cost.
 fn head_word(q: Measures, cost: u32) -> u32

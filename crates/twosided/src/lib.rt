@@ -13,6 +13,7 @@ ghost use Rattle.optimum.specs.Steady.{Steady};
 ghost use Rattle.byheight.specs.Sites.{Reorders};
 ghost use Rattle.usedslots.specs.Table.{instanceBy, tableBy, capsIn, Fits, tableWords};
 ghost use Rattle.twosided.specs.Caps.{leftmostBy, keepsCost, Reaches, Probed, countBy, lengthBy, wordsBy, uncapped, Low, Laid};
+use areas::clear;
 use arrays::Measures;
 use arrays::bounds_of;
 use arrays::colours_of;
@@ -458,17 +459,6 @@ fn write_layout(head: u32, caps: &[u32], out: &mut [u32])
     while i < caps.len() {
         let tie = monus(caps[i], 1);
         out[i + 1] = 2415919104 + tie;
-        i += 1;
-    }
-}
-
-fn clear(work: &mut [u32], count: usize)
-    requires { ⌜ count ≤ length (now work) ⌝ }
-    ensures { λ _. ⌜ now (work .exit) ≡ replicate count 0 ++ drop count (now (work .entry)) ⌝ }
-{
-    let mut i: usize = 0;
-    while i < count {
-        work[i] = 0;
         i += 1;
     }
 }

@@ -6,8 +6,8 @@ use Prim.Native.Nat.{_+_, _-_, _≤_}
 use native.Mathlib.Omega.{arith}
 use lib.ListN.{length, drop, length-set}
 use borrow.Author.Needs.{needs}
-use Rattle.answer.proofs.clear.Statement.{statement}
-use Rattle.answer.proofs.clear.Tie as tie
+use Rattle.areas.proofs.clear.Statement.{statement}
+use Rattle.areas.proofs.clear.Tie as tie
 
 abbrev Inv-loop : tie.InvT-loop
 Inv-loop work₀ n i₀ work i = (length work ≡ length work₀) × (i ≤ n) × (work ≡ replicate i 0 ++ drop i work₀)
