@@ -1,0 +1,13 @@
+-- A cost in one word: definitions.
+use mathlib.Core.Bool.{cond}
+use Prim.Native.Nat.{ℕ, _+_, _*_, _/_, _%_}
+use Rattle.arrays.specs.declared.Measures.{Measures}
+
+-- count and length in one word, by the aim
+abbrev pub wordBy : Measures → (count size : ℕ) → ℕ
+wordBy q c l = cond (q .shortest) (l * 64 + c) (c * 33554432 + l)
+
+-- a layout's first word: count and length of a cost, by the aim
+abbrev pub headWord : Measures → (cost : ℕ) → ℕ
+headWord q w =
+    8 * 268435456 + cond (q .shortest) (w % 64) (w / 33554432) * 2097152 + cond (q .shortest) (w / 64) (w % 33554432)
