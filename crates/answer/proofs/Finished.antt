@@ -20,7 +20,8 @@ use Rattle.rest.proofs.Rows.{size, Size}
 use Rattle.walk.specs.Walk.{Found, valueIn, WalkArrays, Standing, tiedFrom}
 use Rattle.walk.proofs.Value.{Met, met-value, walk-right}
 use Rattle.walk.proofs.Tying.{points-long}
-use Rattle.answer.specs.Laid.{emptySheet, leastCost, headWord, written, laidFault, laidOut, wiped, TableFilled}
+use Rattle.costs.specs.Costs.{headWord}
+use Rattle.answer.specs.Laid.{emptySheet, leastCost, written, laidFault, laidOut, wiped, TableFilled}
 
 module _ (q : Measures) (hs bs rs ds parts counts work xs ys cs order L out : List ℕ) (f : TableFilled q hs bs rs ds parts counts work xs ys cs order L out) where
   abbrev P : Instance

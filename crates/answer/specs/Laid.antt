@@ -12,6 +12,7 @@ use Rattle.optimum.specs.Reached.{TableOf}
 use Rattle.arrays.specs.declared.Measures.{Measures}
 use Rattle.arrays.specs.Arrays.{instanceBy, pointsBy}
 use Rattle.rest.specs.Rest.{levelSize}
+use Rattle.costs.specs.Costs.{headWord}
 use Rattle.walk.specs.Walk.{WalkArrays}
 
 -- no label is open, and the budget is full: R budgets
@@ -20,11 +21,6 @@ emptySheet P R = (replicate (P .slots .m) 0, R - 1, replicate (suc (P .slots .m)
 
 abbrev pub leastCost : (P : Instance) → (R : ℕ) → List Point → ℕ
 leastCost P R points = value P (emptySheet P R) points
-
--- a layout's first word: count and length of a cost, by the aim
-abbrev pub headWord : Measures → (cost : ℕ) → ℕ
-headWord q w =
-    8 * 268435456 + cond (q .shortest) (w % 64) (w / 33554432) * 2097152 + cond (q .shortest) (w / 64) (w % 33554432)
 
 -- 0, or 10 where there is none
 abbrev pub laidFault : (P : Instance) → (R : ℕ) → List Point → ℕ

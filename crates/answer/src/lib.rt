@@ -5,20 +5,11 @@ ghost use Prim.Native.Nat.{_<_, _≤_};
 ghost use lib.ListN.{length, drop, replicate};
 ghost use Rattle.arrays.specs.Arrays.{instanceBy, pointsBy};
 ghost use Rattle.optimum.specs.OneSided.{topWord};
-ghost use Rattle.answer.specs.Laid.{leastCost, headWord, written, laidFault, laidOut, wiped, TableFilled};
+ghost use Rattle.answer.specs.Laid.{leastCost, written, laidFault, laidOut, wiped, TableFilled};
 use areas::clear;
 use arrays::Measures;
 use choice::Left;
-
-// A layout's first word from its cost.
-fn head_word(q: Measures, cost: u32) -> u32
-    ensures { λ r. ⌜ r ≡ headWord q cost ⌝ }
-{
-    if q.shortest {
-        return 2147483648 + cost % 64 * 2097152 + cost / 64;
-    }
-    2147483648 + cost / 33554432 * 2097152 + cost % 33554432
-}
+use costs::head_word;
 
 // Writes the layout of the least cost: its first word, and the ties of the walk.
 fn write_layout(

@@ -24,7 +24,8 @@ use Rattle.arrays.specs.Arrays.{measuresOf, boundsOf, drawsList, xsOf, ysOf, co
 use Rattle.arrays.proofs.Instances.{instance-by, points-by}
 use Rattle.optimum.specs.Budgets.{radicesOf}
 use Rattle.rest.specs.Rest.{levelSize}
-use Rattle.answer.specs.Laid.{leastCost, headWord, laidFault, written, laidOut, wiped}
+use Rattle.costs.specs.Costs.{headWord}
+use Rattle.answer.specs.Laid.{leastCost, laidFault, written, laidOut, wiped}
 
 -- the three equations of a call: what it returns, and both areas
 pub record Made (ws k o : List ℕ) (fault : ℕ) (work out : List ℕ) : Type 0 where

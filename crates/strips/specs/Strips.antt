@@ -13,6 +13,7 @@ use Rattle.arrays.specs.Arrays.{instanceBy}
 use Rattle.strips.specs.declared.Strip as held
 use Rattle.strips.specs.declared.Site as tied
 use Rattle.strips.specs.declared.Window.{Window}
+use Rattle.costs.specs.Costs.{wordBy}
 
 -- the strip and the site of the model; a strip carries no mark yet
 abbrev pub stripOf : held.Strip → Strip
@@ -65,10 +66,7 @@ pub record WindowOf (P : Instance) (p : Strip) (s : Point) (w : Window) : Type 0
   pub high : w .from < w .to → w .to < p .b
   pub leaves : (k : ℕ) → p .a ≤ k → k + 1 < p .b → gapLeft P p s k ≡ leb (w .from) k && ltb k (w .to)
 
--- count and length in one word, by the aim; what a step costs that opens a label, and one that joins it
-abbrev pub wordBy : Measures → (count size : ℕ) → ℕ
-wordBy q c l = cond (q .shortest) (l * 64 + c) (c * 33554432 + l)
-
+-- what a step costs that opens a label, and one that joins it
 abbrev pub openCost : Measures → (heights : List ℕ) → Point → (slot : ℕ) → ℕ
 openCost q hs s k = wordBy q 1 (q .width - s .x + apart (getD hs k 0) (s .y))
 

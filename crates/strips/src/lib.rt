@@ -6,8 +6,9 @@ ghost use Prim.Native.Nat.{ℕ, _+_, _-_, _<_};
 ghost use lib.Dec.{ltb};
 ghost use lib.ListN.{length, getD};
 ghost use Rattle.optimum.specs.Strips as model;
-ghost use Rattle.strips.specs.Strips.{instanceOn, stripOf, pointOf, Measured, Small, gapLeft, FirstFar, FarEnd, WindowOf, siteOpens, wordBy, openCost, joinCost};
+ghost use Rattle.strips.specs.Strips.{instanceOn, stripOf, pointOf, Measured, Small, gapLeft, FirstFar, FarEnd, WindowOf, siteOpens, openCost, joinCost};
 use arrays::Measures;
+use costs::word_of;
 use drops::apart_of;
 use places::is_clear;
 use places::is_far;
@@ -168,17 +169,6 @@ pub fn joins(q: Measures, heights: &[u32], bounds: &[u32], p: Strip, s: Site, k:
         joins_up(q, heights, bounds, p, s, k),
         joins_down(q, heights, bounds, p, s, k),
     )
-}
-
-// Count and length in one word, by the aim.
-fn word_of(q: Measures, count: u32, length: u32) -> u32
-    requires { ⌜ (count < 2) × (length < 65536) ⌝ }
-    ensures { λ r. ⌜ r ≡ wordBy q count length ⌝ }
-{
-    if q.shortest {
-        return length * 64 + count;
-    }
-    count * 33554432 + length
 }
 
 // What it costs to open a label at slot k; to join one there.

@@ -9,6 +9,7 @@ use Rattle.labelling.specs.Layout.{tieWords, layoutWords}
 use Rattle.search.specs.Sums.{listing}
 use Rattle.optimum.specs.UsedSlots.{Instance, value, capAll, ties}
 use Rattle.arrays.specs.declared.Measures.{Measures}
+pub use Rattle.costs.specs.Costs.{countBy, lengthBy}
 use Rattle.usedslots.specs.Table.{none, tableBy, capsIn}
 use Rattle.twosided.specs.declared.Range.{Range}
 
@@ -30,13 +31,6 @@ Reaches G caps w i k = value G (capsIn (set caps i (suc k))) ≤ w
 pub record Probed (G : Instance) (caps : List ℕ) (least site : ℕ) (range : Range) (probe : ℕ) (after : Range) : Type 0 where
   pub kept : keepsCost G caps least site probe ≡ true → (after .low ≡ range .low) × (after .high ≤ probe) × Reaches G caps least site (after .high)
   pub lost : keepsCost G caps least site probe ≡ false → (after .low ≡ suc probe) × (after .high ≡ range .high)
-
--- count and length in a cost
-abbrev pub countBy : Measures → (cost : ℕ) → ℕ
-countBy q w = cond (q .shortest) (w % 64) (w / 33554432)
-
-abbrev pub lengthBy : Measures → (cost : ℕ) → ℕ
-lengthBy q w = cond (q .shortest) (w / 64) (w % 33554432)
 
 -- a layout's words: the first, and a tie from each cap
 abbrev pub wordsBy : (head : ℕ) → (caps : List ℕ) → List ℕ

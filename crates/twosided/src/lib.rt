@@ -12,7 +12,7 @@ ghost use Rattle.optimum.specs.UsedSlots.{value, choose, capAll};
 ghost use Rattle.optimum.specs.Steady.{Steady};
 ghost use Rattle.byheight.specs.Sites.{Reorders};
 ghost use Rattle.usedslots.specs.Table.{instanceBy, tableBy, capsIn, Fits, tableWords};
-ghost use Rattle.twosided.specs.Caps.{leftmostBy, keepsCost, Reaches, Probed, countBy, lengthBy, wordsBy, uncapped, Low, Laid};
+ghost use Rattle.twosided.specs.Caps.{leftmostBy, keepsCost, Reaches, Probed, wordsBy, uncapped, Low, Laid};
 use areas::clear;
 use arrays::Measures;
 use arrays::bounds_of;
@@ -25,6 +25,7 @@ use arrays::xs_of;
 use arrays::ys_of;
 use byheight::order_sites;
 use byheight::value_of;
+use costs::head_word;
 use labels::labels_cost;
 use labels::trace_labels;
 use words::NONE;
@@ -439,15 +440,6 @@ fn cap_sites(
 }
 
 // ---- the layout's words
-
-fn head_word(q: Measures, cost: u32) -> u32
-    ensures { λ r. ⌜ r ≡ 8 * 268435456 + countBy q cost * 2097152 + lengthBy q cost ⌝ }
-{
-    if q.shortest {
-        return 2147483648 + cost % 64 * 2097152 + cost / 64;
-    }
-    2147483648 + cost / 33554432 * 2097152 + cost % 33554432
-}
 
 // A layout's first word, and a tie for each cap.
 fn write_layout(head: u32, caps: &[u32], out: &mut [u32])

@@ -15,7 +15,7 @@ use Rattle.twosided.proofs.lay_capped.Reads as reads
 use Rattle.twosided.proofs.lay_capped.Lts as lts
 use Rattle.twosided.proofs.cap_sites.Reads as cap-sites-reads
 use Rattle.areas.proofs.clear.Reads as clear-reads
-use Rattle.twosided.proofs.head_word.Reads as head-word-reads
+use Rattle.costs.proofs.head_word.Reads as head-word-reads
 use Rattle.twosided.proofs.table_words.Reads as table-words-reads
 use Rattle.twosided.proofs.write_layout.Reads as write-layout-reads
 use Rattle.byheight.proofs.value_of.Reads as value-of-reads

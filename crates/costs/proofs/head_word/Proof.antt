@@ -1,8 +1,8 @@
 use mathlib.Core.Path.{refl}
 use Prim.Native.Nat.{_-_}
 use borrow.Author.Needs.{needs}
-use Rattle.answer.proofs.head_word.Statement.{statement}
-use Rattle.answer.proofs.head_word.Tie as tie
+use Rattle.costs.proofs.head_word.Statement.{statement}
+use Rattle.costs.proofs.head_word.Tie as tie
 
 mul-result : tie.Need-mul-result
 mul-result c = search needs

@@ -7,10 +7,10 @@ use native.Mathlib.Numerals.{add-one}
 use lib.ListN.{length, getD, take, drop, set, length-set}
 use borrow.Author.Tests.{eq-eqb, ne-eqb, lt-ltb, le-ltb, le-leb, lt-leb}
 use borrow.Author.Needs.{needs}
-use Rattle.strips.proofs.word_of.Statement.{statement}
-use Rattle.strips.proofs.word_of.Tie as tie
-use Rattle.strips.proofs.word_of.Reads as reads
-use Rattle.strips.proofs.word_of.Lts as lts
+use Rattle.costs.proofs.word_of.Statement.{statement}
+use Rattle.costs.proofs.word_of.Tie as tie
+use Rattle.costs.proofs.word_of.Reads as reads
+use Rattle.costs.proofs.word_of.Lts as lts
 
 -- src/lib.rt:164:16
 mul-result : tie.Need-mul-result
