@@ -1,7 +1,6 @@
 -- Sites in another order: strips and the least cost stay. Assumes nothing.
-use mathlib.Core.Path.{_≡_, refl, sym, ap, ap₂, _∙_, fun-ext}
+use mathlib.Core.Path.{_≡_, refl, sym, ap, ap₂, _∙_}
 use mathlib.Core.Logic.{_≢_}
-use mathlib.Core.Bool.{cond, _&&_}
 use mathlib.Core.List.{List, []}
 use Prim.Native.Nat.{ℕ, zero, suc, _+_, _-_, _≤_, _<_}
 use native.Mathlib.Omega.{arith}
@@ -14,7 +13,7 @@ use Rattle.search.specs.Sums.{sumTo, listing}
 use Rattle.search.proofs.CappedSums.{sum-cong}
 use Rattle.search.proofs.Sums.{listing-at, length-listing}
 use Rattle.optimum.specs.Slots.{farFrom}
-use Rattle.optimum.specs.UsedSlots.{Instance, may, draw, strip, price, next, final, labels, State, below, T, value}
+use Rattle.optimum.specs.UsedSlots.{may, draw, strip, price, next, final, labels, State, below, T, value}
 use Rattle.arrays.specs.declared.Measures.{Measures}
 use Rattle.stripcosts.specs.declared.Label.{Label}
 use Rattle.stripcosts.specs.Costs.{upperAt, lowerAt, siteOf, stripOf}

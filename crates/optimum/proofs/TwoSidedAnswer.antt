@@ -8,9 +8,8 @@ use Prim.Native.Nat.{ℕ, suc, _-_, _≤_, _<_}
 use native.Mathlib.Omega.{arith}
 use lib.Dec.{eqb}
 use lib.ListN.{length, getD}
-use borrow.Author.Tests.{eqb-true, eq-eqb, lt-ltb, le-ltb}
+use borrow.Author.Tests.{lt-ltb, le-ltb}
 use Rattle.lists.proofs.Tests.{is-false, by-order}
-use Rattle.search.specs.Cost.{first}
 use Rattle.sheet.specs.Sheet.{all, Site, Sheet, sheetIn, sheetFault, rankOf, ranksDiffer}
 use Rattle.sheet.proofs.Accepted.{Sound, sound, colourLow, sites-coloured}
 use Rattle.labelling.specs.Layout.{tiedOf, slotAt, countOf, lengthOf, isBetter, best}
@@ -21,7 +20,7 @@ use Rattle.labelling.proofs.Earlier.{Earlier, Better, better-e, slot-at}
 use Rattle.labelling.proofs.Maker.{First, best-some-iff, best-none-iff}
 use Rattle.search.specs.Sums.{listing}
 use Rattle.search.proofs.Sums.{listing-of, listing-same, listing-at, length-listing, tally-le}
-use Rattle.optimum.specs.UsedSlots.{put, value, choose, capAll, ties, answer}
+use Rattle.optimum.specs.UsedSlots.{value, capAll, ties, answer}
 use Rattle.optimum.specs.Steady.{Steady}
 use Rattle.optimum.specs.CostWord.{topWord, countIn, lengthIn, layoutCost}
 use Rattle.optimum.specs.TwoSided.{instanceOf, twoSided}

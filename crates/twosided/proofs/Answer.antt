@@ -1,33 +1,29 @@
 -- The layout of an accepted two-sided sheet from its arrays is what the maker is to answer. Assumes nothing.
-use mathlib.Core.Path.{_≡_, refl, sym, ap, ap₂, _∙_, fun-ext, subst, subst⁻¹}
-use mathlib.Core.Logic.{_≢_}
-use mathlib.Core.Bool.{Bool, true, false, cond, _&&_, _||_}
+use mathlib.Core.Path.{_≡_, refl, sym, ap, _∙_, fun-ext, subst, subst⁻¹}
+use mathlib.Core.Bool.{true, false, cond}
 use mathlib.Core.List.{List, [], _∷_, _++_}
 use Prim.Native.Nat.{ℕ, zero, suc, _+_, _*_, _-_, _/_, _%_, _^_, _≤_, _<_}
 use native.Mathlib.Nat.{le-trans, le-of-eq, mul-le-mul, mul-assoc, mul-comm, one-mul, mul-one}
 use native.Mathlib.Omega.{arith}
-use native.Mathlib.Numerals.{add-one}
-use lib.Dec.{ltb, leb, eqb}
-use lib.ListN.{length, getD, set, take, drop, replicate, length-replicate}
-use borrow.Author.Tests.{lt-ltb, le-ltb, ltb-true, eqb-true}
-use Rattle.lists.proofs.Tests.{by-test, by-order, and-l}
+use lib.Dec.{ltb, eqb}
+use lib.ListN.{length, getD, take, drop, replicate}
+use borrow.Author.Tests.{lt-ltb, le-ltb}
+use Rattle.lists.proofs.Tests.{by-test, by-order}
 use Rattle.search.specs.Radix.{place}
 use Rattle.sheet.specs.Sheet.{Site, Colour, Sheet, sheetIn, sheetFault, bodyOf, coloursIn, kindOf, rankOf, productOf, workFor}
 use Rattle.sheet.proofs.Accepted.{Sound, sound, sites-coloured}
-use Rattle.labelling.specs.Layout.{tieWords, layoutWords, siteShare}
-use Rattle.labelling.specs.Entry.{makeFault, makeWork, makeAnswer}
+use Rattle.labelling.specs.Layout.{layoutWords, siteShare}
 use Rattle.labelling.specs.Promise.{takesSheet}
-use Rattle.labelling.proofs.Rules.{siteAt}
 use Rattle.labelling.proofs.Members.{rise-at}
-use Rattle.labelling.proofs.Maker.{Result, cleared}
+use Rattle.labelling.proofs.Maker.{Result}
 use Rattle.search.specs.Sums.{listing}
 use Rattle.optimum.specs.Slots.{farEnough, sheetSlots}
-use Rattle.optimum.specs.UsedSlots.{Instance, put, value, leftmost, choose, capAll, ties}
+use Rattle.optimum.specs.UsedSlots.{Instance, put, value, capAll, ties}
 use Rattle.optimum.specs.TwoSided.{radicesOf, instanceOf}
 use Rattle.optimum.specs.CostWord.{countIn, lengthIn}
 use Rattle.optimum.specs.Steady.{Steady}
 use Rattle.optimum.proofs.TwoSidedAnswer.{steady}
-use Rattle.optimum.proofs.TwoSidedCall.{leastOf, capsOf, two-sided-call, two-sided-none}
+use Rattle.optimum.proofs.TwoSidedCall.{leastOf, two-sided-call, two-sided-none}
 use Rattle.arrays.specs.declared.Measures.{Measures}
 use Rattle.arrays.specs.Arrays.{boundsOf, xsOf, ysOf, coloursOf, radicesBy, drawsBy, radixBy, measuresOf, padded, productBy}
 use Rattle.arrays.proofs.Instances.{bounds-at, xs-at, ys-at, colours-at}

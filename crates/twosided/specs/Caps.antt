@@ -1,7 +1,7 @@
 -- The walk that caps the sites one by one, as code does it, and the layout's words. Definitions.
 use mathlib.Core.Bool.{Bool, true, false, cond, _&&_, _||_}
-use mathlib.Core.List.{List, [], _∷_, _++_}
-use Prim.Native.Nat.{ℕ, zero, suc, _+_, _*_, _-_, _/_, _%_, _≤_, _<_}
+use mathlib.Core.List.{List, _∷_, _++_}
+use Prim.Native.Nat.{ℕ, zero, suc, _+_, _-_, _≤_}
 use lib.Dec.{ltb, leb, eqb}
 use mathlib.Core.Path.{_≡_}
 use lib.ListN.{length, getD, set, drop, replicate}
@@ -10,7 +10,7 @@ use Rattle.search.specs.Sums.{listing}
 use Rattle.optimum.specs.UsedSlots.{Instance, value, capAll, ties}
 use Rattle.arrays.specs.declared.Measures.{Measures}
 pub use Rattle.costs.specs.Costs.{countBy, lengthBy}
-use Rattle.usedslots.specs.Table.{none, tableBy, capsIn}
+use Rattle.usedslots.specs.Table.{none, capsIn}
 use Rattle.twosided.specs.declared.Range.{Range}
 
 -- the leftmost site without a cap among the first so many, of n in all, or n

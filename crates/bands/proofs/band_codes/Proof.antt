@@ -1,21 +1,12 @@
 use Rattle.bands.specs.Bands.{Codes}
 use Rattle.bands.proofs.Bands.{codes-none}
-use mathlib.Core.Path.{_≡_, refl, ap, sym, _∙_}
-use mathlib.Core.List.{List, [], _∷_, _++_}
-use mathlib.Core.Logic.{⊎-elim}
-use Prim.Native.Nat.{ℕ, zero, suc, _+_, _-_, _*_, _<_, _≤_}
+use mathlib.Core.Path.{refl, sym}
+use Prim.Native.Nat.{_-_}
 use native.Mathlib.Omega.{arith}
-use native.Mathlib.Numerals.{add-one}
-use lib.ListN.{length, getD, take, drop, set, length-set}
-use borrow.Author.Tests.{eq-eqb, ne-eqb, lt-ltb, le-ltb, le-leb, lt-leb}
+use lib.ListN.{length}
 use borrow.Author.Needs.{needs}
 use Rattle.bands.proofs.band_codes.Statement.{statement}
 use Rattle.bands.proofs.band_codes.Tie as tie
-use Rattle.bands.proofs.band_codes.Reads as reads
-use Rattle.bands.proofs.band_codes.Lts as lts
-use Rattle.bands.proofs.codes_after.Reads as codes-after-reads
-use Rattle.bands.proofs.top_of.Reads as top-of-reads
-use Rattle.words.proofs.get.Reads as get-reads
 
 abbrev Inv-loop : tie.InvT-loop
 Inv-loop heights ys colours k first top bottom codes₀ i₀ codes i = Codes heights ys colours k k codes

@@ -1,17 +1,9 @@
 use Rattle.bands.proofs.Bands.{codes-first, codes-second}
-use mathlib.Core.Path.{_≡_, refl, ap, sym, _∙_}
-use mathlib.Core.List.{List, [], _∷_, _++_}
-use mathlib.Core.Logic.{⊎-elim}
-use Prim.Native.Nat.{ℕ, zero, suc, _+_, _-_, _*_, _<_, _≤_}
+use Prim.Native.Nat.{_-_}
 use native.Mathlib.Omega.{arith}
-use native.Mathlib.Numerals.{add-one}
-use lib.ListN.{length, getD, take, drop, set, length-set}
-use borrow.Author.Tests.{eq-eqb, ne-eqb, lt-ltb, le-ltb, le-leb, lt-leb}
 use borrow.Author.Needs.{needs}
 use Rattle.bands.proofs.code_kept.Statement.{statement}
 use Rattle.bands.proofs.code_kept.Tie as tie
-use Rattle.bands.proofs.code_kept.Reads as reads
-use Rattle.bands.proofs.code_kept.Lts as lts
 
 -- src/lib.rt:302:9
 returns : tie.Need-returns

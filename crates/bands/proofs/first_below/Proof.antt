@@ -1,19 +1,11 @@
 use Rattle.lists.proofs.Tests.{by-equal}
-use Rattle.bands.specs.Bands.{Starts}
-use mathlib.Core.Path.{_≡_, refl, ap, sym, _∙_}
-use mathlib.Core.List.{List, [], _∷_, _++_}
-use mathlib.Core.Logic.{⊎-elim}
-use Prim.Native.Nat.{ℕ, zero, suc, _+_, _-_, _*_, _<_, _≤_}
+use mathlib.Core.Path.{sym}
+use Prim.Native.Nat.{ℕ, _-_, _<_, _≤_}
 use native.Mathlib.Omega.{arith}
-use native.Mathlib.Numerals.{add-one}
-use lib.ListN.{length, getD, take, drop, set, length-set}
-use borrow.Author.Tests.{eq-eqb, ne-eqb, lt-ltb, le-ltb, le-leb, lt-leb}
+use lib.ListN.{length, getD}
 use borrow.Author.Needs.{needs}
 use Rattle.bands.proofs.first_below.Statement.{statement}
 use Rattle.bands.proofs.first_below.Tie as tie
-use Rattle.bands.proofs.first_below.Reads as reads
-use Rattle.bands.proofs.first_below.Lts as lts
-use Rattle.words.proofs.get.Reads as get-reads
 
 abbrev Inv-loop : tie.InvT-loop
 Inv-loop heights ys a top i₀ i = (i ≤ length ys) × ((j : ℕ) → j < i → getD ys j 0 < top)

@@ -1,20 +1,12 @@
 use Rattle.bands.specs.Bands.{Marks}
 use Rattle.bands.proofs.Bands.{marks-none, marks-more}
-use mathlib.Core.Path.{_≡_, refl, ap, sym, _∙_}
-use mathlib.Core.List.{List, [], _∷_, _++_}
-use mathlib.Core.Logic.{⊎-elim}
-use Prim.Native.Nat.{ℕ, zero, suc, _+_, _-_, _*_, _<_, _≤_}
+use mathlib.Core.Path.{_≡_, refl, _∙_}
+use Prim.Native.Nat.{_-_, _<_, _≤_}
 use native.Mathlib.Omega.{arith}
-use native.Mathlib.Numerals.{add-one}
-use lib.ListN.{length, getD, take, drop, set, length-set}
-use borrow.Author.Tests.{eq-eqb, ne-eqb, lt-ltb, le-ltb, le-leb, lt-leb}
+use lib.ListN.{length, length-set}
 use borrow.Author.Needs.{needs}
 use Rattle.bands.proofs.mark_slots.Statement.{statement}
 use Rattle.bands.proofs.mark_slots.Tie as tie
-use Rattle.bands.proofs.mark_slots.Reads as reads
-use Rattle.bands.proofs.mark_slots.Lts as lts
-use Rattle.bands.proofs.band_codes.Reads as band-codes-reads
-use Rattle.bands.proofs.end_above.Reads as end-above-reads
 
 abbrev Inv-loop : tie.InvT-loop
 Inv-loop heights ys colours bands₀ ends₀ first₀ k₀ bands ends first k = (length bands ≡ length bands₀) × (length ends ≡ length ends₀) × (k ≤ length heights) × Marks heights ys colours bands ends k

@@ -1,19 +1,12 @@
 use Rattle.byheight.specs.Sites.{taken}
 use Rattle.byheight.proofs.Sites.{taken-long, taken-at, written, written-all}
-use mathlib.Core.Path.{_≡_, refl, ap, sym, _∙_}
-use mathlib.Core.List.{List, [], _∷_, _++_}
-use mathlib.Core.Logic.{⊎-elim}
-use Prim.Native.Nat.{ℕ, zero, suc, _+_, _-_, _*_, _<_, _≤_}
+use mathlib.Core.Path.{_≡_, sym, _∙_}
+use Prim.Native.Nat.{ℕ, _-_, _<_, _≤_}
 use native.Mathlib.Omega.{arith}
-use native.Mathlib.Numerals.{add-one}
-use lib.ListN.{length, getD, take, drop, set, length-set}
-use borrow.Author.Tests.{eq-eqb, ne-eqb, lt-ltb, le-ltb, le-leb, lt-leb}
+use lib.ListN.{length, getD, length-set}
 use borrow.Author.Needs.{needs}
 use Rattle.byheight.proofs.take_words.Statement.{statement}
 use Rattle.byheight.proofs.take_words.Tie as tie
-use Rattle.byheight.proofs.take_words.Reads as reads
-use Rattle.byheight.proofs.take_words.Lts as lts
-use Rattle.words.proofs.get.Reads as get-reads
 
 abbrev Inv-loop : tie.InvT-loop
 Inv-loop from order to₀ i₀ to i = (length to ≡ length order) × ((j : ℕ) → j < i → getD to j 0 ≡ getD (taken from order) j 0) × (i ≤ length order)

@@ -1,19 +1,12 @@
 use lib.ListN.{replicate, length-replicate}
 use lib.Seq.{length-take-le}
-use mathlib.Core.Path.{_≡_, refl, ap, sym, _∙_}
-use mathlib.Core.List.{List, [], _∷_, _++_}
-use mathlib.Core.Logic.{⊎-elim}
-use Prim.Native.Nat.{ℕ, zero, suc, _+_, _-_, _*_, _<_, _≤_}
+use mathlib.Core.Path.{sym}
+use Prim.Native.Nat.{ℕ, _-_}
 use native.Mathlib.Omega.{arith}
-use native.Mathlib.Numerals.{add-one}
-use lib.ListN.{length, getD, take, drop, set, length-set}
-use borrow.Author.Tests.{eq-eqb, ne-eqb, lt-ltb, le-ltb, le-leb, lt-leb}
+use lib.ListN.{length}
 use borrow.Author.Needs.{needs}
 use Rattle.byheight.proofs.value_of.Statement.{statement}
 use Rattle.byheight.proofs.value_of.Tie as tie
-use Rattle.byheight.proofs.value_of.Reads as reads
-use Rattle.byheight.proofs.value_of.Lts as lts
-use Rattle.byheight.proofs.value_ordered.Reads as value-ordered-reads
 
 -- src/lib.rt:142:9
 array-borrow-prefix-sorted-ys : tie.Need-array-borrow-prefix-sorted-ys

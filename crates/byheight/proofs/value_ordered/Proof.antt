@@ -1,19 +1,9 @@
 use Rattle.byheight.proofs.Sites.{fits-same, value-same}
-use mathlib.Core.Path.{_≡_, refl, ap, sym, _∙_}
-use mathlib.Core.List.{List, [], _∷_, _++_}
-use mathlib.Core.Logic.{⊎-elim}
-use Prim.Native.Nat.{ℕ, zero, suc, _+_, _-_, _*_, _<_, _≤_}
-use native.Mathlib.Omega.{arith}
-use native.Mathlib.Numerals.{add-one}
-use lib.ListN.{length, getD, take, drop, set, length-set}
-use borrow.Author.Tests.{eq-eqb, ne-eqb, lt-ltb, le-ltb, le-leb, lt-leb}
+use mathlib.Core.Path.{_∙_}
+use Prim.Native.Nat.{_-_}
 use borrow.Author.Needs.{needs}
 use Rattle.byheight.proofs.value_ordered.Statement.{statement}
 use Rattle.byheight.proofs.value_ordered.Tie as tie
-use Rattle.byheight.proofs.value_ordered.Reads as reads
-use Rattle.byheight.proofs.value_ordered.Lts as lts
-use Rattle.byheight.proofs.take_words.Reads as take-words-reads
-use Rattle.usedslots.proofs.value_of.Reads as value-of-reads
 
 -- src/lib.rt:93:5
 take-words-requires : tie.Need-take-words-requires

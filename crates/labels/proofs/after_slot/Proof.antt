@@ -1,19 +1,10 @@
 use Rattle.usedslots.specs.Table.{tableBy, capsIn}
 use Rattle.labels.proofs.Least.{least-skip, least-lost}
-use mathlib.Core.Path.{_≡_, refl, ap, sym, _∙_}
-use mathlib.Core.List.{List, [], _∷_, _++_}
-use mathlib.Core.Logic.{⊎-elim}
-use Prim.Native.Nat.{ℕ, zero, suc, _+_, _-_, _*_, _<_, _≤_}
-use native.Mathlib.Omega.{arith}
-use native.Mathlib.Numerals.{add-one}
-use lib.ListN.{length, getD, take, drop, set, length-set}
-use borrow.Author.Tests.{eq-eqb, ne-eqb, lt-ltb, le-ltb, le-leb, lt-leb}
+use mathlib.Core.Path.{refl}
+use Prim.Native.Nat.{suc, _-_}
 use borrow.Author.Needs.{needs}
 use Rattle.labels.proofs.after_slot.Statement.{statement}
 use Rattle.labels.proofs.after_slot.Tie as tie
-use Rattle.labels.proofs.after_slot.Reads as reads
-use Rattle.labels.proofs.after_slot.Lts as lts
-use Rattle.labels.proofs.with_label.Reads as with-label-reads
 
 -- src/lib.rt:109:9
 returns : tie.Need-returns

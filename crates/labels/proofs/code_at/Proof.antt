@@ -1,18 +1,7 @@
-use mathlib.Core.Path.{_≡_, refl, ap, sym, _∙_}
-use mathlib.Core.List.{List, [], _∷_, _++_}
-use mathlib.Core.Logic.{⊎-elim}
-use Prim.Native.Nat.{ℕ, zero, suc, _+_, _-_, _*_, _<_, _≤_}
-use native.Mathlib.Omega.{arith}
-use native.Mathlib.Numerals.{add-one}
-use lib.ListN.{length, getD, take, drop, set, length-set}
-use borrow.Author.Tests.{eq-eqb, ne-eqb, lt-ltb, le-ltb, le-leb, lt-leb}
+use Prim.Native.Nat.{_-_}
 use borrow.Author.Needs.{needs}
 use Rattle.labels.proofs.code_at.Statement.{statement}
 use Rattle.labels.proofs.code_at.Tie as tie
-use Rattle.labels.proofs.code_at.Reads as reads
-use Rattle.labels.proofs.code_at.Lts as lts
-use Rattle.labels.proofs.goes_on.Reads as goes-on-reads
-use Rattle.labels.proofs.with_label.Reads as with-label-reads
 
 abbrev Inv-loop : tie.InvT-loop
 Inv-loop q heights bounds radices draws ys colours caps work s k least d₀ d = Unit

@@ -1,20 +1,9 @@
 use Rattle.links.proofs.Rows.{start-low}
-use mathlib.Core.Path.{_≡_, refl, ap, sym, _∙_}
-use mathlib.Core.List.{List, [], _∷_, _++_}
-use mathlib.Core.Logic.{⊎-elim}
-use Prim.Native.Nat.{ℕ, zero, suc, _+_, _-_, _*_, _<_, _≤_}
+use Prim.Native.Nat.{_-_}
 use native.Mathlib.Omega.{arith}
-use native.Mathlib.Numerals.{add-one}
-use lib.ListN.{length, getD, take, drop, set, length-set}
-use borrow.Author.Tests.{eq-eqb, ne-eqb, lt-ltb, le-ltb, le-leb, lt-leb}
 use borrow.Author.Needs.{needs}
 use Rattle.labels.proofs.goes_on.Statement.{statement}
 use Rattle.labels.proofs.goes_on.Tie as tie
-use Rattle.labels.proofs.goes_on.Reads as reads
-use Rattle.labels.proofs.goes_on.Lts as lts
-use Rattle.links.proofs.row_start.Reads as row-start-reads
-use Rattle.words.proofs.get.Reads as get-reads
-use Rattle.words.proofs.plus_of.Reads as plus-of-reads
 
 -- src/lib.rt:196:17
 row-start-requires : tie.Need-row-start-requires

@@ -3,23 +3,13 @@ use Rattle.optimum.specs.UsedSlots.{value}
 use Rattle.usedslots.specs.Table.{tableBy, capsIn}
 use Rattle.labels.specs.Labels.{leastAfter}
 use Rattle.labels.proofs.Least.{least-first, least-none, cost-above}
-use mathlib.Core.Path.{_≡_, refl, ap, sym, _∙_}
-use mathlib.Core.List.{List, [], _∷_, _++_}
-use mathlib.Core.Logic.{⊎-elim}
-use Prim.Native.Nat.{ℕ, zero, suc, _+_, _-_, _*_, _<_, _≤_}
+use mathlib.Core.Path.{refl}
+use Prim.Native.Nat.{_-_, _≤_}
 use native.Mathlib.Omega.{arith}
 use native.Mathlib.Numerals.{add-one}
-use lib.ListN.{length, getD, take, drop, set, length-set}
-use borrow.Author.Tests.{eq-eqb, ne-eqb, lt-ltb, le-ltb, le-leb, lt-leb}
 use borrow.Author.Needs.{needs}
 use Rattle.labels.proofs.labels_cost.Statement.{statement}
 use Rattle.labels.proofs.labels_cost.Tie as tie
-use Rattle.labels.proofs.labels_cost.Reads as reads
-use Rattle.labels.proofs.labels_cost.Lts as lts
-use Rattle.labels.proofs.after_slot.Reads as after-slot-reads
-use Rattle.stripcosts.proofs.strip_between.Reads as strip-between-reads
-use Rattle.words.proofs.get.Reads as get-reads
-use Rattle.words.proofs.plus_of.Reads as plus-of-reads
 
 abbrev Inv-loop : tie.InvT-loop
 Inv-loop q heights bounds radices draws ys colours caps labels m all s₀ k₀ s k = (k ≤ m) × (value (tableBy q heights bounds radices ys colours) (capsIn caps) ≤ leastAfter (tableBy q heights bounds radices ys colours) (capsIn caps) s k)

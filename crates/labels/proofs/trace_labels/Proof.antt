@@ -1,18 +1,10 @@
-use mathlib.Core.Path.{_≡_, refl, ap, sym, _∙_}
-use mathlib.Core.List.{List, [], _∷_, _++_}
-use mathlib.Core.Logic.{⊎-elim}
-use Prim.Native.Nat.{ℕ, zero, suc, _+_, _-_, _*_, _<_, _≤_}
+use mathlib.Core.Path.{_≡_, sym, _∙_}
+use Prim.Native.Nat.{_-_}
 use native.Mathlib.Omega.{arith}
-use native.Mathlib.Numerals.{add-one}
-use lib.ListN.{length, getD, take, drop, set, length-set}
-use borrow.Author.Tests.{eq-eqb, ne-eqb, lt-ltb, le-ltb, le-leb, lt-leb}
+use lib.ListN.{length, set, length-set}
 use borrow.Author.Needs.{needs}
 use Rattle.labels.proofs.trace_labels.Statement.{statement}
 use Rattle.labels.proofs.trace_labels.Tie as tie
-use Rattle.labels.proofs.trace_labels.Reads as reads
-use Rattle.labels.proofs.trace_labels.Lts as lts
-use Rattle.labels.proofs.after_slot.Reads as after-slot-reads
-use Rattle.labels.proofs.code_at.Reads as code-at-reads
 
 abbrev Inv-loop : tie.InvT-loop
 Inv-loop q heights bounds radices draws ys colours caps work labels₀ least s₀ k₀ labels s k = length labels ≡ length heights

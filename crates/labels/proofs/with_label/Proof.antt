@@ -1,33 +1,17 @@
-use mathlib.Core.Bool.{true, false}
+use mathlib.Core.Bool.{true}
 use borrow.Author.Tests.{not-false, leb-true}
 use Rattle.lists.proofs.Tests.{and-l, and-r}
 use Rattle.usedslots.specs.Table.{tableBy, capsIn}
 use Rattle.usedslots.proofs.Links.{product-low, blocks-of}
 use Rattle.labels.proofs.Least.{least-lost, label-chosen}
-use mathlib.Core.Path.{_≡_, refl, ap, sym, _∙_}
-use mathlib.Core.List.{List, [], _∷_, _++_}
-use mathlib.Core.Logic.{⊎-elim}
-use Prim.Native.Nat.{ℕ, zero, suc, _+_, _-_, _*_, _<_, _≤_}
+use mathlib.Core.Path.{_≡_, refl, sym, _∙_}
+use Prim.Native.Nat.{suc, _+_, _-_}
 use native.Mathlib.Omega.{arith}
-use native.Mathlib.Numerals.{add-one}
-use lib.ListN.{length, getD, take, drop, set, length-set}
+use lib.ListN.{length}
 use lib.Dec.{leb}
-use borrow.Author.Tests.{eq-eqb, ne-eqb, lt-ltb, le-ltb, le-leb, lt-leb}
 use borrow.Author.Needs.{needs}
 use Rattle.labels.proofs.with_label.Statement.{statement}
 use Rattle.labels.proofs.with_label.Tie as tie
-use Rattle.labels.proofs.with_label.Reads as reads
-use Rattle.labels.proofs.with_label.Lts as lts
-use Rattle.labels.proofs.has_left.Reads as has-left-reads
-use Rattle.places.proofs.is_far.Reads as is-far-reads
-use Rattle.links.proofs.block_size.Reads as block-size-reads
-use Rattle.links.proofs.link_cost.Reads as link-cost-reads
-use Rattle.stripcosts.proofs.strip_between.Reads as strip-between-reads
-use Rattle.words.proofs.at_most.Reads as at-most-reads
-use Rattle.words.proofs.both.Reads as both-reads
-use Rattle.words.proofs.get.Reads as get-reads
-use Rattle.words.proofs.monus.Reads as monus-reads
-use Rattle.words.proofs.plus_of.Reads as plus-of-reads
 
 -- src/lib.rt:62:34
 cast-at-most : tie.Need-cast-at-most

@@ -3,20 +3,12 @@ use Rattle.usedslots.specs.Table.{instanceBy, tableBy, capsIn, tableWords}
 use Rattle.twosided.specs.Caps.{Low}
 use Rattle.twosided.proofs.Caps.{fits-set, caps-done, caps-step, site-free, narrowed-keeps}
 use mathlib.Core.Path.{_≡_, refl, ap, sym, _∙_}
-use mathlib.Core.List.{List, [], _∷_, _++_}
-use mathlib.Core.Logic.{⊎-elim}
-use Prim.Native.Nat.{ℕ, zero, suc, _+_, _-_, _*_, _<_, _≤_}
+use Prim.Native.Nat.{ℕ, suc, _-_}
 use native.Mathlib.Omega.{arith}
-use native.Mathlib.Numerals.{add-one}
-use lib.ListN.{length, getD, take, drop, set, length-set}
-use borrow.Author.Tests.{eq-eqb, ne-eqb, lt-ltb, le-ltb, le-leb, lt-leb}
+use lib.ListN.{length, drop}
 use borrow.Author.Needs.{needs}
 use Rattle.twosided.proofs.cap_all.Statement.{statement}
 use Rattle.twosided.proofs.cap_all.Tie as tie
-use Rattle.twosided.proofs.cap_all.Reads as reads
-use Rattle.twosided.proofs.cap_all.Lts as lts
-use Rattle.twosided.proofs.cap_site.Reads as cap-site-reads
-use Rattle.twosided.proofs.leftmost.Reads as leftmost-reads
 
 abbrev Inv-loop : tie.InvT-loop
 Inv-loop q heights bounds radices draws ys colours order ranks caps₀ work₀ labels₀ least left₀ caps work labels left = (length caps ≡ length caps₀) × (length work ≡ length work₀) × (length labels ≡ length heights) × (capAll (instanceBy q heights bounds radices ys colours ranks) least (length ys) (capsIn caps₀) ≡ capAll (instanceBy q heights bounds radices ys colours ranks) least left (capsIn caps)) × (value (tableBy q heights bounds radices ys colours) (capsIn caps) ≡ least) × (Low caps₀ → Low caps) × (drop (tableWords q heights) work ≡ drop (tableWords q heights) work₀)

@@ -1,25 +1,16 @@
 use mathlib.Core.Path.{subst⁻¹}
 use lib.Seq.{set-getD}
-use Rattle.optimum.specs.UsedSlots.{Instance, value, choose}
+use Rattle.optimum.specs.UsedSlots.{Instance, choose}
 use Rattle.usedslots.specs.Table.{tableBy, capsIn, tableWords}
-use Rattle.twosided.specs.Caps.{Low}
 use Rattle.twosided.proofs.Caps.{fits-set, Narrowed, Free, narrowed-first, narrowed-step, narrowed-end, low-set}
 use mathlib.Core.Path.{_≡_, refl, ap, sym, _∙_}
-use mathlib.Core.List.{List, [], _∷_, _++_}
-use mathlib.Core.Logic.{⊎-elim}
-use Prim.Native.Nat.{ℕ, zero, suc, _+_, _-_, _*_, _<_, _≤_}
+use mathlib.Core.List.{List}
+use Prim.Native.Nat.{ℕ, suc, _+_, _-_, _<_, _≤_}
 use native.Mathlib.Omega.{arith}
-use native.Mathlib.Numerals.{add-one}
-use lib.ListN.{length, getD, take, drop, set, length-set}
-use borrow.Author.Tests.{eq-eqb, ne-eqb, lt-ltb, le-ltb, le-leb, lt-leb}
+use lib.ListN.{length, drop, set, length-set}
 use borrow.Author.Needs.{needs}
 use Rattle.twosided.proofs.cap_site.Statement.{statement}
 use Rattle.twosided.proofs.cap_site.Tie as tie
-use Rattle.twosided.proofs.cap_site.Reads as reads
-use Rattle.twosided.proofs.cap_site.Lts as lts
-use Rattle.twosided.proofs.lowered.Reads as lowered-reads
-use Rattle.twosided.proofs.probed.Reads as probed-reads
-use Rattle.words.proofs.monus.Reads as monus-reads
 
 abbrev Inv-loop : tie.InvT-loop
 Inv-loop q heights bounds radices draws ys colours order caps₀ work₀ labels₀ least site last high range₀ probe₀ caps work labels range probe = (length caps ≡ length caps₀) × (length work ≡ length work₀) × (length labels ≡ length heights) × Free (tableBy q heights bounds radices ys colours) least site caps₀ × Narrowed (tableBy q heights bounds radices ys colours) caps₀ caps least site (length heights - 1) range × (range .low < range .high → (range .low ≤ probe) × (probe < range .high)) × (drop (tableWords q heights) work ≡ drop (tableWords q heights) work₀)

@@ -1,18 +1,8 @@
-use mathlib.Core.Path.{_≡_, refl, ap, sym, _∙_}
-use mathlib.Core.List.{List, [], _∷_, _++_}
-use mathlib.Core.Logic.{⊎-elim}
-use Prim.Native.Nat.{ℕ, zero, suc, _+_, _-_, _*_, _<_, _≤_}
-use native.Mathlib.Omega.{arith}
-use native.Mathlib.Numerals.{add-one}
-use lib.ListN.{length, getD, take, drop, set, length-set}
-use borrow.Author.Tests.{eq-eqb, ne-eqb, lt-ltb, le-ltb, le-leb, lt-leb}
+use mathlib.Core.Path.{_∙_}
+use Prim.Native.Nat.{_-_}
 use borrow.Author.Needs.{needs}
 use Rattle.twosided.proofs.cap_traced.Statement.{statement}
 use Rattle.twosided.proofs.cap_traced.Tie as tie
-use Rattle.twosided.proofs.cap_traced.Reads as reads
-use Rattle.twosided.proofs.cap_traced.Lts as lts
-use Rattle.labels.proofs.trace_labels.Reads as trace-labels-reads
-use Rattle.twosided.proofs.cap_all.Reads as cap-all-reads
 
 -- src/lib.rt:347:5
 trace-labels-requires : tie.Need-trace-labels-requires

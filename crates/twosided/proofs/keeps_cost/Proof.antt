@@ -1,18 +1,10 @@
 use Rattle.twosided.proofs.Caps.{fits-set}
-use mathlib.Core.Path.{_≡_, refl, ap, sym, _∙_}
-use mathlib.Core.List.{List, [], _∷_, _++_}
-use mathlib.Core.Logic.{⊎-elim}
-use Prim.Native.Nat.{ℕ, zero, suc, _+_, _-_, _*_, _<_, _≤_}
-use native.Mathlib.Omega.{arith}
+use Prim.Native.Nat.{_+_, _-_}
 use native.Mathlib.Numerals.{add-one}
-use lib.ListN.{length, getD, take, drop, set, length-set}
-use borrow.Author.Tests.{eq-eqb, ne-eqb, lt-ltb, le-ltb, le-leb, lt-leb}
+use lib.ListN.{set, length-set}
 use borrow.Author.Needs.{needs}
 use Rattle.twosided.proofs.keeps_cost.Statement.{statement}
 use Rattle.twosided.proofs.keeps_cost.Tie as tie
-use Rattle.twosided.proofs.keeps_cost.Reads as reads
-use Rattle.twosided.proofs.keeps_cost.Lts as lts
-use Rattle.byheight.proofs.value_of.Reads as value-of-reads
 
 -- src/lib.rt:67:18
 add-caps : tie.Need-add-caps

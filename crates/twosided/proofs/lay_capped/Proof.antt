@@ -1,24 +1,11 @@
 use Rattle.usedslots.specs.Table.{tableWords}
 use Rattle.twosided.proofs.Answer.{laid-none, laid-some, steady-at, low-none}
-use mathlib.Core.Path.{_≡_, refl, ap, sym, _∙_}
-use mathlib.Core.List.{List, [], _∷_, _++_}
-use mathlib.Core.Logic.{⊎-elim}
-use Prim.Native.Nat.{ℕ, zero, suc, _+_, _-_, _*_, _<_, _≤_}
+use mathlib.Core.Path.{sym, _∙_}
+use Prim.Native.Nat.{_-_}
 use native.Mathlib.Omega.{arith}
-use native.Mathlib.Numerals.{add-one}
-use lib.ListN.{length, getD, take, drop, set, length-set}
-use borrow.Author.Tests.{eq-eqb, ne-eqb, lt-ltb, le-ltb, le-leb, lt-leb}
 use borrow.Author.Needs.{needs}
 use Rattle.twosided.proofs.lay_capped.Statement.{statement}
 use Rattle.twosided.proofs.lay_capped.Tie as tie
-use Rattle.twosided.proofs.lay_capped.Reads as reads
-use Rattle.twosided.proofs.lay_capped.Lts as lts
-use Rattle.twosided.proofs.cap_sites.Reads as cap-sites-reads
-use Rattle.areas.proofs.clear.Reads as clear-reads
-use Rattle.costs.proofs.head_word.Reads as head-word-reads
-use Rattle.twosided.proofs.table_words.Reads as table-words-reads
-use Rattle.twosided.proofs.write_layout.Reads as write-layout-reads
-use Rattle.byheight.proofs.value_of.Reads as value-of-reads
 
 -- src/lib.rt:232:9
 table-words-requires : tie.Need-table-words-requires

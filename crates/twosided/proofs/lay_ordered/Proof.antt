@@ -1,18 +1,7 @@
-use mathlib.Core.Path.{_≡_, refl, ap, sym, _∙_}
-use mathlib.Core.List.{List, [], _∷_, _++_}
-use mathlib.Core.Logic.{⊎-elim}
-use Prim.Native.Nat.{ℕ, zero, suc, _+_, _-_, _*_, _<_, _≤_}
-use native.Mathlib.Omega.{arith}
-use native.Mathlib.Numerals.{add-one}
-use lib.ListN.{length, getD, take, drop, set, length-set}
-use borrow.Author.Tests.{eq-eqb, ne-eqb, lt-ltb, le-ltb, le-leb, lt-leb}
+use Prim.Native.Nat.{_-_}
 use borrow.Author.Needs.{needs}
 use Rattle.twosided.proofs.lay_ordered.Statement.{statement}
 use Rattle.twosided.proofs.lay_ordered.Tie as tie
-use Rattle.twosided.proofs.lay_ordered.Reads as reads
-use Rattle.twosided.proofs.lay_ordered.Lts as lts
-use Rattle.byheight.proofs.order_sites.Reads as order-sites-reads
-use Rattle.twosided.proofs.lay_capped.Reads as lay-capped-reads
 
 -- src/lib.rt:564:5
 order-sites-requires : tie.Need-order-sites-requires

@@ -5,28 +5,13 @@ use Rattle.sheet.proofs.Accepted.{sound}
 use Rattle.arrays.specs.Arrays.{boundsOf, xsOf, ysOf, coloursOf, radicesBy, drawsBy}
 use Rattle.arrays.proofs.Ordered.{radices-long, draws-long}
 use Rattle.twosided.proofs.Answer.{part-is, part-long, zero-part, bounds-long, ys-long, cs-long, xs-long, bounds-part, bounds-low, product-low, fits-from, areas-from, steady-made, made}
-use mathlib.Core.Path.{_≡_, refl, ap, sym, _∙_}
-use mathlib.Core.List.{List, [], _∷_, _++_}
-use mathlib.Core.Logic.{⊎-elim}
-use Prim.Native.Nat.{ℕ, zero, suc, _+_, _-_, _*_, _<_, _≤_}
+use mathlib.Core.Path.{_≡_, ap, sym, _∙_}
+use Prim.Native.Nat.{ℕ, _-_}
 use native.Mathlib.Omega.{arith}
-use native.Mathlib.Numerals.{add-one}
-use lib.ListN.{length, getD, take, drop, set, length-set}
-use borrow.Author.Tests.{eq-eqb, ne-eqb, lt-ltb, le-ltb, le-leb, lt-leb}
+use lib.ListN.{length, take}
 use borrow.Author.Needs.{needs}
 use Rattle.twosided.proofs.lay_two_sided.Statement.{statement}
 use Rattle.twosided.proofs.lay_two_sided.Tie as tie
-use Rattle.twosided.proofs.lay_two_sided.Reads as reads
-use Rattle.twosided.proofs.lay_two_sided.Lts as lts
-use Rattle.arrays.proofs.bounds_of.Reads as bounds-of-reads
-use Rattle.arrays.proofs.colours_of.Reads as colours-of-reads
-use Rattle.arrays.proofs.draws_of.Reads as draws-of-reads
-use Rattle.arrays.proofs.heights_of.Reads as heights-of-reads
-use Rattle.arrays.proofs.measures_of.Reads as measures-of-reads
-use Rattle.arrays.proofs.radices_of.Reads as radices-of-reads
-use Rattle.arrays.proofs.xs_of.Reads as xs-of-reads
-use Rattle.arrays.proofs.ys_of.Reads as ys-of-reads
-use Rattle.twosided.proofs.lay_sites.Reads as lay-sites-reads
 
 -- src/lib.rt:253:9
 measures-of-requires : tie.Need-measures-of-requires

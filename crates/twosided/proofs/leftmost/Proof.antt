@@ -1,20 +1,12 @@
 use Rattle.twosided.specs.Caps.{leftmostBy}
 use Rattle.twosided.proofs.Caps.{leftmost-more}
-use mathlib.Core.Path.{_≡_, refl, ap, sym, _∙_}
-use mathlib.Core.List.{List, [], _∷_, _++_}
-use mathlib.Core.Logic.{⊎-elim}
-use Prim.Native.Nat.{ℕ, zero, suc, _+_, _-_, _*_, _<_, _≤_}
+use mathlib.Core.Path.{_≡_, refl}
+use Prim.Native.Nat.{_-_, _≤_}
 use native.Mathlib.Omega.{arith}
-use native.Mathlib.Numerals.{add-one}
-use lib.ListN.{length, getD, take, drop, set, length-set}
-use borrow.Author.Tests.{eq-eqb, ne-eqb, lt-ltb, le-ltb, le-leb, lt-leb}
+use lib.ListN.{length}
 use borrow.Author.Needs.{needs}
 use Rattle.twosided.proofs.leftmost.Statement.{statement}
 use Rattle.twosided.proofs.leftmost.Tie as tie
-use Rattle.twosided.proofs.leftmost.Reads as reads
-use Rattle.twosided.proofs.leftmost.Lts as lts
-use Rattle.twosided.proofs.leftmost_after.Reads as leftmost-after-reads
-use Rattle.words.proofs.get.Reads as get-reads
 
 abbrev Inv-loop : tie.InvT-loop
 Inv-loop ranks caps n best₀ c₀ best c = (c ≤ n) × (best ≡ leftmostBy n ranks caps c)

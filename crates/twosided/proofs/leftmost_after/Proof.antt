@@ -1,22 +1,7 @@
-use mathlib.Core.Path.{_≡_, refl, ap, sym, _∙_}
-use mathlib.Core.List.{List, [], _∷_, _++_}
-use mathlib.Core.Logic.{⊎-elim}
-use Prim.Native.Nat.{ℕ, zero, suc, _+_, _-_, _*_, _<_, _≤_}
-use native.Mathlib.Omega.{arith}
-use native.Mathlib.Numerals.{add-one}
-use lib.ListN.{length, getD, take, drop, set, length-set}
-use borrow.Author.Tests.{eq-eqb, ne-eqb, lt-ltb, le-ltb, le-leb, lt-leb}
+use Prim.Native.Nat.{_-_}
 use borrow.Author.Needs.{needs}
 use Rattle.twosided.proofs.leftmost_after.Statement.{statement}
 use Rattle.twosided.proofs.leftmost_after.Tie as tie
-use Rattle.twosided.proofs.leftmost_after.Reads as reads
-use Rattle.twosided.proofs.leftmost_after.Lts as lts
-use Rattle.words.proofs.at_most.Reads as at-most-reads
-use Rattle.words.proofs.both.Reads as both-reads
-use Rattle.words.proofs.choose.Reads as choose-reads
-use Rattle.words.proofs.either.Reads as either-reads
-use Rattle.words.proofs.less.Reads as less-reads
-use Rattle.words.proofs.same.Reads as same-reads
 
 -- src/lib.rt:27:17
 same-requires : tie.Need-same-requires

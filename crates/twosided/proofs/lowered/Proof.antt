@@ -1,21 +1,13 @@
 use native.Mathlib.Nat.{le-refl}
 use Rattle.usedslots.specs.Table.{tableBy}
 use Rattle.twosided.proofs.Caps.{fits-set, Lowering, lowering-step}
-use mathlib.Core.Path.{_≡_, refl, ap, sym, _∙_}
-use mathlib.Core.List.{List, [], _∷_, _++_}
-use mathlib.Core.Logic.{⊎-elim}
-use Prim.Native.Nat.{ℕ, zero, suc, _+_, _-_, _*_, _<_, _≤_}
+use mathlib.Core.Path.{_≡_, refl}
+use Prim.Native.Nat.{_-_}
 use native.Mathlib.Omega.{arith}
-use native.Mathlib.Numerals.{add-one}
-use lib.ListN.{length, getD, take, drop, set, length-set}
-use borrow.Author.Tests.{eq-eqb, ne-eqb, lt-ltb, le-ltb, le-leb, lt-leb}
+use lib.ListN.{length, length-set}
 use borrow.Author.Needs.{needs}
 use Rattle.twosided.proofs.lowered.Statement.{statement}
 use Rattle.twosided.proofs.lowered.Tie as tie
-use Rattle.twosided.proofs.lowered.Reads as reads
-use Rattle.twosided.proofs.lowered.Lts as lts
-use Rattle.labels.proofs.labels_cost.Reads as labels-cost-reads
-use Rattle.words.proofs.choose.Reads as choose-reads
 
 abbrev Inv-loop : tie.InvT-loop
 Inv-loop q heights bounds radices draws ys colours caps₀ labels least site high low₀ top₀ caps low top = (length caps ≡ length caps₀) × Lowering (tableBy q heights bounds radices ys colours) caps₀ caps least site high top

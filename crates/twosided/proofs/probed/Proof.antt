@@ -1,22 +1,13 @@
 use lib.Seq.{set-set}
 use Rattle.usedslots.specs.Table.{tableBy}
 use Rattle.twosided.proofs.Caps.{fits-set, probed-kept, probed-lost}
-use mathlib.Core.Path.{_≡_, refl, ap, sym, _∙_}
-use mathlib.Core.List.{List, [], _∷_, _++_}
-use mathlib.Core.Logic.{⊎-elim}
-use Prim.Native.Nat.{ℕ, zero, suc, _+_, _-_, _*_, _<_, _≤_}
+use mathlib.Core.Path.{sym, _∙_}
+use Prim.Native.Nat.{suc, _-_}
 use native.Mathlib.Omega.{arith}
-use native.Mathlib.Numerals.{add-one}
-use lib.ListN.{length, getD, take, drop, set, length-set}
-use borrow.Author.Tests.{eq-eqb, ne-eqb, lt-ltb, le-ltb, le-leb, lt-leb}
+use lib.ListN.{set}
 use borrow.Author.Needs.{needs}
 use Rattle.twosided.proofs.probed.Statement.{statement}
 use Rattle.twosided.proofs.probed.Tie as tie
-use Rattle.twosided.proofs.probed.Reads as reads
-use Rattle.twosided.proofs.probed.Lts as lts
-use Rattle.labels.proofs.trace_labels.Reads as trace-labels-reads
-use Rattle.twosided.proofs.keeps_cost.Reads as keeps-cost-reads
-use Rattle.twosided.proofs.lowered.Reads as lowered-reads
 
 -- src/lib.rt:165:8
 keeps-cost-requires : tie.Need-keeps-cost-requires

@@ -1,17 +1,9 @@
 use Rattle.twosided.proofs.Answer.{words-low}
-use mathlib.Core.Path.{_≡_, refl, ap, sym, _∙_}
-use mathlib.Core.List.{List, [], _∷_, _++_}
-use mathlib.Core.Logic.{⊎-elim}
-use Prim.Native.Nat.{ℕ, zero, suc, _+_, _-_, _*_, _<_, _≤_}
+use Prim.Native.Nat.{_-_}
 use native.Mathlib.Omega.{arith}
-use native.Mathlib.Numerals.{add-one}
-use lib.ListN.{length, getD, take, drop, set, length-set}
-use borrow.Author.Tests.{eq-eqb, ne-eqb, lt-ltb, le-ltb, le-leb, lt-leb}
 use borrow.Author.Needs.{needs}
 use Rattle.twosided.proofs.table_words.Statement.{statement}
 use Rattle.twosided.proofs.table_words.Tie as tie
-use Rattle.twosided.proofs.table_words.Reads as reads
-use Rattle.twosided.proofs.table_words.Lts as lts
 
 -- src/lib.rt:210:17
 cast-codes : tie.Need-cast-codes

@@ -2,19 +2,13 @@ use Rattle.lists.proofs.Front.{front, front-more}
 use Rattle.twosided.specs.Caps.{wordsBy}
 use Rattle.twosided.proofs.Caps.{words-long, word-at, first-word, last-word}
 use mathlib.Core.Path.{_≡_, refl, ap, sym, _∙_}
-use mathlib.Core.List.{List, [], _∷_, _++_}
-use mathlib.Core.Logic.{⊎-elim}
-use Prim.Native.Nat.{ℕ, zero, suc, _+_, _-_, _*_, _<_, _≤_}
+use mathlib.Core.List.{List}
+use Prim.Native.Nat.{ℕ, _+_, _-_, _≤_}
 use native.Mathlib.Omega.{arith}
-use native.Mathlib.Numerals.{add-one}
-use lib.ListN.{length, getD, take, drop, set, length-set}
-use borrow.Author.Tests.{eq-eqb, ne-eqb, lt-ltb, le-ltb, le-leb, lt-leb}
+use lib.ListN.{length, set, length-set}
 use borrow.Author.Needs.{needs}
 use Rattle.twosided.proofs.write_layout.Statement.{statement}
 use Rattle.twosided.proofs.write_layout.Tie as tie
-use Rattle.twosided.proofs.write_layout.Reads as reads
-use Rattle.twosided.proofs.write_layout.Lts as lts
-use Rattle.words.proofs.monus.Reads as monus-reads
 
 abbrev Inv-loop : tie.InvT-loop
 Inv-loop head caps out₀ i₀ out i = (length out ≡ length out₀) × (i ≤ length caps) × (out ≡ front out₀ (wordsBy head caps) (i + 1))
