@@ -7,6 +7,7 @@ ghost use Rattle.optimum.specs.UsedSlots.{value};
 ghost use Rattle.usedslots.specs.Table.{tableBy, capsIn, Fits};
 ghost use Rattle.labels.specs.Labels.{leastAfter};
 use arrays::Measures;
+use drops::apart_of;
 use links::block_size;
 use links::link_cost;
 use links::row_start;
@@ -15,9 +16,13 @@ use stripcosts::strip_between;
 use words::NONE;
 use words::at_most;
 use words::both;
+use words::choose;
 use words::get;
+use words::is_not;
+use words::less;
 use words::monus;
 use words::plus_of;
+use words::same;
 
 // The labels down to a slot: the last one's place and code, the budget that is left, and what they cost with the strips above them.
 pub struct Chosen {
@@ -287,4 +292,38 @@ pub fn trace_labels(
         );
         k += 1;
     }
+}
+
+// ---- a site's slot
+
+// Of the used slots next above a site and next below it, the one whose label has the site's code, or the nearer.
+fn nearer_slot(heights: &[u32], labels: &[u32], y: u32, code: u32, upper: u32, lower: u32) -> u32 {
+    if get(labels, upper) != code {
+        return lower;
+    }
+    if get(labels, lower) != code {
+        return upper;
+    }
+    if apart_of(get(heights, lower), y) < apart_of(get(heights, upper), y) {
+        return lower;
+    }
+    upper
+}
+
+// The slot to which these labels lead a site of this height and code. Nothing rests on it either.
+pub fn slot_of(heights: &[u32], labels: &[u32], y: u32, code: u32) -> u32
+    requires { ⌜ length (now heights) ≤ 48 ⌝ }
+{
+    let m = heights.len() as u32;
+    let mut upper = m;
+    let mut k: u32 = 0;
+    while k < m {
+        let free = same(get(labels, k), 0);
+        if both(is_not(free), less(y, get(heights, k))) {
+            return nearer_slot(heights, labels, y, code, upper, k);
+        }
+        upper = choose(free, upper, k);
+        k += 1;
+    }
+    upper
 }

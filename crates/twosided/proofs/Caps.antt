@@ -1,16 +1,16 @@
 -- Laws of the walk over caps, on lists. Assumes nothing.
 use mathlib.Core.Path.{_≡_, refl, sym, ap, _∙_}
 use mathlib.Core.Logic.{_≢_}
-use mathlib.Core.Bool.{Bool, true, false, cond, _&&_, _||_}
+use mathlib.Core.Bool.{true, false, cond, _&&_, _||_}
 use mathlib.Core.List.{List, [], _∷_, _++_}
-use Prim.Native.Nat.{ℕ, zero, suc, _+_, _-_, _/_, _≤_, _<_}
+use Prim.Native.Nat.{ℕ, zero, suc, _+_, _-_, _≤_, _<_}
 use native.Mathlib.Nat.{le-trans, le-of-eq}
 use native.Mathlib.Omega.{arith}
 use native.Mathlib.Numerals.{add-one}
 use lib.Dec.{ltb, leb, eqb}
 use lib.ListN.{length, getD, set, take, drop}
 use lib.Seq.{set-set, drop-set-lt, getD-set-same, getD-set-other}
-use borrow.Author.Tests.{lt-ltb, le-ltb, leb-true, eqb-true, eqb-false}
+use borrow.Author.Tests.{lt-ltb, le-ltb, eqb-true, eqb-false}
 use Rattle.lists.proofs.Tests.{by-test, by-order, by-equal, and-l, clash}
 use Rattle.lists.proofs.Front.{front, front-more, front-all}
 use Rattle.labelling.specs.Layout.{tieWords}
@@ -226,31 +226,8 @@ module _ (G : Instance) (w : ℕ) (steady : Steady G w) (caps : List ℕ) (i : �
 
 -- ---- labels that are known
 
--- what is known of the highest slot while it is lowered
-pub record Lowering (G : Instance) (caps now : List ℕ) (w i high top : ℕ) : Type 0 where
-  pub under : top ≤ high
-  pub others : (p : ℕ) → set now i p ≡ set caps i p
-  pub reached : Reaches G caps w i high → Reaches G caps w i top
-
-pub lowering-step : (H : Instance) (caps now : List ℕ) (w i high low top middle cost low₁ top₁ : ℕ) (kept : Bool) → low < top → middle ≡ (low + top) / 2 →
-    kept ≡ leb cost w → value H (capsIn (set now i (middle + 1))) ≤ cost → low₁ ≡ cond kept low (middle + 1) → top₁ ≡ cond kept middle top →
-    Lowering H caps now w i high top → Lowering H caps (set now i (middle + 1)) w i high top₁ × (top₁ - low₁ < top - low)
-lowering-step H caps now w i high low top middle cost low₁ top₁ kept l m k c e₁ e₂ g =
-    by-test kept
-    (λ e.
-    let z₁ : low₁ ≡ low = e₁ ∙ rw e in
-    let z₂ : top₁ ≡ middle = e₂ ∙ rw e in
-    let y : middle + 1 ≡ suc middle = omega arith in
-    let same : value H (capsIn (set now i (middle + 1))) ≡ value H (capsIn (set caps i (suc middle))) =
-    ap (λ (l : List ℕ). value H (capsIn l)) (g .others (middle + 1)) ∙ ap (λ (z : ℕ). value H (capsIn (set caps i z))) y in
-    (record { under = omega (arith, g .under); others = others; reached = λ h. rw (z₂, ← same) (le-trans c (leb-true cost w (sym k ∙ e))) }, omega arith))
-    (λ e.
-    let z₁ : low₁ ≡ middle + 1 = e₁ ∙ rw e in
-    let z₂ : top₁ ≡ top = e₂ ∙ rw e in
-    (record { under = omega (arith, g .under); others = others; reached = λ h. rw z₂ (g .reached h) }, omega arith))
-  where
-    others : (p : ℕ) → set (set now i (middle + 1)) i p ≡ set caps i p
-    others p = set-set now i (middle + 1) p ∙ g .others p
+pub lowered-to : (H : Instance) (caps : List ℕ) (w i slot cost : ℕ) → value H (capsIn (set caps i (slot + 1))) ≤ cost → cost ≤ w → Reaches H caps w i slot
+lowered-to H caps w i slot cost h l = rw add-one at (le-trans h l)
 
 -- ---- a test by a fill
 

@@ -27,6 +27,7 @@ use byheight::order_sites;
 use byheight::value_of;
 use costs::head_word;
 use labels::labels_cost;
+use labels::slot_of;
 use labels::trace_labels;
 use words::NONE;
 use words::at_most;
@@ -35,7 +36,9 @@ use words::choose;
 use words::either;
 use words::get;
 use words::less;
+use words::lesser;
 use words::monus;
+use words::plus_of;
 use words::same;
 
 // Slots from low to high.
@@ -113,7 +116,7 @@ fn keeps_cost(
         == least
 }
 
-// The highest slot that a site goes to, lowered as far as labels that are known keep the cost. The site is left without a cap.
+// The highest slot that a site goes to, lowered to that of known labels where they keep the cost. The site is left without a cap.
 fn lowered(
     q: Measures,
     heights: &[u32],
@@ -133,28 +136,25 @@ fn lowered(
     ensures { λ r. ⌜ (r ≤ high) × (Reaches (tableBy q (now (heights .entry)) (now (bounds .entry)) (now (radices .entry)) (now (ys .entry)) (now (colours .entry))) (now (caps .entry)) least site high → Reaches (tableBy q (now (heights .entry)) (now (bounds .entry)) (now (radices .entry)) (now (ys .entry)) (now (colours .entry))) (now (caps .entry)) least site r) ⌝ }
     ensures { λ _. ⌜ now (caps .exit) ≡ set (now (caps .entry)) site 0 ⌝ }
 {
-    let mut low: u32 = 0;
-    let mut top = high;
-    while low < top {
-        let middle = (low + top) / 2;
-        caps[site] = middle + 1;
-        let keeps = labels_cost(
-            q,
-            heights,
-            bounds,
-            radices,
-            draws,
-            ys,
-            colours,
-            caps,
-            labels,
-        )
-            <= least;
-        low = choose(keeps, low, middle + 1);
-        top = choose(keeps, middle, top);
-    }
+    let code = plus_of(colours[site], 1);
+    let slot = lesser(slot_of(heights, labels, ys[site], code), high);
+    caps[site] = slot + 1;
+    let cost = labels_cost(
+        q,
+        heights,
+        bounds,
+        radices,
+        draws,
+        ys,
+        colours,
+        caps,
+        labels,
+    );
     caps[site] = 0;
-    top
+    if cost <= least {
+        return slot;
+    }
+    high
 }
 
 // A range of slots after a test at one of them by a fill: the site's cap is lost, no other is.

@@ -3,10 +3,11 @@
 //!
 //! The benchmark times the library against this. Both read the sheet with all refusals, keep the table in the
 //! caller's work words, drop the bounds that can't bind, sort the sites by y, so that those of a strip stand side by
-//! side, fill the table once for the least cost, read the labels of a cheapest layout off it, lower each site's cap as
-//! far as those labels keep the least cost and fill the table again for the slot before, and by halving where that one
+//! side, fill the table once for the least cost, read the labels of a cheapest layout off it, lower each site's cap to
+//! its slot there, which keeps the least cost, fill the table again for the slot before, and by halving where that one
 //! keeps it too, pass over a strip that has a site of a third colour, go through budgets block by block, and leave all
-//! work words zero. What is this one's own: the sites are sorted once, not for each fill.
+//! work words zero. What is this one's own: a strip's sites are known to stand side by side, so none of them is tested
+//! for lying in it.
 
 use crate::budgets::Budgets;
 use crate::costs::{Aim, NONE};
@@ -104,19 +105,33 @@ impl<'a> Maker<'a> {
         high
     }
 
-    /// The same as far as the known labels keep it.
+    /// The same to the site's slot among the known labels, if they keep the cost there.
     fn lower_by_labels(&mut self, index: usize, from: usize, least: u32) -> usize {
-        let (mut low, mut high) = (1, from);
-        while low < high {
-            let middle = (low + high) / 2;
-            self.sites[index].cap = middle;
-            if self.labels_cost() == least {
-                high = middle;
-            } else {
-                low = middle + 1;
-            }
+        let place = self.place_of(index).min(from);
+        self.sites[index].cap = place;
+        if self.labels_cost() == least {
+            place
+        } else {
+            from
         }
-        high
+    }
+
+    /// The place next above or next below a site whose label has its colour, the nearer of two.
+    fn place_of(&self, index: usize) -> usize {
+        let Capped { y, colour, .. } = self.sites[index];
+        let mut upper = self.bottom;
+        for place in 1..self.bottom {
+            if self.labels[place] == 0 {
+                continue;
+            }
+            if y < self.heights[place] {
+                let nearer = self.heights[place] - y < y - self.heights[upper];
+                let lower_has = self.labels[place] == colour;
+                return if self.labels[upper] == colour && !(lower_has && nearer) { upper } else { place };
+            }
+            upper = place;
+        }
+        upper
     }
 
     /// What the known labels cost within the caps.
