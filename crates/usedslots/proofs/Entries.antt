@@ -10,28 +10,27 @@ use Rattle.optimum.specs.UsedSlots.{Instance, T}
 use Rattle.optimum.specs.Rows.{cell}
 use Rattle.optimum.proofs.Rows.{cell-apart}
 use Rattle.links.specs.Rows.{Stored}
-use Rattle.usedslots.specs.Table.{RightFrom, RowOf}
+use Rattle.usedslots.specs.Table.{RightFrom, RightTo, RowOf}
 
 -- ---- the rows of a place, code by code
 
--- the rows of the places below a are right, and those of a with a lower code
-pub record RightTo (G : Instance) (fx : ℕ → ℕ) (w : List ℕ) (P a code : ℕ) : Type 0 where
-  pub below : RightFrom G fx w P (suc a)
-  pub here : (cb v : ℕ) → 1 ≤ cb → cb < code → v < P → getD w (cell (G .colours) P a cb v) 0 ≡ T G fx a cb v
-
 module _ (G : Instance) (fx : ℕ → ℕ) (P a : ℕ) where
-  pub right-none : (w : List ℕ) → RightFrom G fx w P (suc a) → RightTo G fx w P a 1
-  right-none w h = record { below = h; here = λ cb v l u p. absurd (omega arith) }
+  pub right-none : (w : List ℕ) (first : ℕ) → RightFrom G fx w P (suc a) → RightTo G fx w P a first first
+  right-none w first h = record { below = h; here = λ cb v l u p. absurd (omega arith) }
 
-  pub right-all : (w : List ℕ) (code : ℕ) → G .colours < code → RightTo G fx w P a code → RightFrom G fx w P a
-  right-all w code h r b cb v l u p q s =
+  -- the last code done; all codes
+  pub right-last : (w : List ℕ) (first last code : ℕ) → last < code → RightTo G fx w P a first code → RightTo G fx w P a first (suc last)
+  right-last w first last code h r = record { below = r .below; here = λ cb v l u p. r .here cb v l (omega arith) p }
+
+  pub right-all : (w : List ℕ) → RightTo G fx w P a 1 (suc (G .colours)) → RightFrom G fx w P a
+  right-all w r b cb v l u p q s =
       by-equal b a
       (λ e. rw e (r .here cb v p (omega arith) s))
       (λ e. r .below b cb v (omega (arith, e)) u p q s)
 
-  pub right-more : (w new row : List ℕ) (code at : ℕ) → at ≡ cell (G .colours) P a code 0 → code ≤ G .colours → 0 < P →
-      RowOf G fx row P a code → Stored w new row at P → RightTo G fx w P a code → RightTo G fx new P a (code + 1)
-  right-more w new row code at e h p is s r =
+  pub right-more : (w new row : List ℕ) (first code at : ℕ) → at ≡ cell (G .colours) P a code 0 → code ≤ G .colours → 0 < P →
+      RowOf G fx row P a code → Stored w new row at P → RightTo G fx w P a first code → RightTo G fx new P a first (code + 1)
+  right-more w new row first code at e h p is s r =
       record {
         below = λ b cb v l u o q t. s .after (cell (G .colours) P b cb v) (down b cb v l) ∙ r .below b cb v l u o q t;
         here = λ cb v o l t. by-equal cb code
@@ -51,3 +50,9 @@ module _ (G : Instance) (fx : ℕ → ℕ) (P a : ℕ) where
       here v t =
           let z : cell (G .colours) P a code v ≡ at + v = omega arith in
           rw z (s .inside v t) ∙ is v t
+
+-- the whole sheet's entry stands at the full budget of the first row
+pub right-root : (G : Instance) (fx : ℕ → ℕ) (P : ℕ) (w : List ℕ) → 0 < P → RightTo G fx w P 0 0 1 → getD w (P - 1) 0 ≡ T G fx 0 0 (P - 1)
+right-root G fx P w p r =
+    let z : cell (G .colours) P 0 0 (P - 1) ≡ P - 1 = omega arith in
+    rw z at (r .here 0 (P - 1) (omega arith) (omega arith) (omega arith))

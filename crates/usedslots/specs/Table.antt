@@ -2,7 +2,7 @@
 use mathlib.Core.Path.{_≡_}
 use mathlib.Core.Bool.{cond}
 use mathlib.Core.List.{List, []}
-use Prim.Native.Nat.{ℕ, _+_, _*_, _-_, _≤_, _<_}
+use Prim.Native.Nat.{ℕ, suc, _+_, _*_, _-_, _≤_, _<_}
 use lib.Dec.{eqb}
 use lib.ListN.{length, getD}
 use Rattle.search.specs.Radix.{place}
@@ -68,6 +68,11 @@ tableWords q hs = (length hs + 2) * (q .colours + 1) * q .budgets
 abbrev pub RightFrom : Instance → (caps : ℕ → ℕ) → (work : List ℕ) → (P a : ℕ) → Type 0
 RightFrom G fx w P a =
     (b cb v : ℕ) → a ≤ b → b ≤ G .slots .m → 1 ≤ cb → cb ≤ G .colours → v < P → getD w (cell (G .colours) P b cb v) 0 ≡ T G fx b cb v
+
+-- those below it are, and its own with the codes from first on, before a code
+pub record RightTo (G : Instance) (caps : ℕ → ℕ) (work : List ℕ) (P a first code : ℕ) : Type 0 where
+  pub below : RightFrom G caps work P (suc a)
+  pub here : (cb v : ℕ) → first ≤ cb → cb < code → v < P → getD work (cell (G .colours) P a cb v) 0 ≡ T G caps a cb v
 
 -- a row of budgets holds the least costs of the place a with the code ca: so far, j slots below it done and d colours at the next; and whole
 abbrev pub RowTo : Instance → (caps : ℕ → ℕ) → (row : List ℕ) → (P a ca j d : ℕ) → Type 0

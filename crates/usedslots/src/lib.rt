@@ -6,7 +6,7 @@ ghost use lib.Dec.{eqb};
 ghost use lib.ListN.{length, drop};
 ghost use Rattle.optimum.specs.UsedSlots.{value};
 ghost use Rattle.bands.specs.Bands.{Barred, Starts, Ends, Marks};
-ghost use Rattle.usedslots.specs.Table.{Fits, tableWords, tableBy, capsIn, RightFrom, RowTo, RowOf};
+ghost use Rattle.usedslots.specs.Table.{Fits, tableWords, tableBy, capsIn, RightFrom, RightTo, RowTo, RowOf};
 use arrays::Measures;
 use bands::ALL_LOST;
 use bands::first_below;
@@ -193,7 +193,7 @@ fn table_row(
     }
 }
 
-// The rows of a place, of a label of each colour.
+// The rows of a place, of a label of each code from the first to the last.
 fn fill_place(
     q: Measures,
     heights: &[u32],
@@ -207,16 +207,18 @@ fn fill_place(
     ends: &[u32],
     work: &mut [u32],
     a: u32,
+    first: u32,
+    last: u32,
 )
     requires { ⌜ Fits q (now heights) (now bounds) (now radices) (now draws) (now ys) (now colours) (now caps) ⌝ }
-    requires { ⌜ (a ≤ length (now heights)) × (tableWords q (now heights) ≤ length (now work)) × Marks (now heights) (now ys) (now colours) (now bands) (now ends) (length (now heights)) ⌝ }
+    requires { ⌜ (a ≤ length (now heights)) × (tableWords q (now heights) ≤ length (now work)) × Marks (now heights) (now ys) (now colours) (now bands) (now ends) (length (now heights)) × (last ≤ q .colours) ⌝ }
     requires { ⌜ RightFrom (tableBy q (now heights) (now bounds) (now radices) (now ys) (now colours)) (capsIn (now caps)) (now work) (q .budgets) (suc a) ⌝ }
-    ensures { λ _. ⌜ RightFrom (tableBy q (now (heights .entry)) (now (bounds .entry)) (now (radices .entry)) (now (ys .entry)) (now (colours .entry))) (capsIn (now (caps .entry))) (now (work .exit)) (q .budgets) a ⌝ }
+    ensures { λ _. ⌜ RightTo (tableBy q (now (heights .entry)) (now (bounds .entry)) (now (radices .entry)) (now (ys .entry)) (now (colours .entry))) (capsIn (now (caps .entry))) (now (work .exit)) (q .budgets) a first (suc last) ⌝ }
     ensures { λ _. ⌜ drop (tableWords q (now (heights .entry))) (now (work .exit)) ≡ drop (tableWords q (now (heights .entry))) (now (work .entry)) ⌝ }
 {
     let mut row = [0u32; 64];
-    let mut code: u32 = 1;
-    while code <= q.colours {
+    let mut code = first;
+    while code <= last {
         table_row(
             q,
             heights,
@@ -271,6 +273,8 @@ fn fill(
             ends,
             work,
             a,
+            1,
+            q.colours,
         );
         a -= 1;
     }
@@ -308,8 +312,7 @@ fn value_marked(
         ends,
         work,
     );
-    let mut row = [0u32; 64];
-    table_row(
+    fill_place(
         q,
         heights,
         bounds,
@@ -321,12 +324,12 @@ fn value_marked(
         bands,
         ends,
         work,
-        &mut row,
+        0,
         0,
         0,
     );
     let all = (q.budgets - 1) as usize;
-    row[all]
+    work[all]
 }
 
 // The least cost of a layout within the caps.

@@ -1,3 +1,5 @@
+use native.Mathlib.Nat.{le-refl}
+use Rattle.usedslots.proofs.Entries.{right-all}
 use Rattle.usedslots.specs.Table.{tableBy, capsIn, tableWords, RightFrom}
 use mathlib.Core.Path.{_≡_, refl, ap, sym, _∙_}
 use mathlib.Core.List.{List, [], _∷_, _++_}
@@ -34,7 +36,7 @@ loop-holds c =
 fill-place-requires : tie.Need-fill-place-requires Inv-loop μ-loop
 fill-place-requires c κs =
     let p = c .before .before .before .before .before .before .before .before .before .before .before .before .before .pre in let l = c .before .before .loop in
-    (p .0, ((l .inv .1, omega (arith, p .1 .0, l .inv .0), p .1 .1), l .inv .2))
+    (p .0, ((l .inv .1, omega (arith, p .1 .0, l .inv .0), p .1 .1, le-refl _), l .inv .2))
 
 -- src/lib.rt:410:9
 sub-a : tie.Need-sub-a Inv-loop μ-loop
@@ -47,9 +49,9 @@ loop-less c = search needs
 -- src/lib.rt:408:5
 loop-again : tie.Need-loop-again Inv-loop μ-loop
 loop-again c =
-    let l = c .before .before .before .before .before .loop in
+    let a = c .before .before .before .before .before .before .before .before .before .before .before .before .before .before .before .before .args in let l = c .before .before .before .before .before .loop in
     let e : suc (l .a - 1) ≡ l .a = omega arith in
-    (c .before .before .fill-place .kept .1 .1 .1 .1 .1 .1 .1 .1 .1 .1 .0 ∙ l .inv .0, omega arith, rw e (c .before .before .fill-place .ensures .0), c .before .before .fill-place .ensures .1 ∙ l .inv .3)
+    (c .before .before .fill-place .kept .1 .1 .1 .1 .1 .1 .1 .1 .1 .1 .0 ∙ l .inv .0, omega arith, rw e (right-all (tableBy (a .q) (a .heights .now) (a .bounds .now) (a .radices .now) (a .ys .now) (a .colours .now)) (capsIn (a .caps .now)) (a .q .budgets) (l .a) _ (c .before .before .fill-place .ensures .0)), c .before .before .fill-place .ensures .1 ∙ l .inv .3)
 
 -- src/lib.rt:391:1
 same-length : tie.Need-same-length Inv-loop μ-loop

@@ -1,13 +1,14 @@
-use Rattle.usedslots.specs.Table.{tableBy, capsIn, tableWords}
+use lib.ListN.{length-replicate}
+use Rattle.usedslots.specs.Table.{tableBy, capsIn, tableWords, RightTo}
 use Rattle.usedslots.proofs.Links.{row-there}
-use Rattle.usedslots.proofs.Entries.{RightTo, right-none, right-more, right-all}
+use Rattle.usedslots.proofs.Entries.{right-none, right-last, right-more}
 use mathlib.Core.Path.{_≡_, refl, ap, sym, _∙_}
 use mathlib.Core.List.{List, [], _∷_, _++_}
 use mathlib.Core.Logic.{⊎-elim}
 use Prim.Native.Nat.{ℕ, zero, suc, _+_, _-_, _*_, _<_, _≤_}
 use native.Mathlib.Omega.{arith}
 use native.Mathlib.Numerals.{add-one}
-use lib.ListN.{length, getD, take, drop, set, length-set, length-replicate}
+use lib.ListN.{length, getD, take, drop, set, length-set}
 use borrow.Author.Tests.{eq-eqb, ne-eqb, lt-ltb, le-ltb, le-leb, lt-leb}
 use borrow.Author.Needs.{needs}
 use Rattle.usedslots.proofs.fill_place.Statement.{statement}
@@ -19,84 +20,86 @@ use Rattle.links.proofs.store_row.Reads as store-row-reads
 use Rattle.usedslots.proofs.table_row.Reads as table-row-reads
 
 abbrev Inv-loop : tie.InvT-loop
-Inv-loop q heights bounds radices draws ys colours caps bands ends work₀ a row₀ code₀ work row code = (length work ≡ length work₀) × (length row ≡ 64) × (1 ≤ code) × (code ≤ q .colours + 1) × RightTo (tableBy q heights bounds radices ys colours) (capsIn caps) work (q .budgets) a code × (drop (tableWords q heights) work ≡ drop (tableWords q heights) work₀)
+Inv-loop q heights bounds radices draws ys colours caps bands ends work₀ a first last row₀ code₀ work row code = (length work ≡ length work₀) × (length row ≡ 64) × (first ≤ code) × RightTo (tableBy q heights bounds radices ys colours) (capsIn caps) work (q .budgets) a first code × (drop (tableWords q heights) work ≡ drop (tableWords q heights) work₀)
 
 abbrev μ-loop : tie.MeasureT-loop
-μ-loop q heights bounds radices draws ys colours caps bands ends work₀ a row₀ code₀ work row code = q .colours + 1 - code
+μ-loop q heights bounds radices draws ys colours caps bands ends work₀ a first last row₀ code₀ work row code = last + 1 - code
 
--- src/lib.rt:384:5
+-- src/lib.rt:221:5
 loop-holds : tie.Need-loop-holds Inv-loop μ-loop
 loop-holds c =
     let a = c .before .before .before .before .before .before .before .before .before .before .args in
-    (refl, length-replicate {A = ℕ} 64 0, omega arith, omega arith, right-none (tableBy (a .q) (a .heights .now) (a .bounds .now) (a .radices .now) (a .ys .now) (a .colours .now)) (capsIn (a .caps .now)) (a .q .budgets) (a .a) (a .work .now) (c .before .before .before .before .before .before .before .before .before .before .pre .1 .1), refl)
+    (refl, length-replicate {A = ℕ} 64 0, omega arith, right-none (tableBy (a .q) (a .heights .now) (a .bounds .now) (a .radices .now) (a .ys .now) (a .colours .now)) (capsIn (a .caps .now)) (a .q .budgets) (a .a) (a .work .now) (a .first) (c .before .before .before .before .before .before .before .before .before .before .pre .1 .1), refl)
 
--- src/lib.rt:385:80
+-- src/lib.rt:234:13
 slice-aggregate-table-row : tie.Need-slice-aggregate-table-row Inv-loop μ-loop
 slice-aggregate-table-row c =
-    sym (c .before .before .before .before .loop .inv .1)
+    sym (c .before .before .before .loop .inv .1)
 
--- src/lib.rt:385:9
+-- src/lib.rt:222:9
 table-row-requires : tie.Need-table-row-requires Inv-loop μ-loop
 table-row-requires c κs =
-    let p = c .before .before .before .before .before .before .before .before .before .before .before .before .before .before .before .pre in let l = c .before .before .before .before .loop in
-    (p .0, ((p .1 .0 .0, omega (arith, p .0 .few-budgets, l .inv .1), omega (arith, p .1 .0 .1, l .inv .0), p .1 .0 .2), l .inv .4 .below))
+    let p = c .before .before .before .before .before .before .before .before .before .before .before .before .before .before .pre in let l = c .before .before .before .loop in
+    (p .0, ((p .1 .0 .0, omega (arith, p .0 .few-budgets, l .inv .1), omega (arith, p .1 .0 .1, l .inv .0), p .1 .0 .2), l .inv .3 .below))
 
--- src/lib.rt:386:25
+-- src/lib.rt:238:25
 slice-aggregate-store-row : tie.Need-slice-aggregate-store-row Inv-loop μ-loop
 slice-aggregate-store-row c =
-    sym (c .before .before .before .table-row .kept .1 .1 .1 .1 .1 .1 .1 .1 .1 .1 .1 .0 ∙ c .before .before .before .before .before .before .before .before .loop .inv .1)
+    sym (c .before .before .before .table-row .kept .1 .1 .1 .1 .1 .1 .1 .1 .1 .1 .1 .0 ∙ c .before .before .before .before .before .before .before .loop .inv .1)
 
--- src/lib.rt:386:31
+-- src/lib.rt:238:31
 row-start-requires : tie.Need-row-start-requires Inv-loop μ-loop
 row-start-requires c κs =
-    let p = c .before .before .before .before .before .before .before .before .before .before .before .before .before .before .before .before .before .before .before .pre in (omega (arith, p .0 .few-slots, p .1 .0 .0), omega (arith, p .0 .few-colours, c .before .before .before .before .before .before .if1 .taken), p .0 .few-colours, p .0 .few-budgets)
+    let p = c .before .before .before .before .before .before .before .before .before .before .before .before .before .before .before .before .before .before .pre in (omega (arith, p .0 .few-slots, p .1 .0 .0), omega (arith, p .0 .few-colours, p .1 .0 .3, c .before .before .before .before .before .before .loop-test .taken), p .0 .few-colours, p .0 .few-budgets)
 
--- src/lib.rt:386:54
+-- src/lib.rt:238:54
 cast-store-row : tie.Need-cast-store-row Inv-loop μ-loop
 cast-store-row c = search needs
 
--- src/lib.rt:386:9
+-- src/lib.rt:238:9
 store-row-requires : tie.Need-store-row-requires Inv-loop μ-loop
 store-row-requires c κs =
-    let a = c .before .before .before .before .before .before .before .before .before .before .before .before .before .before .before .before .before .before .before .before .before .args in let p = c .before .before .before .before .before .before .before .before .before .before .before .before .before .before .before .before .before .before .before .before .before .pre in let l = c .before .before .before .before .before .before .before .before .before .before .loop in (
-      omega (arith, c .before .row-start .ensures, p .1 .0 .0, p .1 .0 .1, l .inv .0, row-there (a .q) (a .heights .now) (a .a) (l .code) (p .0 .some-budget) (omega (arith, p .1 .0 .0)) (c .before .before .before .before .before .before .before .before .if1 .taken)),
+    let a = c .before .before .before .before .before .before .before .before .before .before .before .before .before .before .before .before .before .before .before .before .args in let p = c .before .before .before .before .before .before .before .before .before .before .before .before .before .before .before .before .before .before .before .before .pre in let l = c .before .before .before .before .before .before .before .before .before .loop in (
+      omega (arith, c .before .row-start .ensures, p .1 .0 .0, p .1 .0 .1, l .inv .0, row-there (a .q) (a .heights .now) (a .a) (l .code) (p .0 .some-budget) (omega (arith, p .1 .0 .0)) (omega (arith, p .1 .0 .3, c .before .before .before .before .before .before .before .before .loop-test .taken))),
       omega (arith, p .0 .few-budgets, c .before .before .before .before .before .table-row .kept .1 .1 .1 .1 .1 .1 .1 .1 .1 .1 .1 .0, l .inv .1),
     )
 
--- src/lib.rt:387:9
+-- src/lib.rt:239:9
 add-code : tie.Need-add-code Inv-loop μ-loop
 add-code c =
-    omega (arith, c .before .before .before .before .before .before .before .before .before .before .before .before .before .before .before .before .before .before .before .before .before .before .before .before .pre .0 .few-colours, c .before .before .before .before .before .before .before .before .before .before .before .if1 .taken)
+    let p = c .before .before .before .before .before .before .before .before .before .before .before .before .before .before .before .before .before .before .before .before .before .before .before .pre in
+    omega (arith, p .0 .few-colours, p .1 .0 .3, c .before .before .before .before .before .before .before .before .before .before .before .loop-test .taken)
 
--- src/lib.rt:384:5
+-- src/lib.rt:221:5
 loop-less : tie.Need-loop-less Inv-loop μ-loop
 loop-less c =
-    omega (arith, c .before .before .before .before .before .before .before .before .before .before .before .if1 .taken)
+    omega (arith, c .before .before .before .before .before .before .before .before .before .before .before .loop-test .taken)
 
--- src/lib.rt:384:5
+-- src/lib.rt:221:5
 loop-again : tie.Need-loop-again Inv-loop μ-loop
 loop-again c =
-    let a = c .before .before .before .before .before .before .before .before .before .before .before .before .before .before .before .before .before .before .before .before .before .before .before .before .args in let p = c .before .before .before .before .before .before .before .before .before .before .before .before .before .before .before .before .before .before .before .before .before .before .before .before .pre in let l = c .before .before .before .before .before .before .before .before .before .before .before .before .before .loop in
+    let a = c .before .before .before .before .before .before .before .before .before .before .before .before .before .before .before .before .before .before .before .before .before .before .before .args in let p = c .before .before .before .before .before .before .before .before .before .before .before .before .before .before .before .before .before .before .before .before .before .before .before .pre in let l = c .before .before .before .before .before .before .before .before .before .before .before .before .loop in
+    let t : l .code ≤ a .q .colours = omega (arith, p .1 .0 .3, c .before .before .before .before .before .before .before .before .before .before .before .loop-test .taken) in
     let s = c .before .before .store-row .ensures in (
       c .before .before .store-row .kept .0 ∙ l .inv .0,
       c .before .before .before .before .before .before .before .before .table-row .kept .1 .1 .1 .1 .1 .1 .1 .1 .1 .1 .1 .0 ∙ l .inv .1,
-      omega arith,
-      omega (arith, c .before .before .before .before .before .before .before .before .before .before .before .if1 .taken),
-      right-more (tableBy (a .q) (a .heights .now) (a .bounds .now) (a .radices .now) (a .ys .now) (a .colours .now)) (capsIn (a .caps .now)) (a .q .budgets) (a .a) (l .work) (c .before .before .store-row .last .0) (c .before .before .before .before .before .before .before .before .table-row .last .1 .1 .1 .1 .1 .1 .1 .1 .1 .1 .1 .0) (l .code) (c .before .before .before .before .row-start .result) (c .before .before .before .before .row-start .ensures)
-          (c .before .before .before .before .before .before .before .before .before .before .before .if1 .taken) (p .0 .some-budget) (c .before .before .before .before .before .before .before .before .table-row .ensures) s (l .inv .4),
+      omega (arith, l .inv .2),
+      right-more (tableBy (a .q) (a .heights .now) (a .bounds .now) (a .radices .now) (a .ys .now) (a .colours .now)) (capsIn (a .caps .now)) (a .q .budgets) (a .a) (l .work) (c .before .before .store-row .last .0) (c .before .before .before .before .before .before .before .before .table-row .last .1 .1 .1 .1 .1 .1 .1 .1 .1 .1 .1 .0) (a .first) (l .code) (c .before .before .before .before .row-start .result) (c .before .before .before .before .row-start .ensures)
+          t (p .0 .some-budget) (c .before .before .before .before .before .before .before .before .table-row .ensures) s (l .inv .3),
       s .rest (tableWords (a .q) (a .heights .now))
-          (omega (arith, c .before .before .before .before .row-start .ensures, row-there (a .q) (a .heights .now) (a .a) (l .code) (p .0 .some-budget) (omega (arith, p .1 .0 .0)) (c .before .before .before .before .before .before .before .before .before .before .before .if1 .taken))) ∙ l .inv .5,
+          (omega (arith, c .before .before .before .before .row-start .ensures, row-there (a .q) (a .heights .now) (a .a) (l .code) (p .0 .some-budget) (omega (arith, p .1 .0 .0)) t)) ∙ l .inv .4,
     )
 
--- src/lib.rt:364:1
+-- src/lib.rt:197:1
 same-length : tie.Need-same-length Inv-loop μ-loop
-same-length c = search needs
+same-length c =
+    c .before .loop .inv .0
 
--- src/lib.rt:364:1
+-- src/lib.rt:197:1
 returns : tie.Need-returns Inv-loop μ-loop
 returns c =
-    let a = c .before .before .before .before .before .before .before .before .before .before .before .before .before .args in let l = c .before .before .loop in
-    (right-all (tableBy (a .q) (a .heights .now) (a .bounds .now) (a .radices .now) (a .ys .now) (a .colours .now)) (capsIn (a .caps .now)) (a .q .budgets) (a .a) (l .work) (l .code) (c .if1 .left) (l .inv .4), l .inv .5)
+    let a = c .before .before .before .before .before .before .before .before .before .before .before .before .args in let l = c .before .loop in
+    (right-last (tableBy (a .q) (a .heights .now) (a .bounds .now) (a .radices .now) (a .ys .now) (a .colours .now)) (capsIn (a .caps .now)) (a .q .budgets) (a .a) (l .work) (a .first) (a .last) (l .code) (c .loop-test .left) (l .inv .3), l .inv .4)
 
 pub fill-place-spec : {M : Type 1} → statement M
 fill-place-spec =
