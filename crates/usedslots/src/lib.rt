@@ -153,14 +153,14 @@ fn table_row(
     row: &mut [u32],
     a: u32,
     code: u32,
+    start: u32,
 )
     requires { ⌜ Fits q (now heights) (now bounds) (now radices) (now draws) (now ys) (now colours) (now caps) ⌝ }
-    requires { ⌜ (a ≤ length (now heights)) × (q .budgets ≤ length (now row)) × (tableWords q (now heights) ≤ length (now work)) × Marks (now heights) (now ys) (now colours) (now bands) (now ends) (length (now heights)) ⌝ }
+    requires { ⌜ (a ≤ length (now heights)) × (q .budgets ≤ length (now row)) × (tableWords q (now heights) ≤ length (now work)) × Marks (now heights) (now ys) (now colours) (now bands) (now ends) (length (now heights)) × Starts (now heights) (now ys) a start ⌝ }
     requires { ⌜ RightFrom (tableBy q (now heights) (now bounds) (now radices) (now ys) (now colours)) (capsIn (now caps)) (now work) (q .budgets) (suc a) ⌝ }
     ensures { λ _. ⌜ RowOf (tableBy q (now (heights .entry)) (now (bounds .entry)) (now (radices .entry)) (now (ys .entry)) (now (colours .entry))) (capsIn (now (caps .entry))) (now (row .exit)) (q .budgets) a code ⌝ }
 {
     let m = heights.len() as u32;
-    let start = first_below(heights, ys, a);
     let all = ys.len() as u32;
     let last = strip_between(q, heights, ys, colours, caps, a, code, m, 0, start, all);
     fill_row(row, q.budgets as usize, last);
@@ -216,6 +216,7 @@ fn fill_place(
     ensures { λ _. ⌜ RightTo (tableBy q (now (heights .entry)) (now (bounds .entry)) (now (radices .entry)) (now (ys .entry)) (now (colours .entry))) (capsIn (now (caps .entry))) (now (work .exit)) (q .budgets) a first (suc last) ⌝ }
     ensures { λ _. ⌜ drop (tableWords q (now (heights .entry))) (now (work .exit)) ≡ drop (tableWords q (now (heights .entry))) (now (work .entry)) ⌝ }
 {
+    let start = first_below(heights, ys, a);
     let mut row = [0u32; 64];
     let mut code = first;
     while code <= last {
@@ -234,6 +235,7 @@ fn fill_place(
             &mut row,
             a,
             code,
+            start,
         );
         store_row(work, &row, row_start(q, a, code), q.budgets as usize);
         code += 1;

@@ -1,20 +1,13 @@
 use native.Mathlib.Nat.{le-refl}
 use Rattle.usedslots.proofs.Entries.{right-all}
 use Rattle.usedslots.specs.Table.{tableBy, capsIn, tableWords, RightFrom}
-use mathlib.Core.Path.{_≡_, refl, ap, sym, _∙_}
-use mathlib.Core.List.{List, [], _∷_, _++_}
-use mathlib.Core.Logic.{⊎-elim}
-use Prim.Native.Nat.{ℕ, zero, suc, _+_, _-_, _*_, _<_, _≤_}
+use mathlib.Core.Path.{_≡_, refl, _∙_}
+use Prim.Native.Nat.{suc, _-_, _≤_}
 use native.Mathlib.Omega.{arith}
-use native.Mathlib.Numerals.{add-one}
-use lib.ListN.{length, getD, take, drop, set, length-set}
-use borrow.Author.Tests.{eq-eqb, ne-eqb, lt-ltb, le-ltb, le-leb, lt-leb}
+use lib.ListN.{length, drop}
 use borrow.Author.Needs.{needs}
 use Rattle.usedslots.proofs.fill.Statement.{statement}
 use Rattle.usedslots.proofs.fill.Tie as tie
-use Rattle.usedslots.proofs.fill.Reads as reads
-use Rattle.usedslots.proofs.fill.Lts as lts
-use Rattle.usedslots.proofs.fill_place.Reads as fill-place-reads
 
 abbrev Inv-loop : tie.InvT-loop
 Inv-loop q heights bounds radices draws ys colours caps bands ends work₀ a₀ work a = (length work ≡ length work₀) × (a ≤ length heights) × RightFrom (tableBy q heights bounds radices ys colours) (capsIn caps) work (q .budgets) (suc a) × (drop (tableWords q heights) work ≡ drop (tableWords q heights) work₀)

@@ -2,34 +2,29 @@ use lib.ListN.{length-replicate}
 use Rattle.usedslots.specs.Table.{tableBy, capsIn, tableWords, RightTo}
 use Rattle.usedslots.proofs.Links.{row-there}
 use Rattle.usedslots.proofs.Entries.{right-none, right-last, right-more}
-use mathlib.Core.Path.{_≡_, refl, ap, sym, _∙_}
-use mathlib.Core.List.{List, [], _∷_, _++_}
-use mathlib.Core.Logic.{⊎-elim}
-use Prim.Native.Nat.{ℕ, zero, suc, _+_, _-_, _*_, _<_, _≤_}
+use mathlib.Core.Path.{_≡_, refl, sym, _∙_}
+use Prim.Native.Nat.{ℕ, _+_, _-_, _≤_}
 use native.Mathlib.Omega.{arith}
-use native.Mathlib.Numerals.{add-one}
-use lib.ListN.{length, getD, take, drop, set, length-set}
-use borrow.Author.Tests.{eq-eqb, ne-eqb, lt-ltb, le-ltb, le-leb, lt-leb}
+use lib.ListN.{length, drop}
 use borrow.Author.Needs.{needs}
 use Rattle.usedslots.proofs.fill_place.Statement.{statement}
 use Rattle.usedslots.proofs.fill_place.Tie as tie
-use Rattle.usedslots.proofs.fill_place.Reads as reads
-use Rattle.usedslots.proofs.fill_place.Lts as lts
-use Rattle.links.proofs.row_start.Reads as row-start-reads
-use Rattle.links.proofs.store_row.Reads as store-row-reads
-use Rattle.usedslots.proofs.table_row.Reads as table-row-reads
 
 abbrev Inv-loop : tie.InvT-loop
-Inv-loop q heights bounds radices draws ys colours caps bands ends work₀ a first last row₀ code₀ work row code = (length work ≡ length work₀) × (length row ≡ 64) × (first ≤ code) × RightTo (tableBy q heights bounds radices ys colours) (capsIn caps) work (q .budgets) a first code × (drop (tableWords q heights) work ≡ drop (tableWords q heights) work₀)
+Inv-loop q heights bounds radices draws ys colours caps bands ends work₀ a first last start row₀ code₀ work row code = (length work ≡ length work₀) × (length row ≡ 64) × (first ≤ code) × RightTo (tableBy q heights bounds radices ys colours) (capsIn caps) work (q .budgets) a first code × (drop (tableWords q heights) work ≡ drop (tableWords q heights) work₀)
 
 abbrev μ-loop : tie.MeasureT-loop
-μ-loop q heights bounds radices draws ys colours caps bands ends work₀ a first last row₀ code₀ work row code = last + 1 - code
+μ-loop q heights bounds radices draws ys colours caps bands ends work₀ a first last start row₀ code₀ work row code = last + 1 - code
 
 -- src/lib.rt:221:5
+first-below-requires : tie.Need-first-below-requires Inv-loop μ-loop
+first-below-requires c κs =
+    c .before .before .before .before .before .before .before .before .before .before .pre .0 .few-sites
+
 loop-holds : tie.Need-loop-holds Inv-loop μ-loop
 loop-holds c =
-    let a = c .before .before .before .before .before .before .before .before .before .before .args in
-    (refl, length-replicate {A = ℕ} 64 0, omega arith, right-none (tableBy (a .q) (a .heights .now) (a .bounds .now) (a .radices .now) (a .ys .now) (a .colours .now)) (capsIn (a .caps .now)) (a .q .budgets) (a .a) (a .work .now) (a .first) (c .before .before .before .before .before .before .before .before .before .before .pre .1 .1), refl)
+    let a = c .before .before .before .before .before .before .before .before .before .before .before .args in
+    (refl, length-replicate {A = ℕ} 64 0, omega arith, right-none (tableBy (a .q) (a .heights .now) (a .bounds .now) (a .radices .now) (a .ys .now) (a .colours .now)) (capsIn (a .caps .now)) (a .q .budgets) (a .a) (a .work .now) (a .first) (c .before .before .before .before .before .before .before .before .before .before .before .pre .1 .1), refl)
 
 -- src/lib.rt:234:13
 slice-aggregate-table-row : tie.Need-slice-aggregate-table-row Inv-loop μ-loop
@@ -39,8 +34,8 @@ slice-aggregate-table-row c =
 -- src/lib.rt:222:9
 table-row-requires : tie.Need-table-row-requires Inv-loop μ-loop
 table-row-requires c κs =
-    let p = c .before .before .before .before .before .before .before .before .before .before .before .before .before .before .pre in let l = c .before .before .before .loop in
-    (p .0, ((p .1 .0 .0, omega (arith, p .0 .few-budgets, l .inv .1), omega (arith, p .1 .0 .1, l .inv .0), p .1 .0 .2), l .inv .3 .below))
+    let p = c .before .before .before .before .before .before .before .before .before .before .before .before .before .before .before .pre in let l = c .before .before .before .loop in
+    (p .0, ((p .1 .0 .0, omega (arith, p .0 .few-budgets, l .inv .1), omega (arith, p .1 .0 .1, l .inv .0), p .1 .0 .2, c .before .before .before .before .first-below .ensures), l .inv .3 .below))
 
 -- src/lib.rt:238:25
 slice-aggregate-store-row : tie.Need-slice-aggregate-store-row Inv-loop μ-loop
@@ -50,7 +45,7 @@ slice-aggregate-store-row c =
 -- src/lib.rt:238:31
 row-start-requires : tie.Need-row-start-requires Inv-loop μ-loop
 row-start-requires c κs =
-    let p = c .before .before .before .before .before .before .before .before .before .before .before .before .before .before .before .before .before .before .pre in (omega (arith, p .0 .few-slots, p .1 .0 .0), omega (arith, p .0 .few-colours, p .1 .0 .3, c .before .before .before .before .before .before .loop-test .taken), p .0 .few-colours, p .0 .few-budgets)
+    let p = c .before .before .before .before .before .before .before .before .before .before .before .before .before .before .before .before .before .before .before .pre in (omega (arith, p .0 .few-slots, p .1 .0 .0), omega (arith, p .0 .few-colours, p .1 .0 .3, c .before .before .before .before .before .before .loop-test .taken), p .0 .few-colours, p .0 .few-budgets)
 
 -- src/lib.rt:238:54
 cast-store-row : tie.Need-cast-store-row Inv-loop μ-loop
@@ -59,7 +54,7 @@ cast-store-row c = search needs
 -- src/lib.rt:238:9
 store-row-requires : tie.Need-store-row-requires Inv-loop μ-loop
 store-row-requires c κs =
-    let a = c .before .before .before .before .before .before .before .before .before .before .before .before .before .before .before .before .before .before .before .before .args in let p = c .before .before .before .before .before .before .before .before .before .before .before .before .before .before .before .before .before .before .before .before .pre in let l = c .before .before .before .before .before .before .before .before .before .loop in (
+    let a = c .before .before .before .before .before .before .before .before .before .before .before .before .before .before .before .before .before .before .before .before .before .args in let p = c .before .before .before .before .before .before .before .before .before .before .before .before .before .before .before .before .before .before .before .before .before .pre in let l = c .before .before .before .before .before .before .before .before .before .loop in (
       omega (arith, c .before .row-start .ensures, p .1 .0 .0, p .1 .0 .1, l .inv .0, row-there (a .q) (a .heights .now) (a .a) (l .code) (p .0 .some-budget) (omega (arith, p .1 .0 .0)) (omega (arith, p .1 .0 .3, c .before .before .before .before .before .before .before .before .loop-test .taken))),
       omega (arith, p .0 .few-budgets, c .before .before .before .before .before .table-row .kept .1 .1 .1 .1 .1 .1 .1 .1 .1 .1 .1 .0, l .inv .1),
     )
@@ -67,7 +62,7 @@ store-row-requires c κs =
 -- src/lib.rt:239:9
 add-code : tie.Need-add-code Inv-loop μ-loop
 add-code c =
-    let p = c .before .before .before .before .before .before .before .before .before .before .before .before .before .before .before .before .before .before .before .before .before .before .before .pre in
+    let p = c .before .before .before .before .before .before .before .before .before .before .before .before .before .before .before .before .before .before .before .before .before .before .before .before .pre in
     omega (arith, p .0 .few-colours, p .1 .0 .3, c .before .before .before .before .before .before .before .before .before .before .before .loop-test .taken)
 
 -- src/lib.rt:221:5
@@ -78,7 +73,7 @@ loop-less c =
 -- src/lib.rt:221:5
 loop-again : tie.Need-loop-again Inv-loop μ-loop
 loop-again c =
-    let a = c .before .before .before .before .before .before .before .before .before .before .before .before .before .before .before .before .before .before .before .before .before .before .before .args in let p = c .before .before .before .before .before .before .before .before .before .before .before .before .before .before .before .before .before .before .before .before .before .before .before .pre in let l = c .before .before .before .before .before .before .before .before .before .before .before .before .loop in
+    let a = c .before .before .before .before .before .before .before .before .before .before .before .before .before .before .before .before .before .before .before .before .before .before .before .before .args in let p = c .before .before .before .before .before .before .before .before .before .before .before .before .before .before .before .before .before .before .before .before .before .before .before .before .pre in let l = c .before .before .before .before .before .before .before .before .before .before .before .before .loop in
     let t : l .code ≤ a .q .colours = omega (arith, p .1 .0 .3, c .before .before .before .before .before .before .before .before .before .before .before .loop-test .taken) in
     let s = c .before .before .store-row .ensures in (
       c .before .before .store-row .kept .0 ∙ l .inv .0,
@@ -98,7 +93,7 @@ same-length c =
 -- src/lib.rt:197:1
 returns : tie.Need-returns Inv-loop μ-loop
 returns c =
-    let a = c .before .before .before .before .before .before .before .before .before .before .before .before .args in let l = c .before .loop in
+    let a = c .before .before .before .before .before .before .before .before .before .before .before .before .before .args in let l = c .before .loop in
     (right-last (tableBy (a .q) (a .heights .now) (a .bounds .now) (a .radices .now) (a .ys .now) (a .colours .now)) (capsIn (a .caps .now)) (a .q .budgets) (a .a) (l .work) (a .first) (a .last) (l .code) (c .loop-test .left) (l .inv .3), l .inv .4)
 
 pub fill-place-spec : {M : Type 1} → statement M
@@ -107,6 +102,7 @@ fill-place-spec =
     (tie.spec
     Inv-loop
     μ-loop
+    first-below-requires
     loop-holds
     slice-aggregate-table-row
     table-row-requires

@@ -2,52 +2,36 @@ use Rattle.bands.specs.Bands.{Barred, Ends}
 use Rattle.usedslots.specs.Table.{tableBy, capsIn, RowTo}
 use Rattle.bands.proofs.Bands.{barred-none, barred-down, barred-more}
 use Rattle.usedslots.proofs.Links.{row-first, row-whole, row-ends}
-use mathlib.Core.Path.{_≡_, refl, ap, sym, _∙_}
-use mathlib.Core.List.{List, [], _∷_, _++_}
-use mathlib.Core.Logic.{⊎-elim}
-use Prim.Native.Nat.{ℕ, zero, suc, _+_, _-_, _*_, _<_, _≤_}
+use mathlib.Core.Path.{_≡_, refl, _∙_}
+use Prim.Native.Nat.{_+_, _-_, _<_, _≤_}
 use native.Mathlib.Omega.{arith}
 use native.Mathlib.Numerals.{add-one}
-use lib.ListN.{length, getD, take, drop, set, length-set}
-use borrow.Author.Tests.{eq-eqb, ne-eqb, lt-ltb, le-ltb, le-leb, lt-leb}
+use lib.ListN.{length}
 use borrow.Author.Needs.{needs}
 use Rattle.usedslots.proofs.table_row.Statement.{statement}
 use Rattle.usedslots.proofs.table_row.Tie as tie
-use Rattle.usedslots.proofs.table_row.Reads as reads
-use Rattle.usedslots.proofs.table_row.Lts as lts
-use Rattle.links.proofs.fill_row.Reads as fill-row-reads
-use Rattle.bands.proofs.first_below.Reads as first-below-reads
-use Rattle.bands.proofs.other_in.Reads as other-in-reads
-use Rattle.usedslots.proofs.slot_links.Reads as slot-links-reads
-use Rattle.stripcosts.proofs.strip_between.Reads as strip-between-reads
-use Rattle.words.proofs.get.Reads as get-reads
 
 abbrev Inv-loop : tie.InvT-loop
-Inv-loop q heights bounds radices draws ys colours caps bands ends work row₀ a code m start all last other₀ j₀ row other j = (length row ≡ length row₀) × (a + j ≤ length heights) × RowTo (tableBy q heights bounds radices ys colours) (capsIn caps) row (q .budgets) a code j 0 × (a + j < length heights → Barred heights ys colours a code (a + j) other)
+Inv-loop q heights bounds radices draws ys colours caps bands ends work row₀ a code start m all last other₀ j₀ row other j = (length row ≡ length row₀) × (a + j ≤ length heights) × RowTo (tableBy q heights bounds radices ys colours) (capsIn caps) row (q .budgets) a code j 0 × (a + j < length heights → Barred heights ys colours a code (a + j) other)
 
 abbrev μ-loop : tie.MeasureT-loop
-μ-loop q heights bounds radices draws ys colours caps bands ends work row₀ a code m start all last other₀ j₀ row other j = length heights - (a + j)
+μ-loop q heights bounds radices draws ys colours caps bands ends work row₀ a code start m all last other₀ j₀ row other j = length heights - (a + j)
 
 -- src/lib.rt:610:13
 cast-m : tie.Need-cast-m Inv-loop μ-loop
 cast-m c =
     omega (arith, c .before .before .before .before .before .before .before .before .before .before .before .pre .0 .few-slots)
 
--- src/lib.rt:611:9
-first-below-requires : tie.Need-first-below-requires Inv-loop μ-loop
-first-below-requires c κs =
-    c .before .before .before .before .before .before .before .before .before .before .before .pre .0 .few-sites
-
 -- src/lib.rt:612:15
 cast-all : tie.Need-cast-all Inv-loop μ-loop
 cast-all c =
-    omega (arith, c .before .before .before .before .before .before .before .before .before .before .before .before .pre .0 .few-sites)
+    omega (arith, c .before .before .before .before .before .before .before .before .before .before .before .pre .0 .few-sites)
 
 -- src/lib.rt:613:9
 strip-between-requires : tie.Need-strip-between-requires Inv-loop μ-loop
 strip-between-requires c κs =
-    let p = c .before .before .before .before .before .before .before .before .before .before .before .before .pre in
-    ((p .0 .colours-long, p .0 .caps-long, p .1 .0 .0, omega (arith, p .0 .few-slots)), (c .first-below .ensures, record { few = omega arith; some = λ i l u. absurd (omega arith); lower = λ i l u. absurd (omega arith) }))
+    let p = c .before .before .before .before .before .before .before .before .before .before .before .pre in
+    ((p .0 .colours-long, p .0 .caps-long, p .1 .0 .0, omega (arith, p .0 .few-slots)), (p .1 .0 .4, record { few = omega arith; some = λ i l u. absurd (omega arith); lower = λ i l u. absurd (omega arith) }))
 
 -- src/lib.rt:614:19
 cast-fill-row : tie.Need-cast-fill-row Inv-loop μ-loop
@@ -56,12 +40,12 @@ cast-fill-row c = search needs
 -- src/lib.rt:614:5
 fill-row-requires : tie.Need-fill-row-requires Inv-loop μ-loop
 fill-row-requires c κs =
-    c .before .before .before .before .before .before .before .before .before .before .before .before .before .before .before .pre .1 .0 .1
+    c .before .before .before .before .before .before .before .before .before .before .before .before .before .before .pre .1 .0 .1
 
 -- src/lib.rt:617:5
 loop-holds : tie.Need-loop-holds Inv-loop μ-loop
 loop-holds c =
-    let a = c .before .before .before .before .before .before .before .before .before .before .before .before .before .before .before .before .before .before .args in let p = c .before .before .before .before .before .before .before .before .before .before .before .before .before .before .before .before .before .before .pre in (
+    let a = c .before .before .before .before .before .before .before .before .before .before .before .before .before .before .before .before .before .args in let p = c .before .before .before .before .before .before .before .before .before .before .before .before .before .before .before .before .before .pre in (
       refl,
       omega (arith, p .1 .0 .0),
       row-first (a .q) (a .heights .now) (a .bounds .now) (a .radices .now) (a .ys .now) (a .colours .now) (a .caps .now) (a .a) (a .code) (c .before .before .fill-row .last .0) (c .before .before .before .before .before .strip-between .result) (c .before .before .before .before .before .strip-between .ensures) (c .before .before .fill-row .ensures),
@@ -71,12 +55,12 @@ loop-holds c =
 -- src/lib.rt:617:11
 add-loop : tie.Need-add-loop Inv-loop μ-loop
 add-loop c =
-    omega (arith, c .before .before .before .before .before .before .before .before .before .before .before .before .before .before .before .before .before .before .before .pre .0 .few-slots)
+    omega (arith, c .before .before .before .before .before .before .before .before .before .before .before .before .before .before .before .before .before .before .pre .0 .few-slots)
 
 -- src/lib.rt:618:50
 add-get : tie.Need-add-get Inv-loop μ-loop
 add-get c =
-    omega (arith, c .before .before .before .before .before .before .before .before .before .before .before .before .before .before .before .before .before .before .before .before .pre .0 .few-slots)
+    omega (arith, c .before .before .before .before .before .before .before .before .before .before .before .before .before .before .before .before .before .before .before .pre .0 .few-slots)
 
 -- src/lib.rt:618:39
 get-requires : tie.Need-get-requires Inv-loop μ-loop
@@ -94,7 +78,7 @@ same-length c =
 -- src/lib.rt:620:13
 returns : tie.Need-returns Inv-loop μ-loop
 returns c =
-    let a = c .before .before .before .before .before .before .before .before .before .before .before .before .before .before .before .before .before .before .before .before .before .before .before .args in let p = c .before .before .before .before .before .before .before .before .before .before .before .before .before .before .before .before .before .before .before .before .before .before .before .pre in let l = c .before .before .before .before .loop in
+    let a = c .before .before .before .before .before .before .before .before .before .before .before .before .before .before .before .before .before .before .before .before .before .before .args in let p = c .before .before .before .before .before .before .before .before .before .before .before .before .before .before .before .before .before .before .before .before .before .before .pre in let l = c .before .before .before .before .loop in
     row-ends (a .q) (a .heights .now) (a .bounds .now) (a .radices .now) (a .draws .now) (a .ys .now) (a .colours .now) (a .caps .now) (p .0) (a .a) (a .code) (l .row) (l .j) (c .before .other-in .result) (c .before .before .before .loop-test .taken) (c .if1 .taken)
     (barred-more (a .heights .now) (a .ys .now) (a .colours .now) (a .bands .now) (a .ends .now) (p .0 .rising) (p .1 .0 .3) (a .a) (a .code) (a .a + l .j) (l .other) (c .before .other-in .result) (c .before .before .get .result) (omega arith) (c .before .before .before .loop-test .taken) (c .before .before .get .ensures) (l .inv .3) (c .before .other-in .ensures))
     (l .inv .2)
@@ -102,7 +86,7 @@ returns c =
 -- src/lib.rt:637:23
 add-get-2 : tie.Need-add-get-2 Inv-loop μ-loop
 add-get-2 c =
-    omega (arith, c .before .before .before .before .before .before .before .before .before .before .before .before .before .before .before .before .before .before .before .before .before .before .before .before .pre .0 .few-slots)
+    omega (arith, c .before .before .before .before .before .before .before .before .before .before .before .before .before .before .before .before .before .before .before .before .before .before .before .pre .0 .few-slots)
 
 -- src/lib.rt:637:13
 get-requires-2 : tie.Need-get-requires-2 Inv-loop μ-loop
@@ -111,16 +95,16 @@ get-requires-2 c κs = search needs
 -- src/lib.rt:622:9
 slot-links-requires : tie.Need-slot-links-requires Inv-loop μ-loop
 slot-links-requires c κs =
-    let a = c .before .before .before .before .before .before .before .before .before .before .before .before .before .before .before .before .before .before .before .before .before .before .before .before .before .args in let p = c .before .before .before .before .before .before .before .before .before .before .before .before .before .before .before .before .before .before .before .before .before .before .before .before .before .pre in let l = c .before .before .before .before .before .before .loop in
+    let a = c .before .before .before .before .before .before .before .before .before .before .before .before .before .before .before .before .before .before .before .before .before .before .before .before .args in let p = c .before .before .before .before .before .before .before .before .before .before .before .before .before .before .before .before .before .before .before .before .before .before .before .before .pre in let l = c .before .before .before .before .before .before .loop in
     let t = c .before .before .before .before .before .loop-test .taken in
     let e : Ends (a .heights .now) (a .ys .now) (a .a + l .j) (c .get2 .result) = rw (c .get2 .ensures) (p .1 .0 .3 .last (a .a + l .j) t) in
     let b = barred-more (a .heights .now) (a .ys .now) (a .colours .now) (a .bands .now) (a .ends .now) (p .0 .rising) (p .1 .0 .3) (a .a) (a .code) (a .a + l .j) (l .other) (c .before .before .before .other-in .result) (c .before .before .before .before .get .result) (omega arith) t (c .before .before .before .before .get .ensures) (l .inv .3) (c .before .before .before .other-in .ensures) in
-    (p .0, ((t, omega (arith, p .1 .0 .1, l .inv .0, c .before .before .before .before .before .before .before .before .before .fill-row .kept .0), p .1 .0 .2, c .before .before .before .before .before .before .before .before .before .before .before .before .before .first-below .ensures, e, b), (p .1 .1, l .inv .2)))
+    (p .0, ((t, omega (arith, p .1 .0 .1, l .inv .0, c .before .before .before .before .before .before .before .before .before .fill-row .kept .0), p .1 .0 .2, p .1 .0 .4, e, b), (p .1 .1, l .inv .2)))
 
 -- src/lib.rt:640:9
 add-j : tie.Need-add-j Inv-loop μ-loop
 add-j c =
-    omega (arith, c .before .before .before .before .before .before .before .before .before .before .before .before .before .before .before .before .before .before .before .before .before .before .before .before .before .before .before .before .pre .0 .few-slots, c .before .before .before .before .before .before .before .before .loop-test .taken)
+    omega (arith, c .before .before .before .before .before .before .before .before .before .before .before .before .before .before .before .before .before .before .before .before .before .before .before .before .before .before .before .pre .0 .few-slots, c .before .before .before .before .before .before .before .before .loop-test .taken)
 
 -- src/lib.rt:617:5
 loop-less : tie.Need-loop-less Inv-loop μ-loop
@@ -130,7 +114,7 @@ loop-less c =
 -- src/lib.rt:617:5
 loop-again : tie.Need-loop-again Inv-loop μ-loop
 loop-again c =
-    let a = c .before .before .before .before .before .before .before .before .before .before .before .before .before .before .before .before .before .before .before .before .before .before .before .before .before .before .before .before .args in let p = c .before .before .before .before .before .before .before .before .before .before .before .before .before .before .before .before .before .before .before .before .before .before .before .before .before .before .before .before .pre in let l = c .before .before .before .before .before .before .before .before .before .loop in let t = c .before .before .before .before .before .before .before .before .loop-test .taken in
+    let a = c .before .before .before .before .before .before .before .before .before .before .before .before .before .before .before .before .before .before .before .before .before .before .before .before .before .before .before .args in let p = c .before .before .before .before .before .before .before .before .before .before .before .before .before .before .before .before .before .before .before .before .before .before .before .before .before .before .before .pre in let l = c .before .before .before .before .before .before .before .before .before .loop in let t = c .before .before .before .before .before .before .before .before .loop-test .taken in
     let b = barred-more (a .heights .now) (a .ys .now) (a .colours .now) (a .bands .now) (a .ends .now) (p .0 .rising) (p .1 .0 .3) (a .a) (a .code) (a .a + l .j) (l .other) (c .before .before .before .before .before .before .other-in .result) (c .before .before .before .before .before .before .before .get .result) (omega arith) t (c .before .before .before .before .before .before .before .get .ensures) (l .inv .3) (c .before .before .before .before .before .before .other-in .ensures) in (
       c .before .before .slot-links .kept .1 .1 .1 .1 .1 .1 .1 .1 .1 .0 ∙ l .inv .0,
       omega arith,
@@ -146,7 +130,7 @@ same-length-2 c =
 -- src/lib.rt:589:1
 returns-2 : tie.Need-returns-2 Inv-loop μ-loop
 returns-2 c =
-    let a = c .before .before .before .before .before .before .before .before .before .before .before .before .before .before .before .before .before .before .before .before .args in let p = c .before .before .before .before .before .before .before .before .before .before .before .before .before .before .before .before .before .before .before .before .pre in let l = c .before .loop in
+    let a = c .before .before .before .before .before .before .before .before .before .before .before .before .before .before .before .before .before .before .before .args in let p = c .before .before .before .before .before .before .before .before .before .before .before .before .before .before .before .before .before .before .before .pre in let l = c .before .loop in
     row-whole (a .q) (a .heights .now) (a .bounds .now) (a .radices .now) (a .ys .now) (a .colours .now) (a .caps .now) (a .a) (a .code) (l .row) (l .j) (p .1 .0 .0) (omega arith) (l .inv .2)
 
 pub table-row-spec : {M : Type 1} → statement M
@@ -156,7 +140,6 @@ table-row-spec =
     Inv-loop
     μ-loop
     cast-m
-    first-below-requires
     cast-all
     strip-between-requires
     cast-fill-row

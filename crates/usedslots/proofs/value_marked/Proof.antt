@@ -2,21 +2,12 @@ use Rattle.optimum.specs.UsedSlots.{value}
 use Rattle.usedslots.specs.Table.{tableBy, capsIn}
 use Rattle.usedslots.proofs.Links.{row-there}
 use Rattle.usedslots.proofs.Entries.{right-root}
-use mathlib.Core.Path.{_≡_, refl, ap, sym, _∙_}
-use mathlib.Core.List.{List, [], _∷_, _++_}
-use mathlib.Core.Logic.{⊎-elim}
-use Prim.Native.Nat.{ℕ, zero, suc, _+_, _-_, _*_, _<_, _≤_}
+use mathlib.Core.Path.{_∙_}
+use Prim.Native.Nat.{_-_}
 use native.Mathlib.Omega.{arith}
-use native.Mathlib.Numerals.{add-one}
-use lib.ListN.{length, getD, take, drop, set, length-set}
-use borrow.Author.Tests.{eq-eqb, ne-eqb, lt-ltb, le-ltb, le-leb, lt-leb}
 use borrow.Author.Needs.{needs}
 use Rattle.usedslots.proofs.value_marked.Statement.{statement}
 use Rattle.usedslots.proofs.value_marked.Tie as tie
-use Rattle.usedslots.proofs.value_marked.Reads as reads
-use Rattle.usedslots.proofs.value_marked.Lts as lts
-use Rattle.usedslots.proofs.fill.Reads as fill-reads
-use Rattle.usedslots.proofs.fill_place.Reads as fill-place-reads
 
 -- src/lib.rt:302:5
 fill-requires : tie.Need-fill-requires
