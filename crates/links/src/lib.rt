@@ -100,6 +100,15 @@ pub fn row_start(q: Measures, a: u32, code: u32) -> usize
     ((a as usize) * codes + code as usize) * (q.budgets as usize)
 }
 
+// The words of the table.
+pub fn table_words(q: Measures, slots: usize) -> usize
+    requires { ⌜ (slots ≤ 48) × (q .colours ≤ 8) × (q .budgets ≤ 64) ⌝ }
+    ensures { λ r. ⌜ r ≡ (slots + 2) * (q .colours + 1) * q .budgets ⌝ }
+{
+    let codes = q.colours as usize + 1;
+    (slots + 2) * codes * (q.budgets as usize)
+}
+
 // The block of budgets in which a colour's digit takes each value once.
 pub fn block_size(budgets: u32, bound: u32, draw: u32, radix: u32) -> u32
     requires { ⌜ draw * radix ≤ 64 ⌝ }

@@ -3,7 +3,7 @@ use mathlib.Core.Path.{_≡_, refl, sym, ap, _∙_, fun-ext, subst, subst⁻¹}
 use mathlib.Core.Bool.{true, false, cond}
 use mathlib.Core.List.{List, [], _∷_, _++_}
 use Prim.Native.Nat.{ℕ, zero, suc, _+_, _*_, _-_, _/_, _%_, _^_, _≤_, _<_}
-use native.Mathlib.Nat.{le-trans, le-of-eq, mul-le-mul, mul-assoc, mul-comm, one-mul, mul-one}
+use native.Mathlib.Nat.{le-trans, le-of-eq, mul-assoc, mul-comm, one-mul, mul-one}
 use native.Mathlib.Omega.{arith}
 use lib.Dec.{ltb, eqb}
 use lib.ListN.{length, getD, take, drop, replicate}
@@ -34,12 +34,6 @@ use Rattle.usedslots.proofs.Strips.{value-ranks}
 use Rattle.twosided.specs.Caps.{countBy, lengthBy, wordsBy, uncapped, laidBy, Laid, Low}
 
 -- ---- a call on arrays
-
-pub words-low : (m C P : ℕ) → m ≤ 48 → C ≤ 8 → P ≤ 64 → ((m + 2) * (C + 1) ≤ 450) × ((m + 2) * (C + 1) * P ≤ 28800)
-words-low m C P h i k =
-    let x : (m + 2) * (C + 1) ≤ 50 * 9 = mul-le-mul {n₂ = 50} {m₂ = 9} (omega arith) (omega arith) in
-    let y : (m + 2) * (C + 1) * P ≤ 450 * 64 = mul-le-mul {n₂ = 450} {m₂ = 64} x k in
-    (x, y)
 
 module _ (q : Measures) (hs bs rs ys cs xs caps : List ℕ) (zeros : (i : ℕ) → getD caps i 0 ≡ 0) where
   abbrev G : Instance

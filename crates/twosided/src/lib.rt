@@ -29,6 +29,7 @@ use costs::head_word;
 use labels::labels_cost;
 use labels::slot_of;
 use labels::trace_labels;
+use links::table_words;
 use words::NONE;
 use words::at_most;
 use words::both;
@@ -456,15 +457,6 @@ fn write_layout(head: u32, caps: &[u32], out: &mut [u32])
 }
 
 // ---- the layout
-
-// The words of the table.
-fn table_words(q: Measures, slots: usize) -> usize
-    requires { ⌜ (slots ≤ 48) × (q .colours ≤ 8) × (q .budgets ≤ 64) ⌝ }
-    ensures { λ r. ⌜ r ≡ (slots + 2) * (q .colours + 1) * q .budgets ⌝ }
-{
-    let codes = q.colours as usize + 1;
-    (slots + 2) * codes * (q.budgets as usize)
-}
 
 fn lay_capped(
     q: Measures,

@@ -1,9 +1,9 @@
-use Rattle.twosided.proofs.Answer.{words-low}
+use Rattle.links.proofs.Rows.{words-low}
 use Prim.Native.Nat.{_-_}
 use native.Mathlib.Omega.{arith}
 use borrow.Author.Needs.{needs}
-use Rattle.twosided.proofs.table_words.Statement.{statement}
-use Rattle.twosided.proofs.table_words.Tie as tie
+use Rattle.links.proofs.table_words.Statement.{statement}
+use Rattle.links.proofs.table_words.Tie as tie
 
 -- src/lib.rt:210:17
 cast-codes : tie.Need-cast-codes
