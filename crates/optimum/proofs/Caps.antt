@@ -200,7 +200,7 @@ module _ (G : Instance) where
     unfolding choose
     choose-is caps r h = eqb-true _ _ (first-is m (λ k. eqb (value G (put caps r (suc k))) w) h)
 
-    pub chosen : (caps : ℕ → ℕ) (r : ℕ) → r < n → caps r ≡ 0 → value G caps ≡ w → value G (put caps r (suc (choose G w caps r))) ≡ w
+    chosen : (caps : ℕ → ℕ) (r : ℕ) → r < n → caps r ≡ 0 → value G caps ≡ w → value G (put caps r (suc (choose G w caps r))) ≡ w
     chosen caps r l z v = go (attained caps (omega arith))
       where
         go : (js : List ℕ) × (Ok js × Respects caps js × (cost js ≡ value G caps)) → value G (put caps r (suc (choose G w caps r))) ≡ w

@@ -29,8 +29,11 @@ abbrev pub digitIn : Sheet → (colour budget : ℕ) → ℕ
 digitIn s c v = digitOf (radicesOf (s .colours)) c v
 
 -- what a label of the colour draws: one from its digit, nothing if it is unbounded
+abbrev pub drawAt : (radices : List ℕ) → (colour : ℕ) → (unbounded : Bool) → ℕ
+drawAt rs c u = cond u 0 (place rs c)
+
 unfoldable pub drawsOf : Sheet → (colour : ℕ) → ℕ
-drawsOf s c = cond (isUnbounded s c) 0 (place (radicesOf (s .colours)) c)
+drawsOf s c = drawAt (radicesOf (s .colours)) c (isUnbounded s c)
 
 -- the budget at the start, whose digits are the bounds: the greatest
 abbrev pub fullBudget : Sheet → ℕ

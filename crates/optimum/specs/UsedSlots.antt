@@ -6,9 +6,10 @@ use Prim.Native.Nat.{ℕ, zero, suc, _*_, _-_, min}
 use lib.Dec.{ltb, leb, eqb}
 use Rattle.search.specs.Cost.{plus, first}
 use Rattle.search.specs.Walk.{Process, best}
-use Rattle.search.specs.Radix.{digitOf, place}
+use Rattle.search.specs.Radix.{digitOf}
 use Rattle.search.specs.Sums.{listing, sumTo}
 use Rattle.optimum.specs.Slots.{Slots, over, under, farFrom, clearFrom}
+use Rattle.optimum.specs.Budgets.{drawAt}
 
 -- what the table and the walk ask of a sheet
 pub record Instance : Type 0 where
@@ -49,7 +50,7 @@ module _ (G : Instance) where
 
   unfoldable pub draw : ℕ → ℕ
   draw zero = 0
-  draw (suc c) = cond (unbounded c) 0 (place radices c)
+  draw (suc c) = drawAt radices c (unbounded c)
 
   module _ (caps : ℕ → ℕ) where
     -- site i may go to the place p

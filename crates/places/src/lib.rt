@@ -50,7 +50,7 @@ pub fn is_far(q: Measures, heights: &[u32], j: u32, e: u32, k: u32, c: u32) -> b
 }
 
 // A label at a height is clear of a site of height y.
-pub fn is_clear_at(q: Measures, height: u32, y: u32) -> bool
+fn is_clear_at(q: Measures, height: u32, y: u32) -> bool
     ensures { λ r. ⌜ r ≡ leb (q .gap) (apart height y) ⌝ }
 {
     at_most(q.gap, apart_of(height, y))
