@@ -1,23 +1,23 @@
 -- Sites in another order: strips and the least cost stay. Assumes nothing.
-use mathlib.Core.Path.{_≡_, refl, sym, ap, ap₂, _∙_}
+use mathlib.Core.Path.{_≡_, refl, sym, ap, ap₂, _∙_, fun-ext, subst}
 use mathlib.Core.Logic.{_≢_}
 use mathlib.Core.List.{List, []}
 use Prim.Native.Nat.{ℕ, zero, suc, _+_, _-_, _≤_, _<_}
 use native.Mathlib.Omega.{arith}
 use lib.ListN.{length, getD, set, length-set}
 use lib.Seq.{getD-set-same, getD-set-other, ext-getD}
-use Rattle.lists.proofs.Tests.{by-equal}
+use Rattle.lists.proofs.Tests.{by-equal, by-order}
 use Rattle.search.specs.Cost.{plus}
 use Rattle.search.specs.Walk.{Process, best}
 use Rattle.search.specs.Sums.{sumTo, listing}
 use Rattle.search.proofs.CappedSums.{sum-cong}
-use Rattle.search.proofs.Sums.{listing-at, length-listing}
+use Rattle.search.proofs.Sums.{listing-at, listing-past, length-listing}
 use Rattle.optimum.specs.Slots.{farFrom}
 use Rattle.optimum.specs.UsedSlots.{may, draw, strip, price, next, final, labels, State, below, T, value}
 use Rattle.arrays.specs.declared.Measures.{Measures}
 use Rattle.stripcosts.specs.declared.Label.{Label}
 use Rattle.stripcosts.specs.Costs.{upperAt, lowerAt, siteOf, stripOf}
-use Rattle.usedslots.specs.Table.{none, tableBy, capsIn, Fits}
+use Rattle.usedslots.specs.Table.{none, tableBy, capsIn, Fits, RightTo}
 use Rattle.usedslots.proofs.Strips.{strip-is}
 use Rattle.byheight.specs.Sites.{exchanged, Reorders, taken}
 
@@ -163,6 +163,39 @@ module _ (q : Measures) (hs bs rs ds ys cs caps order : List ℕ) (r : Reorders 
     final = λ t. final-same t i;
   }
 
+  pub T-same : (a ca v : ℕ) → T (tableBy q hs bs rs ys₁ cs₁) (capsIn caps₁) a ca v ≡ T (tableBy q hs bs rs ys cs) (capsIn caps) a ca v
+  unfolding T below
+  T-same a ca v = ap (λ (G : Process (ℕ × ℕ × ℕ) ℕ). best G (a, ca, v) (listing (λ j. j) a (length hs - a))) labels-same
+
   pub value-same : value (tableBy q hs bs rs ys₁ cs₁) (capsIn caps₁) ≡ value (tableBy q hs bs rs ys cs) (capsIn caps)
-  unfolding value T below
-  value-same = ap (λ (G : Process (ℕ × ℕ × ℕ) ℕ). best G (0, 0, q .budgets - 1) (listing (λ j. j) 0 (length hs - 0))) labels-same
+  unfolding value
+  value-same = T-same 0 0 (q .budgets - 1)
+
+  -- words that are right for the one are right for the other
+  pub right-back : (w : List ℕ) (a first code : ℕ) → RightTo (tableBy q hs bs rs ys₁ cs₁) (capsIn caps₁) w (q .budgets) a first code → RightTo (tableBy q hs bs rs ys cs) (capsIn caps) w (q .budgets) a first code
+  right-back w a first code t =
+      record {
+        below = λ b cb v l m o p h. t .below b cb v l m o p h ∙ T-same b cb v;
+        here = λ cb v l m h. t .here cb v l m h ∙ T-same a cb v;
+      }
+
+  pub right-taken : (w : List ℕ) (a first code : ℕ) → RightTo (tableBy q hs bs rs ys cs) (capsIn caps) w (q .budgets) a first code → RightTo (tableBy q hs bs rs ys₁ cs₁) (capsIn caps₁) w (q .budgets) a first code
+  right-taken w a first code t =
+      record {
+        below = λ b cb v l m o p h. t .below b cb v l m o p h ∙ sym (T-same b cb v);
+        here = λ cb v l m h. t .here cb v l m h ∙ sym (T-same a cb v);
+      }
+
+-- ---- the same without caps
+
+none-taken : (order : List ℕ) → capsIn (taken [] order) ≡ (λ i. 0)
+none-taken order = fun-ext (λ i. by-order (length order) i (λ h. listing-past (λ j. getD {A = ℕ} [] (getD order j 0) 0) 0 (length order) i h) (λ h. taken-at [] order i h))
+
+module _ (q : Measures) (hs bs rs ys cs order : List ℕ) (r : Reorders order (length ys)) where
+  pub value-free : value (tableBy q hs bs rs (taken ys order) (taken cs order)) (λ i. 0) ≡ value (tableBy q hs bs rs ys cs) (λ i. 0)
+  value-free =
+      ap (value (tableBy q hs bs rs (taken ys order) (taken cs order))) (sym (none-taken order)) ∙ value-same q hs bs rs [] ys cs [] order r
+
+  pub right-free : (w : List ℕ) (a first code : ℕ) → RightTo (tableBy q hs bs rs ys cs) (λ i. 0) w (q .budgets) a first code → RightTo (tableBy q hs bs rs (taken ys order) (taken cs order)) (λ i. 0) w (q .budgets) a first code
+  right-free w a first code t =
+      subst (λ (f : ℕ → ℕ). RightTo (tableBy q hs bs rs (taken ys order) (taken cs order)) f w (q .budgets) a first code) (none-taken order) (right-taken q hs bs rs [] ys cs [] order r w a first code t)

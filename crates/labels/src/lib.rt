@@ -188,12 +188,58 @@ pub fn labels_cost(
 
 // ---- the labels of a cheapest layout
 
-// With what the table has for the place a, a code and a budget, a cost comes to the least.
-fn goes_on(q: Measures, work: &[u32], a: u32, code: u32, budget: u32, cost: u32, least: u32) -> bool
+// What the table has for the place a, a code and a budget.
+fn rest_at(q: Measures, work: &[u32], a: u32, code: u32, budget: u32) -> u32
     requires { ⌜ (a ≤ 49) × (code ≤ 8) × (q .colours ≤ 8) × (q .budgets ≤ 64) ⌝ }
 {
     let start = row_start(q, a, code) as u32;
-    plus_of(cost, get(work, plus_of(start, budget))) == least
+    get(work, plus_of(start, budget))
+}
+
+// A label of colour d at slot k can come to the least, whatever the strip above it costs.
+fn can_come(q: Measures, draws: &[u32], work: &[u32], s: Chosen, k: u32, d: u32, least: u32) -> bool
+    requires { ⌜ (k < 48) × (d < q .colours) × (q .colours ≤ 8) × (q .budgets ≤ 64) ⌝ }
+{
+    let rest = rest_at(q, work, k + 1, d + 1, monus(s.budget, get(draws, d)));
+    plus_of(s.cost, plus_of(link_cost(q, 0), rest)) <= least
+}
+
+// The table goes on from a label of colour d at slot k.
+fn is_next(
+    q: Measures,
+    heights: &[u32],
+    bounds: &[u32],
+    radices: &[u32],
+    draws: &[u32],
+    ys: &[u32],
+    colours: &[u32],
+    caps: &[u32],
+    work: &[u32],
+    s: Chosen,
+    k: u32,
+    d: u32,
+    least: u32,
+) -> bool
+    requires { ⌜ Fits q (now heights) (now bounds) (now radices) (now draws) (now ys) (now colours) (now caps) ⌝ }
+    requires { ⌜ (k < length (now heights)) × (d < q .colours) ⌝ }
+{
+    if !can_come(q, draws, work, s, k, d, least) {
+        return false;
+    }
+    let t = with_label(
+        q,
+        heights,
+        bounds,
+        radices,
+        draws,
+        ys,
+        colours,
+        caps,
+        s,
+        k,
+        d,
+    );
+    plus_of(t.cost, rest_at(q, work, k + 1, d + 1, t.budget)) == least
 }
 
 // The code of a label at slot k that the table goes on from, or 0.
@@ -216,7 +262,7 @@ fn code_at(
 {
     let mut d: u32 = 0;
     while d < q.colours {
-        let t = with_label(
+        if is_next(
             q,
             heights,
             bounds,
@@ -225,11 +271,12 @@ fn code_at(
             ys,
             colours,
             caps,
+            work,
             s,
             k,
             d,
-        );
-        if goes_on(q, work, k + 1, d + 1, t.budget, t.cost, least) {
+            least,
+        ) {
             return d + 1;
         }
         d += 1;

@@ -79,7 +79,7 @@ block-fits size start end (j, e) (b, f) l =
     (λ h. let q : b * size ≤ j * size = mul-le-mul-right size h in absurd (omega arith))
     (λ h. let q : suc j * size ≤ b * size = mul-le-mul-right size h in omega arith)
 
-in-block : (size j v : ℕ) → j * size ≤ v → v < j * size + size → v % size ≡ v - j * size
+pub in-block : (size j v : ℕ) → j * size ≤ v → v < j * size + size → v % size ≡ v - j * size
 in-block size j v h l =
     let r : v - j * size < size = omega arith in
     let e : v ≡ j * size + (v - j * size) = omega arith in

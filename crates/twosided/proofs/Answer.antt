@@ -29,9 +29,9 @@ use Rattle.arrays.specs.Arrays.{boundsOf, xsOf, ysOf, coloursOf, radicesBy, dra
 use Rattle.arrays.proofs.Instances.{bounds-at, xs-at, ys-at, colours-at}
 use Rattle.arrays.proofs.Whole.{front}
 use Rattle.arrays.proofs.Ordered.{radices-long, draws-long, product-positive, product-are}
-use Rattle.usedslots.specs.Table.{none, unitOf, labelCost, instanceBy, tableBy, capsIn, Fits, tableWords}
+use Rattle.usedslots.specs.Table.{none, unitOf, labelCost, instanceBy, tableBy, capsIn, Fits, tableWords, RightTo}
 use Rattle.usedslots.proofs.Strips.{value-ranks}
-use Rattle.twosided.specs.Caps.{countBy, lengthBy, wordsBy, uncapped, laidBy, Laid, Low}
+use Rattle.twosided.specs.Caps.{countBy, lengthBy, wordsBy, uncapped, Filled, laidBy, Laid, Low}
 
 -- ---- a call on arrays
 
@@ -51,6 +51,17 @@ module _ (q : Measures) (hs bs rs ys cs xs caps : List ℕ) (zeros : (i : ℕ) �
   steady-at w e z b f =
       let v : w ≡ value (tableBy q hs bs rs ys cs) uncapped = e ∙ ap (value (tableBy q hs bs rs ys cs)) caps-none in
       subst⁻¹ (λ (k : ℕ). Steady (tableBy q hs bs rs ys cs) k) v (f (omega (arith, z)))
+
+  -- what it reads: the words of a table filled with these caps
+  pub filled-at : (w : ℕ) (work : List ℕ) → tableWords q hs ≤ length work → w ≡ value (tableBy q hs bs rs ys cs) (capsIn caps) → (w ≡ none → ⊥) → w ≤ none →
+      RightTo (tableBy q hs bs rs ys cs) (capsIn caps) work (q .budgets) 0 0 1 → Filled q hs bs rs ys cs work w
+  filled-at w work l e z b r =
+      record {
+        long = l;
+        right = subst (λ (f : ℕ → ℕ). RightTo (tableBy q hs bs rs ys cs) f work (q .budgets) 0 0 1) caps-none r;
+        least-is = sym (e ∙ ap (value (tableBy q hs bs rs ys cs)) caps-none);
+        some = omega (arith, z);
+      }
 
   pub low-none : Low caps
   low-none i = rw (zeros i) (omega arith)

@@ -1,7 +1,7 @@
 -- Laws of the walk over caps, on lists. Assumes nothing.
 use mathlib.Core.Path.{_≡_, refl, sym, ap, _∙_}
 use mathlib.Core.Logic.{_≢_}
-use mathlib.Core.Bool.{true, false, cond, _&&_, _||_}
+use mathlib.Core.Bool.{Bool, true, false, cond, _&&_, _||_}
 use mathlib.Core.List.{List, [], _∷_, _++_}
 use Prim.Native.Nat.{ℕ, zero, suc, _+_, _-_, _≤_, _<_}
 use native.Mathlib.Nat.{le-trans, le-of-eq}
@@ -22,10 +22,10 @@ use Rattle.optimum.specs.Steady.{Steady}
 use Rattle.optimum.proofs.Rows.{put-set}
 use Rattle.optimum.proofs.Steady.{keeps, misses, choose-is, choose-keeps}
 use Rattle.arrays.specs.declared.Measures.{Measures}
-use Rattle.usedslots.specs.Table.{instanceBy, tableBy, capsIn, Fits}
+use Rattle.usedslots.specs.Table.{none, instanceBy, tableBy, capsIn, Fits}
 use Rattle.usedslots.proofs.Strips.{value-ranks}
 use Rattle.twosided.specs.declared.Range.{Range}
-use Rattle.twosided.specs.Caps.{leftmostBy, keepsCost, Reaches, Probed, wordsBy, Low}
+use Rattle.twosided.specs.Caps.{leftmostBy, keepsCost, Reaches, Probed, wordsBy, uncapped, Filled, Low}
 
 -- other caps, as many
 pub fits-set : (q : Measures) (hs bs rs ds ys cs caps new : List ℕ) → length new ≡ length caps → Fits q hs bs rs ds ys cs caps → Fits q hs bs rs ds ys cs new
@@ -229,7 +229,13 @@ module _ (G : Instance) (w : ℕ) (steady : Steady G w) (caps : List ℕ) (i : �
 pub lowered-to : (H : Instance) (caps : List ℕ) (w i slot cost : ℕ) → value H (capsIn (set caps i (slot + 1))) ≤ cost → cost ≤ w → Reaches H caps w i slot
 lowered-to H caps w i slot cost h l = rw add-one at (le-trans h l)
 
--- ---- a test by a fill
+-- ---- a test at a slot
+
+pub filled-some : (q : Measures) (hs bs rs ys cs work : List ℕ) (w : ℕ) → Filled q hs bs rs ys cs work w → value (tableBy q hs bs rs ys cs) uncapped < none
+filled-some q hs bs rs ys cs work w f = rw (f .least-is) (f .some)
+
+pub keeps-at : (H : Instance) (caps : List ℕ) (w i k : ℕ) (t : Bool) → value H uncapped ≡ w → t ≡ eqb (value H (capsIn (set caps i (k + 1)))) (value H uncapped) → t ≡ keepsCost H caps w i k
+keeps-at H caps w i k t e h = rw (add-one, e) at h
 
 module _ (H : Instance) (caps : List ℕ) (w i : ℕ) (range : Range) (probe : ℕ) where
   pub probed-kept : (now : List ℕ) (high : ℕ) → now ≡ set caps i (suc probe) → keepsCost H caps w i probe ≡ true →

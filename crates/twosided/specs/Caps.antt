@@ -1,7 +1,7 @@
 -- The walk that caps the sites one by one, as code does it, and the layout's words. Definitions.
 use mathlib.Core.Bool.{Bool, true, false, cond, _&&_, _||_}
 use mathlib.Core.List.{List, _∷_, _++_}
-use Prim.Native.Nat.{ℕ, zero, suc, _+_, _-_, _≤_}
+use Prim.Native.Nat.{ℕ, zero, suc, _+_, _-_, _≤_, _<_}
 use lib.Dec.{ltb, leb, eqb}
 use mathlib.Core.Path.{_≡_}
 use lib.ListN.{length, getD, set, drop, replicate}
@@ -10,7 +10,7 @@ use Rattle.search.specs.Sums.{listing}
 use Rattle.optimum.specs.UsedSlots.{Instance, value, capAll, ties}
 use Rattle.arrays.specs.declared.Measures.{Measures}
 pub use Rattle.costs.specs.Costs.{countBy, lengthBy}
-use Rattle.usedslots.specs.Table.{none, capsIn}
+use Rattle.usedslots.specs.Table.{none, tableBy, capsIn, tableWords, RightTo}
 use Rattle.twosided.specs.declared.Range.{Range}
 
 -- the leftmost site without a cap among the first so many, of n in all, or n
@@ -39,6 +39,13 @@ wordsBy h caps = h ∷ tieWords (listing (λ i. getD caps i 0 - 1) 0 (length cap
 -- before the walk no site has a cap
 abbrev pub uncapped : ℕ → ℕ
 uncapped i = 0
+
+-- the words of the table without caps, and its least cost
+pub record Filled (q : Measures) (hs bs rs ys cs work : List ℕ) (least : ℕ) : Type 0 where
+  pub long : tableWords q hs ≤ length work
+  pub right : RightTo (tableBy q hs bs rs ys cs) uncapped work (q .budgets) 0 0 1
+  pub least-is : value (tableBy q hs bs rs ys cs) uncapped ≡ least
+  pub some : least < none
 
 -- the layout of the least cost that comes first
 abbrev pub laidBy : Measures → Instance → List ℕ

@@ -12,7 +12,7 @@ ghost use Rattle.optimum.specs.UsedSlots.{value, choose, capAll};
 ghost use Rattle.optimum.specs.Steady.{Steady};
 ghost use Rattle.byheight.specs.Sites.{Reorders};
 ghost use Rattle.usedslots.specs.Table.{instanceBy, tableBy, capsIn, Fits, tableWords};
-ghost use Rattle.twosided.specs.Caps.{leftmostBy, keepsCost, Reaches, Probed, wordsBy, uncapped, Low, Laid};
+ghost use Rattle.twosided.specs.Caps.{leftmostBy, keepsCost, Reaches, Probed, wordsBy, uncapped, Filled, Low, Laid};
 use areas::clear;
 use arrays::Measures;
 use arrays::bounds_of;
@@ -23,6 +23,7 @@ use arrays::measures_of;
 use arrays::radices_of;
 use arrays::xs_of;
 use arrays::ys_of;
+use byheight::keeps_least;
 use byheight::order_sites;
 use byheight::value_of;
 use costs::head_word;
@@ -90,19 +91,18 @@ fn keeps_cost(
     colours: &[u32],
     order: &[u32],
     caps: &mut [u32],
-    work: &mut [u32],
+    work: &[u32],
     least: u32,
     site: usize,
     k: u32,
 ) -> bool
     requires { ⌜ Fits q (now heights) (now bounds) (now radices) (now draws) (now ys) (now colours) (now caps) ⌝ }
-    requires { ⌜ (tableWords q (now heights) ≤ length (now work)) × (site < length (now caps)) × (k ≤ 48) × Reorders (now order) (length (now ys)) ⌝ }
+    requires { ⌜ Filled q (now heights) (now bounds) (now radices) (now ys) (now colours) (now work) least × (site < length (now caps)) × (k ≤ 48) × Reorders (now order) (length (now ys)) ⌝ }
     ensures { λ r. ⌜ r ≡ keepsCost (tableBy q (now (heights .entry)) (now (bounds .entry)) (now (radices .entry)) (now (ys .entry)) (now (colours .entry))) (now (caps .entry)) least site k ⌝ }
     ensures { λ _. ⌜ now (caps .exit) ≡ set (now (caps .entry)) site (suc k) ⌝ }
-    ensures { λ _. ⌜ drop (tableWords q (now (heights .entry))) (now (work .exit)) ≡ drop (tableWords q (now (heights .entry))) (now (work .entry)) ⌝ }
 {
     caps[site] = k + 1;
-    value_of(
+    keeps_least(
         q,
         heights,
         bounds,
@@ -114,7 +114,6 @@ fn keeps_cost(
         caps,
         work,
     )
-        == least
 }
 
 // The highest slot that a site goes to, lowered to that of known labels where they keep the cost. The site is left without a cap.
@@ -158,7 +157,7 @@ fn lowered(
     high
 }
 
-// A range of slots after a test at one of them by a fill: the site's cap is lost, no other is.
+// A range of slots after a test at one of them: the site's cap is lost, no other is.
 fn probed(
     q: Measures,
     heights: &[u32],
@@ -169,7 +168,7 @@ fn probed(
     colours: &[u32],
     order: &[u32],
     caps: &mut [u32],
-    work: &mut [u32],
+    work: &[u32],
     labels: &mut [u32],
     least: u32,
     site: usize,
@@ -177,10 +176,9 @@ fn probed(
     probe: u32,
 ) -> Range
     requires { ⌜ Fits q (now heights) (now bounds) (now radices) (now draws) (now ys) (now colours) (now caps) ⌝ }
-    requires { ⌜ (tableWords q (now heights) ≤ length (now work)) × (length (now labels) ≡ length (now heights)) × (site < length (now caps)) × (probe ≤ 48) × Reorders (now order) (length (now ys)) ⌝ }
+    requires { ⌜ Filled q (now heights) (now bounds) (now radices) (now ys) (now colours) (now work) least × (length (now labels) ≡ length (now heights)) × (site < length (now caps)) × (probe ≤ 48) × Reorders (now order) (length (now ys)) ⌝ }
     ensures { λ r. ⌜ Probed (tableBy q (now (heights .entry)) (now (bounds .entry)) (now (radices .entry)) (now (ys .entry)) (now (colours .entry))) (now (caps .entry)) least site range probe r ⌝ }
     ensures { λ _. ⌜ ((p : ℕ) → set (now (caps .exit)) site p ≡ set (now (caps .entry)) site p) ⌝ }
-    ensures { λ _. ⌜ drop (tableWords q (now (heights .entry))) (now (work .exit)) ≡ drop (tableWords q (now (heights .entry))) (now (work .entry)) ⌝ }
 {
     if keeps_cost(
         q,
@@ -246,17 +244,16 @@ fn cap_site(
     colours: &[u32],
     order: &[u32],
     caps: &mut [u32],
-    work: &mut [u32],
+    work: &[u32],
     labels: &mut [u32],
     least: u32,
     site: usize,
 )
     requires { ⌜ Fits q (now heights) (now bounds) (now radices) (now draws) (now ys) (now colours) (now caps) ⌝ }
-    requires { ⌜ (tableWords q (now heights) ≤ length (now work)) × (length (now labels) ≡ length (now heights)) × (site < length (now caps)) × (getD (now caps) site 0 ≡ 0) × Reorders (now order) (length (now ys)) ⌝ }
+    requires { ⌜ Filled q (now heights) (now bounds) (now radices) (now ys) (now colours) (now work) least × (length (now labels) ≡ length (now heights)) × (site < length (now caps)) × (getD (now caps) site 0 ≡ 0) × Reorders (now order) (length (now ys)) ⌝ }
     requires { ⌜ (value (tableBy q (now heights) (now bounds) (now radices) (now ys) (now colours)) (capsIn (now caps)) ≡ least) × Steady (tableBy q (now heights) (now bounds) (now radices) (now ys) (now colours)) least ⌝ }
     ensures { λ _. ⌜ now (caps .exit) ≡ set (now (caps .entry)) site (suc (choose (tableBy q (now (heights .entry)) (now (bounds .entry)) (now (radices .entry)) (now (ys .entry)) (now (colours .entry))) least (capsIn (now (caps .entry))) site)) ⌝ }
     ensures { λ _. ⌜ (Low (now (caps .entry)) → Low (now (caps .exit))) ⌝ }
-    ensures { λ _. ⌜ drop (tableWords q (now (heights .entry))) (now (work .exit)) ≡ drop (tableWords q (now (heights .entry))) (now (work .entry)) ⌝ }
 {
     let last = monus(heights.len() as u32, 1);
     let high = lowered(
@@ -310,16 +307,15 @@ fn cap_all(
     order: &[u32],
     ranks: &[u32],
     caps: &mut [u32],
-    work: &mut [u32],
+    work: &[u32],
     labels: &mut [u32],
     least: u32,
 )
     requires { ⌜ Fits q (now heights) (now bounds) (now radices) (now draws) (now ys) (now colours) (now caps) ⌝ }
-    requires { ⌜ (tableWords q (now heights) ≤ length (now work)) × (length (now labels) ≡ length (now heights)) × Reorders (now order) (length (now ys)) ⌝ }
+    requires { ⌜ Filled q (now heights) (now bounds) (now radices) (now ys) (now colours) (now work) least × (length (now labels) ≡ length (now heights)) × Reorders (now order) (length (now ys)) ⌝ }
     requires { ⌜ (value (tableBy q (now heights) (now bounds) (now radices) (now ys) (now colours)) (capsIn (now caps)) ≡ least) × Steady (tableBy q (now heights) (now bounds) (now radices) (now ys) (now colours)) least ⌝ }
     ensures { λ _. ⌜ capsIn (now (caps .exit)) ≡ capAll (instanceBy q (now (heights .entry)) (now (bounds .entry)) (now (radices .entry)) (now (ys .entry)) (now (colours .entry)) (now (ranks .entry))) least (length (now (ys .entry))) (capsIn (now (caps .entry))) ⌝ }
     ensures { λ _. ⌜ (Low (now (caps .entry)) → Low (now (caps .exit))) ⌝ }
-    ensures { λ _. ⌜ drop (tableWords q (now (heights .entry))) (now (work .exit)) ≡ drop (tableWords q (now (heights .entry))) (now (work .entry)) ⌝ }
 {
     let mut left = caps.len();
     while left > 0 {
@@ -358,16 +354,15 @@ fn cap_traced(
     order: &[u32],
     ranks: &[u32],
     caps: &mut [u32],
-    work: &mut [u32],
+    work: &[u32],
     labels: &mut [u32],
     least: u32,
 )
     requires { ⌜ Fits q (now heights) (now bounds) (now radices) (now draws) (now ys) (now colours) (now caps) ⌝ }
-    requires { ⌜ (tableWords q (now heights) ≤ length (now work)) × (length (now labels) ≡ length (now heights)) × Reorders (now order) (length (now ys)) ⌝ }
+    requires { ⌜ Filled q (now heights) (now bounds) (now radices) (now ys) (now colours) (now work) least × (length (now labels) ≡ length (now heights)) × Reorders (now order) (length (now ys)) ⌝ }
     requires { ⌜ (value (tableBy q (now heights) (now bounds) (now radices) (now ys) (now colours)) (capsIn (now caps)) ≡ least) × Steady (tableBy q (now heights) (now bounds) (now radices) (now ys) (now colours)) least ⌝ }
     ensures { λ _. ⌜ capsIn (now (caps .exit)) ≡ capAll (instanceBy q (now (heights .entry)) (now (bounds .entry)) (now (radices .entry)) (now (ys .entry)) (now (colours .entry)) (now (ranks .entry))) least (length (now (ys .entry))) (capsIn (now (caps .entry))) ⌝ }
     ensures { λ _. ⌜ (Low (now (caps .entry)) → Low (now (caps .exit))) ⌝ }
-    ensures { λ _. ⌜ drop (tableWords q (now (heights .entry))) (now (work .exit)) ≡ drop (tableWords q (now (heights .entry))) (now (work .entry)) ⌝ }
 {
     trace_labels(
         q,
@@ -411,15 +406,14 @@ fn cap_sites(
     order: &[u32],
     ranks: &[u32],
     caps: &mut [u32],
-    work: &mut [u32],
+    work: &[u32],
     least: u32,
 )
     requires { ⌜ Fits q (now heights) (now bounds) (now radices) (now draws) (now ys) (now colours) (now caps) ⌝ }
-    requires { ⌜ (tableWords q (now heights) ≤ length (now work)) × Reorders (now order) (length (now ys)) ⌝ }
+    requires { ⌜ Filled q (now heights) (now bounds) (now radices) (now ys) (now colours) (now work) least × Reorders (now order) (length (now ys)) ⌝ }
     requires { ⌜ (value (tableBy q (now heights) (now bounds) (now radices) (now ys) (now colours)) (capsIn (now caps)) ≡ least) × Steady (tableBy q (now heights) (now bounds) (now radices) (now ys) (now colours)) least ⌝ }
     ensures { λ _. ⌜ capsIn (now (caps .exit)) ≡ capAll (instanceBy q (now (heights .entry)) (now (bounds .entry)) (now (radices .entry)) (now (ys .entry)) (now (colours .entry)) (now (ranks .entry))) least (length (now (ys .entry))) (capsIn (now (caps .entry))) ⌝ }
     ensures { λ _. ⌜ (Low (now (caps .entry)) → Low (now (caps .exit))) ⌝ }
-    ensures { λ _. ⌜ drop (tableWords q (now (heights .entry))) (now (work .exit)) ≡ drop (tableWords q (now (heights .entry))) (now (work .entry)) ⌝ }
 {
     let m = heights.len();
     let mut labels = [0u32; 48];

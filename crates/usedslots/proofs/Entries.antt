@@ -1,16 +1,18 @@
 -- The table's entries: rows that are stored, and what is right then. Assumes nothing.
 use mathlib.Core.Path.{_≡_, _∙_}
+use mathlib.Core.Logic.{_≢_}
 use mathlib.Core.List.{List}
 use Prim.Native.Nat.{ℕ, suc, _+_, _*_, _-_, _≤_, _<_}
 use native.Mathlib.Nat.{mul-le-mul-right}
 use native.Mathlib.Omega.{arith}
 use lib.ListN.{getD}
+use borrow.Author.Tests.{eq-eqb, ne-eqb}
 use Rattle.lists.proofs.Tests.{by-equal}
 use Rattle.optimum.specs.UsedSlots.{Instance, T}
 use Rattle.optimum.specs.Rows.{cell}
 use Rattle.optimum.proofs.Rows.{cell-apart}
 use Rattle.links.specs.Rows.{Stored}
-use Rattle.usedslots.specs.Table.{RightFrom, RightTo, RowOf}
+use Rattle.usedslots.specs.Table.{firstCode, lastCode, RightFrom, RightTo, RowOf}
 
 -- ---- the rows of a place, code by code
 
@@ -56,3 +58,29 @@ pub right-root : (G : Instance) (fx : ℕ → ℕ) (P : ℕ) (w : List ℕ) → 
 right-root G fx P w p r =
     let z : cell (G .colours) P 0 0 (P - 1) ≡ P - 1 = omega arith in
     rw z at (r .here 0 (P - 1) (omega arith) (omega arith) (omega arith))
+
+-- ---- each place in its turn
+
+module _ (colours a first last : ℕ) (first-is : first ≡ firstCode a) (last-is : last ≡ lastCode colours a) where
+  pub codes-top : a ≡ 0 → (first ≡ 0) × (last ≡ 0)
+  codes-top e = (rw (eq-eqb a 0 e) at first-is, rw (eq-eqb a 0 e) at last-is)
+
+  pub codes-slot : a ≢ 0 → (first ≡ 1) × (last ≡ colours)
+  codes-slot e = (rw (ne-eqb a 0 e) at first-is, rw (ne-eqb a 0 e) at last-is)
+
+  pub codes-in : (first ≤ suc last) × (last ≤ colours) × (first ≤ 1)
+  codes-in = by-equal a 0 (λ e. let k = codes-top e in (omega arith, omega arith, omega arith)) (λ e. let k = codes-slot e in (omega arith, omega arith, omega arith))
+
+-- the entries from the place next to be done on are right, at the end all are
+pub right-next : (G : Instance) (fx : ℕ → ℕ) (P : ℕ) (w : List ℕ) (a first last : ℕ) → first ≡ firstCode a → last ≡ lastCode (G .colours) a →
+    RightTo G fx w P a first (suc last) → RightFrom G fx w P (suc (a - 1)) × (a ≡ 0 → RightTo G fx w P 0 0 1)
+right-next G fx P w a first last f l r =
+    by-equal a 0
+    (λ e.
+    let k = codes-top (G .colours) a first last f l e in
+    let t : RightTo G fx w P 0 0 1 = rw (e, k .0, k .1) at r in
+    (rw e (t .below), λ q. t))
+    (λ e.
+    let k = codes-slot (G .colours) a first last f l e in
+    let q : suc (a - 1) ≡ a = omega (arith, e) in
+    (rw q (right-all G fx P a w (rw (k .0, k .1) at r)), λ z. absurd (e z)))

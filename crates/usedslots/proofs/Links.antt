@@ -25,7 +25,7 @@ use Rattle.bands.specs.Bands.{Lost, Barred}
 use Rattle.stripcosts.specs.Costs.{upperAt, lowerAt, stripOf}
 use Rattle.links.specs.Rows.{linked, Blocks, sizeOf}
 use Rattle.usedslots.specs.Table.{none, tableBy, capsIn, Fits, tableWords, RightFrom, RowTo, RowOf}
-use Rattle.bands.proofs.Bands.{lost-down}
+use Rattle.bands.proofs.Lost as lost
 use Rattle.stripcosts.proofs.Costs.{lost-strip}
 use Rattle.usedslots.proofs.Strips.{strip-is}
 
@@ -196,44 +196,25 @@ module _ (q : Measures) (hs bs rs ds ys cs caps : List ℕ) (f : Fits q hs bs rs
   abbrev H : Instance
   H = tableBy q hs bs rs ys cs
 
-  -- so many colours at a slot
-  pub colours-lost : (row : List ℕ) (j d n : ℕ) → d + n ≤ q .colours → ((e : ℕ) → d ≤ e → e < d + n → Lost hs ys cs a ca (a + j) (suc e)) →
-      RowTo H (capsIn caps) row (q .budgets) a ca j d → RowTo H (capsIn caps) row (q .budgets) a ca j (d + n)
-  colours-lost row j d zero h lost r = let e : d + 0 ≡ d = omega arith in rw e r
-  colours-lost row j d (suc n) h lost r =
-      let e : d + suc n ≡ suc (d + n) = omega arith in
-      rw e
-      (row-lost q hs bs rs ds ys cs caps f (d + n) (omega arith) a ca j row (lost-strip q hs ys cs caps a ca (a + j) (suc (d + n)) (lost (d + n) (omega arith) (omega arith)))
-      (colours-lost row j d n (omega arith) (λ z l u. lost z l (omega arith)) r))
+  abbrev R : (row : List ℕ) → (j d : ℕ) → Type 0
+  R row j d = RowTo H (capsIn caps) row (q .budgets) a ca j d
 
-  -- the same up to a colour, and from one on
-  pub colours-to : (row : List ℕ) (j d : ℕ) → d ≤ q .colours → ((e : ℕ) → e < d → Lost hs ys cs a ca (a + j) (suc e)) →
-      RowTo H (capsIn caps) row (q .budgets) a ca j 0 → RowTo H (capsIn caps) row (q .budgets) a ca j d
-  colours-to row j d h lost r =
-      let e : 0 + d ≡ d = omega arith in
-      rw e at (colours-lost row j 0 d (omega arith) (λ z l u. lost z (omega arith)) r)
+  skip-lost : (row : List ℕ) (j d : ℕ) → d < q .colours → Lost hs ys cs a ca (a + j) (suc d) → R row j d → R row j (suc d)
+  skip-lost row j d l lost r = row-lost q hs bs rs ds ys cs caps f d l a ca j row (lost-strip q hs ys cs caps a ca (a + j) (suc d) lost) r
 
-  pub colours-from : (row : List ℕ) (j d : ℕ) → d ≤ q .colours → ((e : ℕ) → d ≤ e → e < q .colours → Lost hs ys cs a ca (a + j) (suc e)) →
-      RowTo H (capsIn caps) row (q .budgets) a ca j d → RowTo H (capsIn caps) row (q .budgets) a ca (suc j) 0
-  colours-from row j d h lost r v l =
-      let e : d + (q .colours - d) ≡ q .colours = omega arith in
-      (rw e at (colours-lost row j d (q .colours - d) (omega arith) (λ z p u. lost z p (omega arith)) r v l)) ∙ sym (acc-next H (capsIn caps) a ca v j)
+  next-slot : (row : List ℕ) (j : ℕ) → R row j (q .colours) → R row (suc j) 0
+  next-slot row j r v l = r v l ∙ sym (acc-next H (capsIn caps) a ca v j)
 
-  -- all colours at so many slots
-  slots-lost : (row : List ℕ) (j n : ℕ) → a + j + n ≤ length hs → ((d : ℕ) → d < q .colours → Lost hs ys cs a ca (a + j) (suc d)) →
-      RowTo H (capsIn caps) row (q .budgets) a ca j 0 → RowTo H (capsIn caps) row (q .budgets) a ca (j + n) 0
-  slots-lost row j zero h lost r = let e : j + 0 ≡ j = omega arith in rw e r
-  slots-lost row j (suc n) h lost r =
-      let e : j + suc n ≡ suc (j + n) = omega arith in
-      rw e
-      (colours-from row (j + n) 0 (omega arith) (λ d l u. lost-down hs ys cs (f .rising) a ca (a + j) (a + (j + n)) (suc d) (omega arith) (omega arith) (lost d u))
-      (slots-lost row j n (omega arith) lost r))
+  pub colours-to : (row : List ℕ) (j d : ℕ) → d ≤ q .colours → ((e : ℕ) → e < d → Lost hs ys cs a ca (a + j) (suc e)) → R row j 0 → R row j d
+  colours-to row = lost.colours-to hs ys cs (f .rising) a ca (q .colours) (R row) (skip-lost row) (next-slot row)
 
-  pub row-ends : (row : List ℕ) (j other : ℕ) → a + j < length hs → other ≡ 255 → Barred hs ys cs a ca (a + j) other →
-      RowTo H (capsIn caps) row (q .budgets) a ca j 0 → RowOf H (capsIn caps) row (q .budgets) a ca
+  pub colours-from : (row : List ℕ) (j d : ℕ) → d ≤ q .colours → ((e : ℕ) → d ≤ e → e < q .colours → Lost hs ys cs a ca (a + j) (suc e)) → R row j d → R row (suc j) 0
+  colours-from row = lost.colours-from hs ys cs (f .rising) a ca (q .colours) (R row) (skip-lost row) (next-slot row)
+
+  pub row-ends : (row : List ℕ) (j other : ℕ) → a + j < length hs → other ≡ 255 → Barred hs ys cs a ca (a + j) other → R row j 0 → RowOf H (capsIn caps) row (q .budgets) a ca
   row-ends row j other h o b r =
-      row-whole q hs bs rs ys cs caps a ca row (j + (length hs - (a + j))) (omega arith) (omega arith)
-      (slots-lost row j (length hs - (a + j)) (omega arith) (λ d l. b d (λ z. omega arith) (λ z. omega (arith, f .few-colours))) r)
+      row-whole q hs bs rs ys cs caps a ca row (length hs - a) (omega arith) (omega arith)
+      (lost.all-lost hs ys cs (f .rising) a ca (q .colours) (R row) (skip-lost row) (next-slot row) j other (f .few-colours) h o b r)
 
 -- the colours that are not lost where one code is left: those before `last` and not before `first`
 pub colours-last : (other colours last : ℕ) → last ≡ cond (eqb other 0) colours (min other colours) →

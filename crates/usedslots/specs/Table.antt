@@ -60,6 +60,13 @@ pub record Fits (q : Measures) (hs bs rs ds ys cs caps : List ℕ) : Type 0 wher
   pub draws : (d : ℕ) → d < q .colours → getD ds d 0 ≡ cond (eqb (getD bs d 0) 255) 0 (place rs d)
   pub whole : (d : ℕ) → d < q .colours → (b : ℕ) × (q .budgets ≡ b * (place rs d * getD rs d 0))
 
+-- the codes of the labels at a place: the top edge has none, a slot one of each colour
+abbrev pub firstCode : (a : ℕ) → ℕ
+firstCode a = cond (eqb a 0) 0 1
+
+abbrev pub lastCode : (colours a : ℕ) → ℕ
+lastCode c a = cond (eqb a 0) 0 c
+
 -- words of the table
 abbrev pub tableWords : Measures → (heights : List ℕ) → ℕ
 tableWords q hs = (length hs + 2) * (q .colours + 1) * q .budgets

@@ -6,7 +6,7 @@ ghost use lib.Dec.{eqb};
 ghost use lib.ListN.{length, drop};
 ghost use Rattle.optimum.specs.UsedSlots.{value};
 ghost use Rattle.bands.specs.Bands.{Barred, Starts, Ends, Marks};
-ghost use Rattle.usedslots.specs.Table.{Fits, tableWords, tableBy, capsIn, RightFrom, RightTo, RowTo, RowOf};
+ghost use Rattle.usedslots.specs.Table.{Fits, firstCode, lastCode, tableWords, tableBy, capsIn, RightFrom, RightTo, RowTo, RowOf};
 use arrays::Measures;
 use bands::ALL_LOST;
 use bands::first_below;
@@ -75,13 +75,13 @@ fn colour_link(
 }
 
 // The first colour that is not lost, and the end of those that are not.
-fn first_colour(other: u32, colours: u32) -> u32
+pub fn first_colour(other: u32, colours: u32) -> u32
     ensures { λ r. ⌜ r ≡ min (other - 1) colours ⌝ }
 {
     lesser(monus(other, 1), colours)
 }
 
-fn end_colour(other: u32, colours: u32) -> u32
+pub fn end_colour(other: u32, colours: u32) -> u32
     ensures { λ r. ⌜ r ≡ cond (eqb other 0) colours (min other colours) ⌝ }
 {
     choose(same(other, 0), colours, lesser(other, colours))
@@ -193,6 +193,19 @@ fn table_row(
     }
 }
 
+// The codes of the labels at a place: the top edge has none, a slot one of each colour.
+pub fn first_code(a: u32) -> u32
+    ensures { λ r. ⌜ r ≡ firstCode a ⌝ }
+{
+    choose(same(a, 0), 0, 1)
+}
+
+pub fn last_code(a: u32, colours: u32) -> u32
+    ensures { λ r. ⌜ r ≡ lastCode colours a ⌝ }
+{
+    choose(same(a, 0), 0, colours)
+}
+
 // The rows of a place, of a label of each code from the first to the last.
 fn fill_place(
     q: Measures,
@@ -242,46 +255,6 @@ fn fill_place(
     }
 }
 
-fn fill(
-    q: Measures,
-    heights: &[u32],
-    bounds: &[u32],
-    radices: &[u32],
-    draws: &[u32],
-    ys: &[u32],
-    colours: &[u32],
-    caps: &[u32],
-    bands: &[u32],
-    ends: &[u32],
-    work: &mut [u32],
-)
-    requires { ⌜ Fits q (now heights) (now bounds) (now radices) (now draws) (now ys) (now colours) (now caps) ⌝ }
-    requires { ⌜ (tableWords q (now heights) ≤ length (now work)) × Marks (now heights) (now ys) (now colours) (now bands) (now ends) (length (now heights)) ⌝ }
-    ensures { λ _. ⌜ RightFrom (tableBy q (now (heights .entry)) (now (bounds .entry)) (now (radices .entry)) (now (ys .entry)) (now (colours .entry))) (capsIn (now (caps .entry))) (now (work .exit)) (q .budgets) 1 ⌝ }
-    ensures { λ _. ⌜ drop (tableWords q (now (heights .entry))) (now (work .exit)) ≡ drop (tableWords q (now (heights .entry))) (now (work .entry)) ⌝ }
-{
-    let mut a = heights.len() as u32;
-    while a > 0 {
-        fill_place(
-            q,
-            heights,
-            bounds,
-            radices,
-            draws,
-            ys,
-            colours,
-            caps,
-            bands,
-            ends,
-            work,
-            a,
-            1,
-            q.colours,
-        );
-        a -= 1;
-    }
-}
-
 // The least cost of a layout within the caps, the slots marked.
 fn value_marked(
     q: Measures,
@@ -299,37 +272,29 @@ fn value_marked(
     requires { ⌜ Fits q (now heights) (now bounds) (now radices) (now draws) (now ys) (now colours) (now caps) ⌝ }
     requires { ⌜ (tableWords q (now heights) ≤ length (now work)) × Marks (now heights) (now ys) (now colours) (now bands) (now ends) (length (now heights)) ⌝ }
     ensures { λ r. ⌜ r ≡ value (tableBy q (now (heights .entry)) (now (bounds .entry)) (now (radices .entry)) (now (ys .entry)) (now (colours .entry))) (capsIn (now (caps .entry))) ⌝ }
+    ensures { λ _. ⌜ RightTo (tableBy q (now (heights .entry)) (now (bounds .entry)) (now (radices .entry)) (now (ys .entry)) (now (colours .entry))) (capsIn (now (caps .entry))) (now (work .exit)) (q .budgets) 0 0 1 ⌝ }
     ensures { λ _. ⌜ drop (tableWords q (now (heights .entry))) (now (work .exit)) ≡ drop (tableWords q (now (heights .entry))) (now (work .entry)) ⌝ }
 {
-    fill(
-        q,
-        heights,
-        bounds,
-        radices,
-        draws,
-        ys,
-        colours,
-        caps,
-        bands,
-        ends,
-        work,
-    );
-    fill_place(
-        q,
-        heights,
-        bounds,
-        radices,
-        draws,
-        ys,
-        colours,
-        caps,
-        bands,
-        ends,
-        work,
-        0,
-        0,
-        0,
-    );
+    let mut a = heights.len() as u32 + 1;
+    while a > 0 {
+        a -= 1;
+        fill_place(
+            q,
+            heights,
+            bounds,
+            radices,
+            draws,
+            ys,
+            colours,
+            caps,
+            bands,
+            ends,
+            work,
+            a,
+            first_code(a),
+            last_code(a, q.colours),
+        );
+    }
     let all = (q.budgets - 1) as usize;
     work[all]
 }
@@ -349,6 +314,7 @@ pub fn value_of(
     requires { ⌜ Fits q (now heights) (now bounds) (now radices) (now draws) (now ys) (now colours) (now caps) ⌝ }
     requires { ⌜ tableWords q (now heights) ≤ length (now work) ⌝ }
     ensures { λ r. ⌜ r ≡ value (tableBy q (now (heights .entry)) (now (bounds .entry)) (now (radices .entry)) (now (ys .entry)) (now (colours .entry))) (capsIn (now (caps .entry))) ⌝ }
+    ensures { λ _. ⌜ RightTo (tableBy q (now (heights .entry)) (now (bounds .entry)) (now (radices .entry)) (now (ys .entry)) (now (colours .entry))) (capsIn (now (caps .entry))) (now (work .exit)) (q .budgets) 0 0 1 ⌝ }
     ensures { λ _. ⌜ drop (tableWords q (now (heights .entry))) (now (work .exit)) ≡ drop (tableWords q (now (heights .entry))) (now (work .entry)) ⌝ }
 {
     let mut bands = [0u32; 48];

@@ -3,11 +3,11 @@
 //!
 //! The benchmark times the library against this. Both read the sheet with all refusals, keep the table in the
 //! caller's work words, drop the bounds that can't bind, sort the sites by y, so that those of a strip stand side by
-//! side, fill the table once for the least cost, read the labels of a cheapest layout off it, lower each site's cap to
-//! its slot there, which keeps the least cost, fill the table again for the slot before, and by halving where that one
-//! keeps it too, pass over a strip that has a site of a third colour, go through budgets block by block, and leave all
-//! work words zero. What is this one's own: a strip's sites are known to stand side by side, so none of them is tested
-//! for lying in it.
+//! side, fill the table once, read the labels of a cheapest layout off it, lower each site's cap to its slot there,
+//! which keeps the least cost, and test the slot before, or by halving where that one keeps it too. A test marks, from
+//! the top edge down, the entries that layouts of the least cost within the caps come to. Both pass over a strip that
+//! has a site of a third colour, go through budgets block by block, and leave all work words zero. What is this one's
+//! own: a strip's sites are known to stand side by side, so none of them is tested for lying in it.
 
 use crate::budgets::Budgets;
 use crate::costs::{Aim, NONE};
@@ -51,10 +51,11 @@ pub fn best(sheet: &Sheet, order: &[usize], work: &mut [u32]) -> Option<(u32, [u
         return None;
     }
     maker.trace(work);
+    let mut marks = vec![0; maker.row(maker.bottom + 1, 0)];
     let mut slots = [0; MOST_SITES];
     for (rank, site) in order.iter().enumerate() {
         let index = by_y.iter().position(|other| other == site).unwrap_or(0);
-        slots[rank] = maker.lower_cap(index, least, work) as u8 - 1;
+        slots[rank] = maker.lower_cap(index, least, work, &mut marks) as u8 - 1;
     }
     Some((maker.aim.stated(least), slots))
 }
@@ -87,13 +88,13 @@ impl<'a> Maker<'a> {
     }
 
     /// Lowers a site's cap as far as the least cost allows. The cost falls as a cap rises.
-    fn lower_cap(&mut self, index: usize, least: u32, work: &mut [u32]) -> usize {
+    fn lower_cap(&mut self, index: usize, least: u32, work: &[u32], marks: &mut [u8]) -> usize {
         let mut low = 1;
         let mut high = self.lower_by_labels(index, self.bottom - 1, least);
         let mut probe = high - 1;
         while low < high {
             self.sites[index].cap = probe;
-            if self.fill(work) == least {
+            if self.keeps(work, marks) {
                 self.trace(work);
                 high = self.lower_by_labels(index, probe, least);
             } else {
@@ -180,17 +181,79 @@ impl<'a> Maker<'a> {
                 if self.budgets.allowing[colour - 1] >> budget & 1 == 0 {
                     continue;
                 }
-                let strip = self.strip_cost(above, above_colour, below, colour);
-                if strip == NONE {
+                let next = work[self.row(below, colour) + budget - self.budgets.draw[colour - 1]].saturating_add(label);
+                if next > cost {
                     continue;
                 }
-                let next = work[self.row(below, colour) + budget - self.budgets.draw[colour - 1]];
-                if next.saturating_add(strip + label) == cost {
+                let strip = self.strip_cost(above, above_colour, below, colour);
+                if next.saturating_add(strip) == cost {
                     return Some((below, colour));
                 }
             }
         }
         None
+    }
+
+    /// Whether a layout of the least cost keeps within the caps. The table has the costs without caps.
+    fn keeps(&self, work: &[u32], marks: &mut [u8]) -> bool {
+        marks.fill(0);
+        marks[self.budgets.count - 1] = 1;
+        for above in 0..self.bottom {
+            let colours = if above == 0 { 0..1 } else { 1..self.colours };
+            for colour in colours {
+                let row = self.row(above, colour)..self.row(above, colour) + self.budgets.count;
+                if marks[row.clone()].iter().all(|mark| *mark == 0) {
+                    continue;
+                }
+                let last = self.strip_cost(above, colour, self.bottom, 0);
+                if marks[row.clone()].iter().zip(&work[row]).any(|(mark, cost)| *mark != 0 && *cost == last) {
+                    return true;
+                }
+                self.mark_below(above, colour, work, marks);
+            }
+        }
+        false
+    }
+
+    /// Passes the marks of a row on to each label that may come next below.
+    fn mark_below(&self, above: usize, above_colour: usize, work: &[u32], marks: &mut [u8]) {
+        let label = self.aim.cost(1, self.sheet.width);
+        let own = self.row(above, above_colour);
+        let (upper, lower) = marks.split_at_mut(self.row(above + 1, 0));
+        let mut other = 0;
+        for below in above + 1..self.bottom {
+            other = self.other_colour(other, above_colour, below);
+            if other == SEVERAL {
+                return;
+            }
+            if self.heights[below] - self.heights[above] < self.sheet.gap as i32 {
+                continue;
+            }
+            let below_colours = if other == 0 { 1..self.colours } else { other..other + 1 };
+            for below_colour in below_colours {
+                let strip = self.strip_cost(above, above_colour, below, below_colour);
+                if strip == NONE {
+                    continue;
+                }
+                let to = self.row(below - above - 1, below_colour);
+                let next = &work[self.row(below, below_colour)..];
+                self.mark_row(&upper[own..], &mut lower[to..], &work[own..], next, strip + label, below_colour - 1);
+            }
+        }
+    }
+
+    /// An entry of the lower row is marked where that of the upper row is and their costs agree.
+    fn mark_row(&self, upper: &[u8], lower: &mut [u8], costs: &[u32], next: &[u32], step: u32, colour: usize) {
+        let (draw, block) = (self.budgets.draw[colour], self.budgets.block[colour]);
+        for start in (0..self.budgets.count).step_by(block) {
+            let from = start + draw..start + block;
+            let to = start..start + block - draw;
+            let upper = upper[from.clone()].iter().zip(&costs[from]);
+            let lower = lower[to.clone()].iter_mut().zip(&next[to]);
+            for ((mark, cost), (set, below)) in upper.zip(lower) {
+                *set |= mark & u8::from(*cost == below.saturating_add(step));
+            }
+        }
     }
 
     fn row(&self, place: usize, colour: usize) -> usize {

@@ -1,4 +1,4 @@
-use Rattle.byheight.proofs.Sites.{fits-same, value-same}
+use Rattle.byheight.proofs.Sites.{fits-same, value-same, right-back}
 use mathlib.Core.Path.{_∙_}
 use Prim.Native.Nat.{_-_}
 use borrow.Author.Needs.{needs}
@@ -43,7 +43,10 @@ same-length-4 c = search needs
 returns : tie.Need-returns
 returns c =
     let a = c .before .before .before .before .before .before .before .before .before .before .before .before .before .before .before .before .before .before .before .before .before .before .before .before .before .before .before .before .before .before .before .args in let p = c .before .before .before .before .before .before .before .before .before .before .before .before .before .before .before .before .before .before .before .before .before .before .before .before .before .before .before .before .before .before .before .pre in let v = c .before .before .value-of in
-    ((rw (c .before .before .before .before .before .before .before .before .before .before .before .before .before .before .before .before .before .take-words .ensures, c .before .before .before .before .before .before .before .before .before .before .before .before .before .take-words2 .ensures, c .before .before .before .before .before .before .before .before .before .take-words3 .ensures) at (v .ensures .0)) ∙ value-same (a .q) (a .heights .now) (a .bounds .now) (a .radices .now) (a .draws .now) (a .ys .now) (a .colours .now) (a .caps .now) (a .order .now) (p .1 .0), v .ensures .1)
+    let y = c .before .before .before .before .before .before .before .before .before .before .before .before .before .before .before .before .before .take-words .ensures in let z = c .before .before .before .before .before .before .before .before .before .before .before .before .before .take-words2 .ensures in let k = c .before .before .before .before .before .before .before .before .before .take-words3 .ensures in (
+      (rw (y, z, k) at (v .ensures .0)) ∙ value-same (a .q) (a .heights .now) (a .bounds .now) (a .radices .now) (a .draws .now) (a .ys .now) (a .colours .now) (a .caps .now) (a .order .now) (p .1 .0),
+      (right-back (a .q) (a .heights .now) (a .bounds .now) (a .radices .now) (a .draws .now) (a .ys .now) (a .colours .now) (a .caps .now) (a .order .now) (p .1 .0) _ 0 0 1 (rw (y, z, k) at (v .ensures .1 .0)), v .ensures .1 .1),
+    )
 
 pub value-ordered-spec : {M : Type 1} → statement M
 value-ordered-spec =

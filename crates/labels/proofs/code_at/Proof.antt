@@ -9,49 +9,37 @@ Inv-loop q heights bounds radices draws ys colours caps work s k least d₀ d = 
 abbrev μ-loop : tie.MeasureT-loop
 μ-loop q heights bounds radices draws ys colours caps work s k least d₀ d = q .colours - d
 
--- src/lib.rt:219:5
+-- src/lib.rt:266:5
 loop-holds : tie.Need-loop-holds Inv-loop μ-loop
 loop-holds c = search needs
 
--- src/lib.rt:220:13
-with-label-requires : tie.Need-with-label-requires Inv-loop μ-loop
-with-label-requires c κs = search needs
+-- src/lib.rt:267:12
+is-next-requires : tie.Need-is-next-requires Inv-loop μ-loop
+is-next-requires c κs = search needs
 
--- src/lib.rt:233:29
-add-goes-on : tie.Need-add-goes-on Inv-loop μ-loop
-add-goes-on c = search needs
-
--- src/lib.rt:233:36
-add-goes-on-2 : tie.Need-add-goes-on-2 Inv-loop μ-loop
-add-goes-on-2 c = search needs
-
--- src/lib.rt:233:12
-goes-on-requires : tie.Need-goes-on-requires Inv-loop μ-loop
-goes-on-requires c κs = search needs
-
--- src/lib.rt:234:20
+-- src/lib.rt:282:20
 add-result : tie.Need-add-result Inv-loop μ-loop
 add-result c = search needs
 
--- src/lib.rt:234:13
+-- src/lib.rt:282:13
 returns : tie.Need-returns Inv-loop μ-loop
 returns c =
     tt
 
--- src/lib.rt:236:9
+-- src/lib.rt:284:9
 add-d : tie.Need-add-d Inv-loop μ-loop
 add-d c = search needs
 
--- src/lib.rt:219:5
+-- src/lib.rt:266:5
 loop-less : tie.Need-loop-less Inv-loop μ-loop
 loop-less c = search needs
 
--- src/lib.rt:219:5
+-- src/lib.rt:266:5
 loop-again : tie.Need-loop-again Inv-loop μ-loop
 loop-again c =
     tt
 
--- src/lib.rt:201:1
+-- src/lib.rt:248:1
 returns-2 : tie.Need-returns-2 Inv-loop μ-loop
 returns-2 c =
     tt
@@ -63,10 +51,7 @@ code-at-spec =
     Inv-loop
     μ-loop
     loop-holds
-    with-label-requires
-    add-goes-on
-    add-goes-on-2
-    goes-on-requires
+    is-next-requires
     add-result
     returns
     add-d

@@ -1,117 +1,105 @@
 use Rattle.optimum.specs.UsedSlots.{Instance, value, capAll}
-use Rattle.usedslots.specs.Table.{instanceBy, tableBy, capsIn, tableWords}
+use Rattle.usedslots.specs.Table.{instanceBy, tableBy, capsIn}
 use Rattle.twosided.specs.Caps.{Low}
 use Rattle.twosided.proofs.Caps.{fits-set, caps-done, caps-step, site-free, narrowed-keeps}
 use mathlib.Core.Path.{_≡_, refl, ap, sym, _∙_}
 use Prim.Native.Nat.{ℕ, suc, _-_}
 use native.Mathlib.Omega.{arith}
-use lib.ListN.{length, drop}
+use lib.ListN.{length}
 use borrow.Author.Needs.{needs}
 use Rattle.twosided.proofs.cap_all.Statement.{statement}
 use Rattle.twosided.proofs.cap_all.Tie as tie
 
 abbrev Inv-loop : tie.InvT-loop
-Inv-loop q heights bounds radices draws ys colours order ranks caps₀ work₀ labels₀ least left₀ caps work labels left = (length caps ≡ length caps₀) × (length work ≡ length work₀) × (length labels ≡ length heights) × (capAll (instanceBy q heights bounds radices ys colours ranks) least (length ys) (capsIn caps₀) ≡ capAll (instanceBy q heights bounds radices ys colours ranks) least left (capsIn caps)) × (value (tableBy q heights bounds radices ys colours) (capsIn caps) ≡ least) × (Low caps₀ → Low caps) × (drop (tableWords q heights) work ≡ drop (tableWords q heights) work₀)
+Inv-loop q heights bounds radices draws ys colours order ranks caps₀ work labels₀ least left₀ caps labels left = (length caps ≡ length caps₀) × (length labels ≡ length heights) × (capAll (instanceBy q heights bounds radices ys colours ranks) least (length ys) (capsIn caps₀) ≡ capAll (instanceBy q heights bounds radices ys colours ranks) least left (capsIn caps)) × (value (tableBy q heights bounds radices ys colours) (capsIn caps) ≡ least) × (Low caps₀ → Low caps)
 
 abbrev μ-loop : tie.MeasureT-loop
-μ-loop q heights bounds radices draws ys colours order ranks caps₀ work₀ labels₀ least left₀ caps work labels left = left
+μ-loop q heights bounds radices draws ys colours order ranks caps₀ work labels₀ least left₀ caps labels left = left
 
--- src/lib.rt:302:5
+-- src/lib.rt:321:5
 loop-holds : tie.Need-loop-holds Inv-loop μ-loop
 loop-holds c =
     let p = c .before .before .before .before .before .before .before .before .before .before .before .pre in
-    (refl, refl, p .1 .0 .1, rw (p .0 .caps-long), p .1 .1 .0, (λ h. h), refl)
+    (refl, p .1 .0 .1, rw (p .0 .caps-long), p .1 .1 .0, λ h. h)
 
--- src/lib.rt:303:20
+-- src/lib.rt:322:20
 leftmost-requires : tie.Need-leftmost-requires Inv-loop μ-loop
 leftmost-requires c κs =
     let p = c .before .before .before .before .before .before .before .before .before .before .before .before .before .before .pre in
     omega (arith, p .0 .few-sites, p .0 .caps-long, c .before .before .loop .inv .0)
 
--- src/lib.rt:303:20
+-- src/lib.rt:322:20
 cast-site : tie.Need-cast-site Inv-loop μ-loop
 cast-site c = search needs
 
--- src/lib.rt:305:13
+-- src/lib.rt:324:13
 same-length : tie.Need-same-length Inv-loop μ-loop
 same-length c =
     c .before .before .before .before .loop .inv .0
 
--- src/lib.rt:305:13
+-- src/lib.rt:324:13
 same-length-2 : tie.Need-same-length-2 Inv-loop μ-loop
 same-length-2 c =
-    c .before .before .before .before .loop .inv .1
+    c .before .before .before .before .loop .inv .1 ∙ sym (c .before .before .before .before .before .before .before .before .before .before .before .before .before .before .before .before .pre .1 .0 .1)
 
--- src/lib.rt:305:13
-same-length-3 : tie.Need-same-length-3 Inv-loop μ-loop
-same-length-3 c =
-    c .before .before .before .before .loop .inv .2 ∙ sym (c .before .before .before .before .before .before .before .before .before .before .before .before .before .before .before .before .pre .1 .0 .1)
-
--- src/lib.rt:305:13
+-- src/lib.rt:324:13
 returns : tie.Need-returns Inv-loop μ-loop
 returns c =
     let a = c .before .before .before .before .before .before .before .before .before .before .before .before .before .before .before .before .args in let p = c .before .before .before .before .before .before .before .before .before .before .before .before .before .before .before .before .pre in let l = c .before .before .before .before .loop in let k = c .before .leftmost in
-    (sym (l .inv .3 ∙ caps-done (a .q) (a .heights .now) (a .bounds .now) (a .radices .now) (a .ys .now) (a .colours .now) (a .ranks .now) (a .least) (l .caps) (l .left) (k .result) (k .ensures) (l .inv .0 ∙ p .0 .caps-long) (c .if1 .taken)), (l .inv .5, l .inv .6))
+    (sym (l .inv .2 ∙ caps-done (a .q) (a .heights .now) (a .bounds .now) (a .radices .now) (a .ys .now) (a .colours .now) (a .ranks .now) (a .least) (l .caps) (l .left) (k .result) (k .ensures) (l .inv .0 ∙ p .0 .caps-long) (c .if1 .taken)), l .inv .4)
 
--- src/lib.rt:307:9
+-- src/lib.rt:326:9
 cap-site-requires : tie.Need-cap-site-requires Inv-loop μ-loop
 cap-site-requires c κs =
-    let a = c .before .before .before .before .before .before .before .before .before .before .before .before .before .before .before .before .before .before .before .args in let p = c .before .before .before .before .before .before .before .before .before .before .before .before .before .before .before .before .before .before .before .pre in let l = c .before .before .before .before .before .before .before .loop in let k = c .before .before .before .before .leftmost in (
+    let a = c .before .before .before .before .before .before .before .before .before .before .before .before .before .before .before .before .before .before .args in let p = c .before .before .before .before .before .before .before .before .before .before .before .before .before .before .before .before .before .before .pre in let l = c .before .before .before .before .before .before .loop in let k = c .before .before .before .leftmost in (
       fits-set (a .q) (a .heights .now) (a .bounds .now) (a .radices .now) (a .draws .now) (a .ys .now) (a .colours .now) (a .caps .now) (l .caps) (l .inv .0) (p .0),
       (
-        (omega (arith, p .1 .0, l .inv .1), l .inv .2, c .before .before .before .if1 .left, site-free (a .q) (a .heights .now) (a .bounds .now) (a .radices .now) (a .ys .now) (a .colours .now) (a .ranks .now) (a .least) (l .caps) (k .result) (k .ensures) (l .inv .0 ∙ p .0 .caps-long) (c .before .before .before .if1 .left), p .1 .0 .2),
-        (l .inv .4, p .1 .1 .1),
+        (p .1 .0 .0, l .inv .1, c .before .before .if1 .left, site-free (a .q) (a .heights .now) (a .bounds .now) (a .radices .now) (a .ys .now) (a .colours .now) (a .ranks .now) (a .least) (l .caps) (k .result) (k .ensures) (l .inv .0 ∙ p .0 .caps-long) (c .before .before .if1 .left), p .1 .0 .2),
+        (l .inv .3, p .1 .1 .1),
       ),
     )
 
--- src/lib.rt:321:9
+-- src/lib.rt:341:9
 sub-left : tie.Need-sub-left Inv-loop μ-loop
 sub-left c = search needs
 
--- src/lib.rt:302:5
+-- src/lib.rt:321:5
 loop-less : tie.Need-loop-less Inv-loop μ-loop
 loop-less c = search needs
 
--- src/lib.rt:302:5
+-- src/lib.rt:321:5
 loop-again : tie.Need-loop-again Inv-loop μ-loop
 loop-again c =
-    let a = c .before .before .before .before .before .before .before .before .before .before .before .before .before .before .before .before .before .before .before .before .before .before .before .before .before .before .args in let p = c .before .before .before .before .before .before .before .before .before .before .before .before .before .before .before .before .before .before .before .before .before .before .before .before .before .before .pre in let l = c .before .before .before .before .before .before .before .before .before .before .before .before .before .before .loop in let k = c .before .before .before .before .before .before .cap-site in let s = c .before .before .before .before .before .before .before .before .before .before .before .leftmost in
+    let a = c .before .before .before .before .before .before .before .before .before .before .before .before .before .before .before .before .before .before .before .before .before .before .before .args in let p = c .before .before .before .before .before .before .before .before .before .before .before .before .before .before .before .before .before .before .before .before .before .before .before .pre in let l = c .before .before .before .before .before .before .before .before .before .before .before .loop in let k = c .before .before .before .before .cap-site in let s = c .before .before .before .before .before .before .before .before .leftmost in
     let G : Instance = tableBy (a .q) (a .heights .now) (a .bounds .now) (a .radices .now) (a .ys .now) (a .colours .now) in
-    let z : l .left ≡ suc (l .left - 1) = omega (arith, c .before .before .before .before .before .before .before .before .before .before .before .before .before .loop-test .taken) in
+    let z : l .left ≡ suc (l .left - 1) = omega (arith, c .before .before .before .before .before .before .before .before .before .before .loop-test .taken) in
     let n : length (l .caps) ≡ length (a .ys .now) = l .inv .0 ∙ p .0 .caps-long in
     let new = k .last .1 .1 .1 .1 .1 .1 .1 .1 .0 in (
       k .kept .1 .1 .1 .1 .1 .1 .1 .1 .0 ∙ l .inv .0,
-      k .kept .1 .1 .1 .1 .1 .1 .1 .1 .1 .0 ∙ l .inv .1,
-      k .kept .1 .1 .1 .1 .1 .1 .1 .1 .1 .1 .0 ∙ l .inv .2,
-      l .inv .3 ∙ ap (λ (f : ℕ). capAll (instanceBy (a .q) (a .heights .now) (a .bounds .now) (a .radices .now) (a .ys .now) (a .colours .now) (a .ranks .now)) (a .least) f (capsIn (l .caps))) z ∙
-          caps-step (a .q) (a .heights .now) (a .bounds .now) (a .radices .now) (a .ys .now) (a .colours .now) (a .ranks .now) (a .least) (l .caps) new (l .left - 1) (s .result) (s .ensures) n (c .before .before .before .before .before .before .before .before .before .before .if1 .left) (k .ensures .0),
+      k .kept .1 .1 .1 .1 .1 .1 .1 .1 .1 .1 .0 ∙ l .inv .1,
+      l .inv .2 ∙ ap (λ (f : ℕ). capAll (instanceBy (a .q) (a .heights .now) (a .bounds .now) (a .radices .now) (a .ys .now) (a .colours .now) (a .ranks .now)) (a .least) f (capsIn (l .caps))) z ∙
+          caps-step (a .q) (a .heights .now) (a .bounds .now) (a .radices .now) (a .ys .now) (a .colours .now) (a .ranks .now) (a .least) (l .caps) new (l .left - 1) (s .result) (s .ensures) n (c .before .before .before .before .before .before .before .if1 .left) (k .ensures .0),
       narrowed-keeps G (a .least) (p .1 .1 .1) (l .caps) (s .result)
-          (record { inside = c .before .before .before .before .before .before .before .before .before .before .if1 .left; long = n; free = site-free (a .q) (a .heights .now) (a .bounds .now) (a .radices .now) (a .ys .now) (a .colours .now) (a .ranks .now) (a .least) (l .caps) (s .result) (s .ensures) n (c .before .before .before .before .before .before .before .before .before .before .if1 .left); least = l .inv .4 }) new (k .ensures .0),
-      (λ h. k .ensures .1 .0 (l .inv .5 h)),
-      k .ensures .1 .1 ∙ l .inv .6,
+          (record { inside = c .before .before .before .before .before .before .before .if1 .left; long = n; free = site-free (a .q) (a .heights .now) (a .bounds .now) (a .radices .now) (a .ys .now) (a .colours .now) (a .ranks .now) (a .least) (l .caps) (s .result) (s .ensures) n (c .before .before .before .before .before .before .before .if1 .left); least = l .inv .3 }) new (k .ensures .0),
+      (λ h. k .ensures .1 (l .inv .4 h)),
     )
 
--- src/lib.rt:280:1
-same-length-4 : tie.Need-same-length-4 Inv-loop μ-loop
-same-length-4 c =
+-- src/lib.rt:299:1
+same-length-3 : tie.Need-same-length-3 Inv-loop μ-loop
+same-length-3 c =
     c .before .loop .inv .0
 
--- src/lib.rt:280:1
-same-length-5 : tie.Need-same-length-5 Inv-loop μ-loop
-same-length-5 c =
-    c .before .loop .inv .1
+-- src/lib.rt:299:1
+same-length-4 : tie.Need-same-length-4 Inv-loop μ-loop
+same-length-4 c =
+    c .before .loop .inv .1 ∙ sym (c .before .before .before .before .before .before .before .before .before .before .before .before .before .pre .1 .0 .1)
 
--- src/lib.rt:280:1
-same-length-6 : tie.Need-same-length-6 Inv-loop μ-loop
-same-length-6 c =
-    c .before .loop .inv .2 ∙ sym (c .before .before .before .before .before .before .before .before .before .before .before .before .before .pre .1 .0 .1)
-
--- src/lib.rt:280:1
+-- src/lib.rt:299:1
 returns-2 : tie.Need-returns-2 Inv-loop μ-loop
 unfolding capAll
 returns-2 c =
     let l = c .before .loop in let e : l .left ≡ 0 = omega arith in
-    (sym (rw e at (l .inv .3)), (l .inv .5, l .inv .6))
+    (sym (rw e at (l .inv .2)), l .inv .4)
 
 pub cap-all-spec : {M : Type 1} → statement M
 cap-all-spec =
@@ -124,13 +112,11 @@ cap-all-spec =
     cast-site
     same-length
     same-length-2
-    same-length-3
     returns
     cap-site-requires
     sub-left
     loop-less
     loop-again
+    same-length-3
     same-length-4
-    same-length-5
-    same-length-6
     returns-2)

@@ -1,37 +1,32 @@
-use lib.ListN.{replicate, length-replicate}
+use lib.ListN.{replicate, length-replicate, length}
 use lib.Seq.{length-take-le}
 use mathlib.Core.Path.{sym}
 use Prim.Native.Nat.{ℕ, _-_}
 use native.Mathlib.Omega.{arith}
-use lib.ListN.{length}
 use borrow.Author.Needs.{needs}
 use Rattle.twosided.proofs.cap_sites.Statement.{statement}
 use Rattle.twosided.proofs.cap_sites.Tie as tie
 
--- src/lib.rt:410:9
+-- src/lib.rt:432:9
 array-borrow-prefix-labels : tie.Need-array-borrow-prefix-labels
 array-borrow-prefix-labels c = search needs
 
--- src/lib.rt:410:9
+-- src/lib.rt:432:9
 slice-aggregate-cap-traced : tie.Need-slice-aggregate-cap-traced
 slice-aggregate-cap-traced c =
-    sym (length-take-le (length (c .before .before .before .before .before .before .before .before .before .before .before .before .before .args .heights .now)) (replicate {A = ℕ} 48 0) (omega (arith, length-replicate {A = ℕ} 48 0, c .before .before .before .before .before .before .before .before .before .before .before .before .before .pre .0 .few-slots)))
+    sym (length-take-le (length (c .before .before .before .before .before .before .before .before .before .before .before .before .args .heights .now)) (replicate {A = ℕ} 48 0) (omega (arith, length-replicate {A = ℕ} 48 0, c .before .before .before .before .before .before .before .before .before .before .before .before .pre .0 .few-slots)))
 
--- src/lib.rt:399:5
+-- src/lib.rt:420:5
 cap-traced-requires : tie.Need-cap-traced-requires
 cap-traced-requires c κs =
-    let p = c .before .before .before .before .before .before .before .before .before .before .before .before .before .pre in
-    (p .0, ((p .1 .0 .0, length-take-le (length (c .before .before .before .before .before .before .before .before .before .before .before .before .before .args .heights .now)) (replicate {A = ℕ} 48 0) (omega (arith, length-replicate {A = ℕ} 48 0, p .0 .few-slots)), p .1 .0 .1), p .1 .1))
+    let p = c .before .before .before .before .before .before .before .before .before .before .before .before .pre in
+    (p .0, ((p .1 .0 .0, length-take-le (length (c .before .before .before .before .before .before .before .before .before .before .before .before .args .heights .now)) (replicate {A = ℕ} 48 0) (omega (arith, length-replicate {A = ℕ} 48 0, p .0 .few-slots)), p .1 .0 .1), p .1 .1))
 
--- src/lib.rt:377:1
+-- src/lib.rt:398:1
 same-length : tie.Need-same-length
 same-length c = search needs
 
--- src/lib.rt:377:1
-same-length-2 : tie.Need-same-length-2
-same-length-2 c = search needs
-
--- src/lib.rt:377:1
+-- src/lib.rt:398:1
 returns : tie.Need-returns
 returns c = search needs
 
@@ -43,5 +38,4 @@ cap-sites-spec =
     slice-aggregate-cap-traced
     cap-traced-requires
     same-length
-    same-length-2
     returns)

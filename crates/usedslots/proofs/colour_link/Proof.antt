@@ -1,30 +1,18 @@
-use mathlib.Core.Bool.{true, false}
+use mathlib.Core.Bool.{false}
 use borrow.Author.Tests.{not-true, not-false}
 use Rattle.optimum.specs.Slots.{farFrom}
 use Rattle.arrays.specs.Arrays.{slotsBy}
 use Rattle.stripcosts.specs.Costs.{stripOf, upperAt, lowerAt}
 use Rattle.usedslots.specs.Table.{none}
 use Rattle.usedslots.proofs.Links.{product-low, blocks-of, row-near, row-lost, row-links, row-there}
-use mathlib.Core.Path.{_≡_, refl, ap, sym, _∙_}
-use mathlib.Core.List.{List, [], _∷_, _++_}
-use mathlib.Core.Logic.{⊎-elim}
-use Prim.Native.Nat.{ℕ, zero, suc, _+_, _-_, _*_, _<_, _≤_}
+use mathlib.Core.Path.{_≡_, sym, _∙_}
+use Prim.Native.Nat.{_+_}
 use native.Mathlib.Omega.{arith}
 use native.Mathlib.Numerals.{add-one}
-use lib.ListN.{length, getD, take, drop, set, length-set}
-use borrow.Author.Tests.{eq-eqb, ne-eqb, lt-ltb, le-ltb, le-leb, lt-leb}
+use lib.ListN.{length}
 use borrow.Author.Needs.{needs}
 use Rattle.usedslots.proofs.colour_link.Statement.{statement}
 use Rattle.usedslots.proofs.colour_link.Tie as tie
-use Rattle.usedslots.proofs.colour_link.Reads as reads
-use Rattle.usedslots.proofs.colour_link.Lts as lts
-use Rattle.links.proofs.block_size.Reads as block-size-reads
-use Rattle.places.proofs.is_far.Reads as is-far-reads
-use Rattle.links.proofs.link.Reads as link-reads
-use Rattle.links.proofs.link_cost.Reads as link-cost-reads
-use Rattle.links.proofs.row_start.Reads as row-start-reads
-use Rattle.stripcosts.proofs.strip_between.Reads as strip-between-reads
-use Rattle.words.proofs.get.Reads as get-reads
 
 -- src/lib.rt:267:13
 add-k : tie.Need-add-k

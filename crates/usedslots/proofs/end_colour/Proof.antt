@@ -1,19 +1,6 @@
-use mathlib.Core.Path.{_≡_, refl, ap, sym, _∙_}
-use mathlib.Core.List.{List, [], _∷_, _++_}
-use mathlib.Core.Logic.{⊎-elim}
-use Prim.Native.Nat.{ℕ, zero, suc, _+_, _-_, _*_, _<_, _≤_}
-use native.Mathlib.Omega.{arith}
-use native.Mathlib.Numerals.{add-one}
-use lib.ListN.{length, getD, take, drop, set, length-set}
-use borrow.Author.Tests.{eq-eqb, ne-eqb, lt-ltb, le-ltb, le-leb, lt-leb}
 use borrow.Author.Needs.{needs}
 use Rattle.usedslots.proofs.end_colour.Statement.{statement}
 use Rattle.usedslots.proofs.end_colour.Tie as tie
-use Rattle.usedslots.proofs.end_colour.Reads as reads
-use Rattle.usedslots.proofs.end_colour.Lts as lts
-use Rattle.words.proofs.choose.Reads as choose-reads
-use Rattle.words.proofs.lesser.Reads as lesser-reads
-use Rattle.words.proofs.same.Reads as same-reads
 
 -- src/lib.rt:524:12
 same-requires : tie.Need-same-requires

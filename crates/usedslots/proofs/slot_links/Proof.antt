@@ -1,21 +1,13 @@
 use Rattle.usedslots.specs.Table.{tableBy, capsIn, RowTo}
 use Rattle.usedslots.proofs.Links.{colours-to, colours-from, colours-last}
-use mathlib.Core.Path.{_≡_, refl, ap, sym, _∙_}
-use mathlib.Core.List.{List, [], _∷_, _++_}
-use mathlib.Core.Logic.{⊎-elim}
-use Prim.Native.Nat.{ℕ, zero, suc, _+_, _-_, _*_, _<_, _≤_}
+use mathlib.Core.Path.{_≡_, refl, _∙_}
+use Prim.Native.Nat.{_-_, _≤_}
 use native.Mathlib.Omega.{arith}
 use native.Mathlib.Numerals.{add-one}
-use lib.ListN.{length, getD, take, drop, set, length-set}
-use borrow.Author.Tests.{eq-eqb, ne-eqb, lt-ltb, le-ltb, le-leb, lt-leb}
+use lib.ListN.{length}
 use borrow.Author.Needs.{needs}
 use Rattle.usedslots.proofs.slot_links.Statement.{statement}
 use Rattle.usedslots.proofs.slot_links.Tie as tie
-use Rattle.usedslots.proofs.slot_links.Reads as reads
-use Rattle.usedslots.proofs.slot_links.Lts as lts
-use Rattle.usedslots.proofs.colour_link.Reads as colour-link-reads
-use Rattle.usedslots.proofs.end_colour.Reads as end-colour-reads
-use Rattle.usedslots.proofs.first_colour.Reads as first-colour-reads
 
 abbrev Inv-loop : tie.InvT-loop
 Inv-loop q heights bounds radices draws ys colours caps work row₀ a code j start end other last d₀ row d = (length row ≡ length row₀) × (d ≤ q .colours) × RowTo (tableBy q heights bounds radices ys colours) (capsIn caps) row (q .budgets) a code j d

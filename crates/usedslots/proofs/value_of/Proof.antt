@@ -1,18 +1,6 @@
-use mathlib.Core.Path.{_≡_, refl, ap, sym, _∙_}
-use mathlib.Core.List.{List, [], _∷_, _++_}
-use mathlib.Core.Logic.{⊎-elim}
-use Prim.Native.Nat.{ℕ, zero, suc, _+_, _-_, _*_, _<_, _≤_}
-use native.Mathlib.Omega.{arith}
-use native.Mathlib.Numerals.{add-one}
-use lib.ListN.{length, getD, take, drop, set, length-set}
-use borrow.Author.Tests.{eq-eqb, ne-eqb, lt-ltb, le-ltb, le-leb, lt-leb}
 use borrow.Author.Needs.{needs}
 use Rattle.usedslots.proofs.value_of.Statement.{statement}
 use Rattle.usedslots.proofs.value_of.Tie as tie
-use Rattle.usedslots.proofs.value_of.Reads as reads
-use Rattle.usedslots.proofs.value_of.Lts as lts
-use Rattle.bands.proofs.mark_slots.Reads as mark-slots-reads
-use Rattle.usedslots.proofs.value_marked.Reads as value-marked-reads
 
 -- src/lib.rt:810:38
 slice-aggregate-mark-slots : tie.Need-slice-aggregate-mark-slots

@@ -1,9 +1,8 @@
 use Rattle.links.proofs.Rows.{start-low}
-use Prim.Native.Nat.{_-_}
 use native.Mathlib.Omega.{arith}
 use borrow.Author.Needs.{needs}
-use Rattle.labels.proofs.goes_on.Statement.{statement}
-use Rattle.labels.proofs.goes_on.Tie as tie
+use Rattle.labels.proofs.rest_at.Statement.{statement}
+use Rattle.labels.proofs.rest_at.Tie as tie
 
 -- src/lib.rt:196:17
 row-start-requires : tie.Need-row-start-requires
@@ -23,21 +22,16 @@ plus-of-requires c κs = search needs
 get-requires : tie.Need-get-requires
 get-requires c κs = search needs
 
--- src/lib.rt:197:5
-plus-of-requires-2 : tie.Need-plus-of-requires-2
-plus-of-requires-2 c κs = search needs
-
 -- src/lib.rt:193:1
 returns : tie.Need-returns
 returns c = search needs
 
-pub goes-on-spec : {M : Type 1} → statement M
-goes-on-spec =
+pub rest-at-spec : {M : Type 1} → statement M
+rest-at-spec =
     tie.close
     (tie.spec
     row-start-requires
     cast-start
     plus-of-requires
     get-requires
-    plus-of-requires-2
     returns)

@@ -1,0 +1,3 @@
+mod Lower
+mod Rows
+mod Search
