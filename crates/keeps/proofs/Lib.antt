@@ -1,3 +1,3 @@
-mod Lower
+pub mod Lower
 mod Rows
 mod Search

@@ -1,5 +1,5 @@
--- Without caps nothing costs more than with them. Assumes nothing.
-use mathlib.Core.Path.{_≡_}
+-- Looser caps never cost more; no caps are the loosest. Assumes nothing.
+use mathlib.Core.Path.{_≡_, refl}
 use mathlib.Core.Bool.{Bool, true, false, cond, _&&_}
 use Prim.Native.Nat.{ℕ, zero, suc, _+_, _-_, _*_, _≤_, _<_, min}
 use native.Mathlib.Omega.{arith}
@@ -9,7 +9,7 @@ use Rattle.search.proofs.Cost.{least-le}
 use Rattle.search.specs.Sums.{sumTo}
 use lib.Dec.{eqb}
 use Rattle.optimum.specs.Slots.{Slots, farFrom, clearFrom}
-use Rattle.optimum.specs.UsedSlots.{Instance, at, may, draw, allows, upCost, downCost, siteCost, inside, strip, T}
+use Rattle.optimum.specs.UsedSlots.{Instance, at, may, draw, allows, upCost, downCost, siteCost, inside, strip, T, value}
 use Rattle.optimum.specs.Rows.{link}
 use Rattle.optimum.proofs.Rows.{T-is, link-is}
 
@@ -28,25 +28,31 @@ unfolding least
 least-lower top zero f g e = omega arith
 least-lower top (suc n) f g e = omega (arith, least-lower top n f g (λ k l. e k (omega arith)), e n (omega arith))
 
-tie-lower : (s t u : Bool) (x top : ℕ) → min (cond (s && (t && true)) x top) top ≤ cond (s && (t && u)) x top
-tie-lower false t u x top = omega arith
-tie-lower true false u x top = omega arith
-tie-lower true true false x top = omega arith
-tie-lower true true true x top = omega arith
+tie-lower : (s t u v : Bool) (x top : ℕ) → (u ≡ true → v ≡ true) → min (cond (s && (t && v)) x top) top ≤ cond (s && (t && u)) x top
+tie-lower false t u v x top h = omega arith
+tie-lower true false u v x top h = omega arith
+tie-lower true true false false x top h = omega arith
+tie-lower true true false true x top h = omega arith
+tie-lower true true true v x top h = rw (h refl) (omega arith)
 
-module _ (G : Instance) (c : ℕ → ℕ) where
+pub no-caps : (G : Instance) (c : ℕ → ℕ) (i p : ℕ) → allows G c i p ≡ true → allows G (λ j. 0) i p ≡ true
+unfolding allows
+no-caps G c i p h = refl
+
+-- the cost of a label next below and of the strip above it
+abbrev pub edge : (G : Instance) (c : ℕ → ℕ) (a ca k d : ℕ) → ℕ
+edge G c a ca k d = plus (G .top) (G .each) (strip G c a ca (suc k) (suc d))
+
+module _ (G : Instance) (z c : ℕ → ℕ) (looser : (i p : ℕ) → allows G c i p ≡ true → allows G z i p ≡ true) where
   open Instance G using (slots, top, n, colours, each, unit, y, colour)
   open Slots slots using (m, share)
 
-  abbrev z : ℕ → ℕ
-  z i = 0
-
   -- a site, a strip
   site-lower : (a ca b cb i : ℕ) → min (siteCost G z a ca b cb i) top ≤ siteCost G c a ca b cb i
-  unfolding siteCost upCost downCost allows
+  unfolding siteCost upCost downCost
   site-lower a ca b cb i =
-      let p = tie-lower (eqb ca (suc (colour i))) (clearFrom slots b (y i)) (allows G c i a) (share (at G a) (y i) * unit) top in
-      let q = tie-lower (eqb cb (suc (colour i))) (clearFrom slots a (y i)) (allows G c i b) (share (at G b) (y i) * unit) top in
+      let p = tie-lower (eqb ca (suc (colour i))) (clearFrom slots b (y i)) (allows G c i a) (allows G z i a) (share (at G a) (y i) * unit) top (looser i a) in
+      let q = tie-lower (eqb cb (suc (colour i))) (clearFrom slots a (y i)) (allows G c i b) (allows G z i b) (share (at G b) (y i) * unit) top (looser i b) in
       omega arith
 
   pub strip-lower : (a ca b cb : ℕ) → strip G z a ca b cb ≤ strip G c a ca b cb
@@ -74,7 +80,7 @@ module _ (G : Instance) (c : ℕ → ℕ) where
   pub T-lower : (a ca v : ℕ) → a ≤ m → T G z a ca v ≤ T G c a ca v
   T-lower a ca v l = T-down m a ca v (omega arith) l
 
-  -- the entry without caps is at most each of its parts with them
+  -- the entry with the looser caps is at most each of its parts with the others
   pub T-bottom : (a ca v : ℕ) → a ≤ m → (T G z a ca v ≤ strip G c a ca (suc m) 0) × (T G c a ca v ≤ strip G c a ca (suc m) 0)
   T-bottom a ca v l =
       (rw (T-is G z a ca v l) (omega (arith, strip-lower a ca (suc m) 0)), rw (T-is G c a ca v l) (omega arith))
@@ -84,16 +90,16 @@ module _ (G : Instance) (c : ℕ → ℕ) where
       rw (T-is G fx a ca v (omega arith))
       (omega (arith, least-le top (m - a) (λ i. least top colours (λ e. link G fx a ca v (a + i) e)) j (omega arith), least-le top colours (λ e. link G fx a ca v (a + j) e) d u))
 
-  -- the cost of a label next below and of the strip above it
-  abbrev pub edge : (a ca k d : ℕ) → ℕ
-  edge a ca k d = plus top each (strip G c a ca (suc k) (suc d))
-
   pub T-edge : (a ca v j d : ℕ) → a + j < m → d < colours → farFrom slots a ca (a + j) (suc d) ≡ true → may G (suc d) v ≡ true →
-      (T G z a ca v ≤ plus top (edge a ca (a + j) d) (T G z (suc (a + j)) (suc d) (v - draw G (suc d)))) ×
-      (T G c a ca v ≤ plus top (edge a ca (a + j) d) (T G c (suc (a + j)) (suc d) (v - draw G (suc d))))
+      (T G z a ca v ≤ plus top (edge G c a ca (a + j) d) (T G z (suc (a + j)) (suc d) (v - draw G (suc d)))) ×
+      (T G c a ca v ≤ plus top (edge G c a ca (a + j) d) (T G c (suc (a + j)) (suc d) (v - draw G (suc d))))
   T-edge a ca v j d l u far left =
       let p = T-link z a ca v j d l u in
       let q = T-link c a ca v j d l u in
-      let o = plus-lower top (plus top each (strip G z a ca (suc (a + j)) (suc d))) (T G z (suc (a + j)) (suc d) (v - draw G (suc d))) (edge a ca (a + j) d) (T G z (suc (a + j)) (suc d) (v - draw G (suc d)))
+      let o = plus-lower top (plus top each (strip G z a ca (suc (a + j)) (suc d))) (T G z (suc (a + j)) (suc d) (v - draw G (suc d))) (edge G c a ca (a + j) d) (T G z (suc (a + j)) (suc d) (v - draw G (suc d)))
       (plus-lower top each _ each _ (omega arith) (strip-lower a ca (suc (a + j)) (suc d))) (omega arith) in
       (omega (arith, o, rw (link-is G z a ca v (a + j) d far left) at p), rw (link-is G c a ca v (a + j) d far left) at q)
+
+  pub value-lower : value G z ≤ value G c
+  unfolding value
+  value-lower = T-lower 0 0 (G .budget) (omega arith)

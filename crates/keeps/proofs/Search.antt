@@ -14,14 +14,14 @@ use Rattle.lists.proofs.Tests.{by-test, by-order, by-equal}
 use Rattle.search.specs.Cost.{plus}
 use Rattle.optimum.specs.CostWord.{topWord}
 use Rattle.optimum.specs.Slots.{Slots, farFrom}
-use Rattle.optimum.specs.UsedSlots.{Instance, may, draw, strip, T, value}
+use Rattle.optimum.specs.UsedSlots.{Instance, allows, may, draw, strip, T, value}
 use Rattle.optimum.specs.Rows.{link, acc, cell}
 use Rattle.optimum.proofs.Rows.{cell-apart, acc-link, acc-same, acc-start, acc-end, link-spent, link-is}
 use Rattle.usedslots.specs.Table.{firstCode, lastCode, RightTo}
 use Rattle.usedslots.proofs.Entries.{codes-top, codes-slot}
 use Rattle.rowmarks.specs.Marks.{Marked, Linked, Ended}
 use Rattle.keeps.specs.Marked.{Reached, Dearer, Table, Grown, RowTo, PlaceTo, Search}
-use Rattle.keeps.proofs.Lower.{edge, T-lower, T-bottom, T-edge}
+use Rattle.keeps.proofs.Lower.{no-caps, edge, T-lower, T-bottom, T-edge}
 
 -- an entry stands in a row, or before it, or after it
 by-row : {X : Type 0} (C P a ca b cb v : ℕ) → ca ≤ C → cb ≤ C → v < P →
@@ -58,6 +58,9 @@ module _ (G : Instance) (c : ℕ → ℕ) (P : ℕ) where
 
   abbrev z : ℕ → ℕ
   z i = 0
+
+  abbrev loosest : (i p : ℕ) → allows G c i p ≡ true → allows G z i p ≡ true
+  loosest = no-caps G c
 
   abbrev at : (a ca v : ℕ) → ℕ
   at a ca v = cell colours P a ca v
@@ -112,7 +115,7 @@ module _ (G : Instance) (c : ℕ → ℕ) (P : ℕ) where
         let o = r .reached a ca (u + skip) (omega arith) in-codes (s .0) (own-mark (u + skip) (s .2)) in
         let e : u + skip - draw G (suc d) ≡ u = rw draw-is (omega arith) in
         let q : T G c a ca (u + skip) ≤ plus top (edge G c a ca (a + j) d) (T G c (suc (a + j)) (suc d) u) =
-        rw e at (T-edge G c a ca (u + skip) j d below in-colours far (may-is (u + skip) ∙ s .1) .1) in
+        rw e at (T-edge G z c loosest a ca (u + skip) j d below in-colours far (may-is (u + skip) ∙ s .1) .1) in
         let w : T G z a ca (u + skip) ≡ plus top (edge G c a ca (a + j) d) (T G z (suc (a + j)) (suc d) u) =
         sym (own-is (u + skip) (s .0)) ∙ s .3 ∙ plus-is cost _ ∙ rw (cost-is, to-is u l) in
         gap-kept top (edge G c a ca (a + j) d) _ _ _ _ (value G c) (value G z) w q (o .0) (o .1)
@@ -140,12 +143,12 @@ module _ (G : Instance) (c : ℕ → ℕ) (P : ℕ) where
         linked o x =
             by-test (may G (suc d) v)
             (λ t₁.
-            let b = T-edge G c a ca v j d below in-colours far t₁ .0 in
+            let b = T-edge G z c loosest a ca v j d below in-colours far t₁ .0 in
             rw (link-is G c a ca v (a + j) d far t₁)
             (by-equal (T G z a ca v) (plus top (edge G c a ca (a + j) d) (T G z (suc (a + j)) (suc d) (v - draw G (suc d))))
             (λ e. tight-less top _ _ _ _ e x
             (h (suc (a + j)) (suc d) (v - draw G (suc d)) (omega arith) (omega arith) (omega arith) (omega arith) (omega arith) (new-mark o t₁ e)))
-            (λ e. loose-less top _ _ _ _ e b (T-lower G c (suc (a + j)) (suc d) (v - draw G (suc d)) (omega arith)))))
+            (λ e. loose-less top _ _ _ _ e b (T-lower G z c loosest (suc (a + j)) (suc d) (v - draw G (suc d)) (omega arith)))))
             (λ t₁. rw (link-spent G c a ca v (a + j) d t₁) x)
           where
             new-mark : Marked old (at a ca v) → may G (suc d) v ≡ true →
@@ -185,7 +188,7 @@ module _ (G : Instance) (c : ℕ → ℕ) (P : ℕ) where
       let i : at a ca 0 + s .0 ≡ at a ca (s .0) = omega arith in
       let o = r a ca (s .0) h l (s .1) (rw i at (s .2)) in
       let w : T G z a ca (s .0) ≡ cost = sym (t .own (s .0) (s .1)) ∙ (rw i at (s .3)) in
-      let b = T-bottom G c a ca (s .0) h .1 in
+      let b = T-bottom G z c loosest a ca (s .0) h .1 in
       omega (arith, o .1, b, w, e)
 
   -- none ends: what the row has so far
@@ -197,7 +200,7 @@ module _ (G : Instance) (c : ℕ → ℕ) (P : ℕ) where
         reached = r;
         dearer = λ d v l o.
             let i : at a ca 0 + v ≡ at a ca v = omega arith in
-            let b = T-bottom G c a ca v h .0 in
+            let b = T-bottom G z c loosest a ca v h .0 in
             rw (acc-start G c a ca v)
             (let w : T G z a ca v ≢ cost = λ q. n .none refl v l (rw i o) (rw i (t .own v l ∙ q)) in omega (arith, b, e, w));
       }
@@ -278,7 +281,7 @@ module _ (G : Instance) (c : ℕ → ℕ) (P : ℕ) where
 
   pub search-found : value G c ≤ value G z → eqb (value G c) (value G z) ≡ true
   unfolding value
-  search-found h = eq-eqb (value G c) (value G z) (let l = T-lower G c 0 0 (G .budget) (omega arith) in omega arith)
+  search-found h = eq-eqb (value G c) (value G z) (let l = T-lower G z c loosest 0 0 (G .budget) (omega arith) in omega arith)
 
   -- ---- the top edge: only the whole sheet is marked
 

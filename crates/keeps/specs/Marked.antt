@@ -1,13 +1,8 @@
 -- What marks of the table's entries tell of the least cost within caps. Definitions.
 use mathlib.Core.Path.{_≡_}
-use mathlib.Core.Bool.{Bool, true, false, cond, _&&_}
 use mathlib.Core.List.{List}
-use mathlib.Core.Logic.{_⊎_}
-use Prim.Native.Nat.{ℕ, suc, _+_, _-_, _%_, _≤_, _<_}
-use lib.Dec.{ltb, leb, eqb}
-use lib.ListN.{length, getD}
-use Rattle.search.specs.Cost.{plus}
-use Rattle.optimum.specs.CostWord.{topWord}
+use Prim.Native.Nat.{ℕ, suc, _+_, _≤_, _<_}
+use lib.ListN.{getD}
 use Rattle.optimum.specs.UsedSlots.{Instance, T, value}
 use Rattle.optimum.specs.Rows.{cell, acc}
 use Rattle.rowmarks.specs.Marks.{Marked}

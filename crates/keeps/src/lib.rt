@@ -7,7 +7,7 @@ ghost use lib.Dec.{eqb};
 ghost use lib.ListN.{length, getD};
 ghost use Rattle.optimum.specs.UsedSlots.{value};
 ghost use Rattle.bands.specs.Bands.{Barred, Starts, Ends, Marks};
-ghost use Rattle.usedslots.specs.Table.{Fits, none, tableWords, tableBy, capsIn, RightFrom, RightTo};
+ghost use Rattle.usedslots.specs.Table.{Fits, none, tableWords, tableBy, capsIn, RightTo};
 ghost use Rattle.keeps.specs.Marked.{Table, Reached, RowTo, PlaceTo};
 use arrays::Measures;
 use bands::ALL_LOST;

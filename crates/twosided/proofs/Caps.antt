@@ -4,11 +4,11 @@ use mathlib.Core.Logic.{_≢_}
 use mathlib.Core.Bool.{Bool, true, false, cond, _&&_, _||_}
 use mathlib.Core.List.{List, [], _∷_, _++_}
 use Prim.Native.Nat.{ℕ, zero, suc, _+_, _-_, _≤_, _<_}
-use native.Mathlib.Nat.{le-trans, le-of-eq}
+use native.Mathlib.Nat.{le-of-eq}
 use native.Mathlib.Omega.{arith}
 use native.Mathlib.Numerals.{add-one}
 use lib.Dec.{ltb, leb, eqb}
-use lib.ListN.{length, getD, set, take, drop}
+use lib.ListN.{length, getD, set, length-set, take, drop}
 use lib.Seq.{set-set, drop-set-lt, getD-set-same, getD-set-other}
 use borrow.Author.Tests.{lt-ltb, le-ltb, eqb-true, eqb-false}
 use Rattle.lists.proofs.Tests.{by-test, by-order, by-equal, and-l, clash}
@@ -22,29 +22,12 @@ use Rattle.optimum.specs.Steady.{Steady}
 use Rattle.optimum.proofs.Rows.{put-set}
 use Rattle.optimum.proofs.Steady.{keeps, misses, choose-is, choose-keeps}
 use Rattle.arrays.specs.declared.Measures.{Measures}
-use Rattle.usedslots.specs.Table.{none, instanceBy, tableBy, capsIn, Fits}
+use Rattle.usedslots.specs.Table.{none, instanceBy, tableBy, capsIn}
 use Rattle.usedslots.proofs.Strips.{value-ranks}
 use Rattle.twosided.specs.declared.Range.{Range}
-use Rattle.twosided.specs.Caps.{leftmostBy, keepsCost, Reaches, Probed, wordsBy, uncapped, Filled, Low}
-
--- other caps, as many
-pub fits-set : (q : Measures) (hs bs rs ds ys cs caps new : List ℕ) → length new ≡ length caps → Fits q hs bs rs ds ys cs caps → Fits q hs bs rs ds ys cs new
-fits-set q hs bs rs ds ys cs caps new e f =
-    record {
-      few-slots = f .few-slots;
-      rising = f .rising;
-      few-colours = f .few-colours;
-      some-budget = f .some-budget;
-      few-budgets = f .few-budgets;
-      bounds-long = f .bounds-long;
-      radices-long = f .radices-long;
-      draws-long = f .draws-long;
-      few-sites = f .few-sites;
-      colours-long = f .colours-long;
-      caps-long = e ∙ f .caps-long;
-      draws = f .draws;
-      whole = f .whole;
-    }
+use Rattle.goals.specs.Goals.{Reaches, Goals}
+use Rattle.twosided.specs.Caps.{leftmostBy, keepsCost, Probed, wordsBy, uncapped, Filled, Low}
+use Rattle.goals.proofs.Goals.{goal-reaches}
 
 pub leftmost-more : (n : ℕ) (xs caps : List ℕ) (c best new : ℕ) → best ≡ leftmostBy n xs caps c →
     new ≡ cond (eqb (getD caps c 0) 0 && (leb n best || ltb (getD xs c 0) (getD xs best 0))) c best → new ≡ leftmostBy n xs caps (c + 1)
@@ -162,14 +145,16 @@ module _ (G : Instance) (w : ℕ) (steady : Steady G w) (caps : List ℕ) (i : �
   in-sites : i < G .n
   in-sites = omega (arith, site .inside, site .long)
 
-  pub narrowed-first : (now : List ℕ) (high last : ℕ) → last ≡ G .slots .m - 1 → ((high ≤ last) × (Reaches G caps w i last → Reaches G caps w i high)) → ((p : ℕ) → set now i p ≡ set caps i p) →
-      Narrowed G caps now w i (G .slots .m - 1) (record { low = 0; high = high })
-  narrowed-first now high last z (h, f) o =
+  pub narrowed-first : (goals : List ℕ) (high : ℕ) → Goals G caps goals w → ((high ≤ G .slots .m - 1) × (high < G .slots .m - 1 → getD goals i 0 ≡ high + 1)) →
+      Narrowed G caps caps w i (G .slots .m - 1) (record { low = 0; high = high })
+  narrowed-first goals high g (h, f) =
       record {
         ordered = omega arith;
         bounded = omega arith;
-        others = o;
-        reached = f (le-of-eq (sym (at-set (suc last)) ∙ steady .last (capsIn caps) i last in-sites free least (omega arith)));
+        others = λ p. refl;
+        reached = by-order (G .slots .m - 1) high
+            (λ l. le-of-eq (sym (at-set (suc high)) ∙ steady .last (capsIn caps) i high in-sites free least (omega arith)))
+            (λ l. goal-reaches G caps goals w i (site .inside) high g (f l ∙ add-one high));
         missed = λ j l. absurd (omega arith);
       }
 
@@ -224,11 +209,6 @@ module _ (G : Instance) (w : ℕ) (steady : Steady G w) (caps : List ℕ) (i : �
   pub narrowed-keeps : (new : List ℕ) → new ≡ set caps i (suc (choose G w (capsIn caps) i)) → value G (capsIn new) ≡ w
   narrowed-keeps new e = rw e (sym (at-set (suc (choose G w (capsIn caps) i))) ∙ choose-keeps G w steady (capsIn caps) i in-sites free least)
 
--- ---- labels that are known
-
-pub lowered-to : (H : Instance) (caps : List ℕ) (w i slot cost : ℕ) → value H (capsIn (set caps i (slot + 1))) ≤ cost → cost ≤ w → Reaches H caps w i slot
-lowered-to H caps w i slot cost h l = rw add-one at (le-trans h l)
-
 -- ---- a test at a slot
 
 pub filled-some : (q : Measures) (hs bs rs ys cs work : List ℕ) (w : ℕ) → Filled q hs bs rs ys cs work w → value (tableBy q hs bs rs ys cs) uncapped < none
@@ -237,14 +217,18 @@ filled-some q hs bs rs ys cs work w f = rw (f .least-is) (f .some)
 pub keeps-at : (H : Instance) (caps : List ℕ) (w i k : ℕ) (t : Bool) → value H uncapped ≡ w → t ≡ eqb (value H (capsIn (set caps i (k + 1)))) (value H uncapped) → t ≡ keepsCost H caps w i k
 keeps-at H caps w i k t e h = rw (add-one, e) at h
 
+pub kept-value : (H : Instance) (caps now : List ℕ) (w i k : ℕ) → now ≡ set caps i (suc k) → keepsCost H caps w i k ≡ true → value H (capsIn now) ≤ w
+kept-value H caps now w i k e t = rw e (le-of-eq (eqb-true _ _ t))
+
 module _ (H : Instance) (caps : List ℕ) (w i : ℕ) (range : Range) (probe : ℕ) where
-  pub probed-kept : (now : List ℕ) (high : ℕ) → now ≡ set caps i (suc probe) → keepsCost H caps w i probe ≡ true →
-      ((high ≤ probe) × (Reaches H now w i probe → Reaches H now w i high)) → Probed H caps w i range probe (record { low = range .low; high = high })
-  probed-kept now high e t (h, f) =
-      let same : (k : ℕ) → value H (capsIn (set now i (suc k))) ≡ value H (capsIn (set caps i (suc k))) =
-      (λ k. ap (λ (l : List ℕ). value H (capsIn l)) (ap (λ (l : List ℕ). set l i (suc k)) e ∙ set-set caps i (suc probe) (suc k))) in
-      let reach : Reaches H now w i probe = rw (same probe) (le-of-eq (eqb-true _ _ t)) in
-      record { kept = λ z. (refl, h, rw (same high) at (f reach)); lost = λ z. clash t z }
+  pub probed-kept : (now goals : List ℕ) (high : ℕ) → i < length caps → now ≡ set caps i (suc probe) → keepsCost H caps w i probe ≡ true →
+      Goals H now goals w → high ≡ getD goals i 0 - 1 → Probed H caps w i range probe (record { low = range .low; high = high })
+  probed-kept now goals high l e t g h =
+      let own : getD now i 0 ≡ suc probe = rw e (getD-set-same caps i (suc probe) 0 l) in
+      let b = g .within i (omega (arith, own)) in
+      let reach : Reaches H now w i high = goal-reaches H now goals w i (rw (e, length-set caps i (suc probe)) l) high g (omega (arith, b .0, h)) in
+      let same : set now i (suc high) ≡ set caps i (suc high) = ap (λ (k : List ℕ). set k i (suc high)) e ∙ set-set caps i (suc probe) (suc high) in
+      record { kept = λ z. (refl, omega (arith, b .0, b .1, own, h), rw same at reach); lost = λ z. clash t z }
 
   pub probed-lost : keepsCost H caps w i probe ≡ false → Probed H caps w i range probe (record { low = probe + 1; high = range .high })
   probed-lost t = record { kept = λ z. clash z t; lost = λ z. (omega arith, refl) }

@@ -11,6 +11,7 @@ use Rattle.optimum.specs.UsedSlots.{Instance, value, capAll, ties}
 use Rattle.arrays.specs.declared.Measures.{Measures}
 pub use Rattle.costs.specs.Costs.{countBy, lengthBy}
 use Rattle.usedslots.specs.Table.{none, tableBy, capsIn, tableWords, RightTo}
+use Rattle.goals.specs.Goals.{Reaches}
 use Rattle.twosided.specs.declared.Range.{Range}
 
 -- the leftmost site without a cap among the first so many, of n in all, or n
@@ -22,10 +23,6 @@ leftmostBy n xs caps (suc c) =
 -- the least cost is still the same with a site's cap at k + 1
 abbrev pub keepsCost : Instance → (caps : List ℕ) → (least site k : ℕ) → Bool
 keepsCost G caps w i k = eqb (value G (capsIn (set caps i (suc k)))) w
-
--- it is so much at most
-abbrev pub Reaches : Instance → (caps : List ℕ) → (least site k : ℕ) → Type 0
-Reaches G caps w i k = value G (capsIn (set caps i (suc k))) ≤ w
 
 -- a range of slots after a test at one of them
 pub record Probed (G : Instance) (caps : List ℕ) (least site : ℕ) (range : Range) (probe : ℕ) (after : Range) : Type 0 where

@@ -2,9 +2,9 @@
 ghost use mathlib.Core.Path.{_≡_};
 ghost use mathlib.Core.Bool.{true, cond, _&&_, _||_};
 ghost use mathlib.Core.List.{_++_};
-ghost use Prim.Native.Nat.{ℕ, suc, _+_, _-_, _*_, _/_, _%_, _<_, _≤_};
+ghost use Prim.Native.Nat.{ℕ, suc, _+_, _-_, _<_, _≤_};
 ghost use lib.Dec.{eqb, leb, ltb};
-ghost use lib.ListN.{length, getD, set, drop, replicate};
+ghost use lib.ListN.{length, getD, set, drop};
 ghost use Rattle.sheet.specs.Sheet.{sheetIn, productOf};
 ghost use Rattle.labelling.specs.Entry.{makeFault, makeWork, makeAnswer};
 ghost use Rattle.labelling.specs.Promise.{takesSheet};
@@ -12,7 +12,8 @@ ghost use Rattle.optimum.specs.UsedSlots.{value, choose, capAll};
 ghost use Rattle.optimum.specs.Steady.{Steady};
 ghost use Rattle.byheight.specs.Sites.{Reorders};
 ghost use Rattle.usedslots.specs.Table.{instanceBy, tableBy, capsIn, Fits, tableWords};
-ghost use Rattle.twosided.specs.Caps.{leftmostBy, keepsCost, Reaches, Probed, wordsBy, uncapped, Filled, Low, Laid};
+ghost use Rattle.goals.specs.Goals.{Goals};
+ghost use Rattle.twosided.specs.Caps.{leftmostBy, keepsCost, Probed, wordsBy, uncapped, Filled, Low, Laid};
 use areas::clear;
 use arrays::Measures;
 use arrays::bounds_of;
@@ -27,9 +28,8 @@ use byheight::keeps_least;
 use byheight::order_sites;
 use byheight::value_of;
 use costs::head_word;
-use labels::labels_cost;
-use labels::slot_of;
-use labels::trace_labels;
+use goals::renew_goals;
+use goals::trace_goals;
 use links::table_words;
 use words::NONE;
 use words::at_most;
@@ -40,7 +40,6 @@ use words::get;
 use words::less;
 use words::lesser;
 use words::monus;
-use words::plus_of;
 use words::same;
 
 // Slots from low to high.
@@ -116,45 +115,17 @@ fn keeps_cost(
     )
 }
 
-// The highest slot that a site goes to, lowered to that of known labels where they keep the cost. The site is left without a cap.
-fn lowered(
-    q: Measures,
-    heights: &[u32],
-    bounds: &[u32],
-    radices: &[u32],
-    draws: &[u32],
-    ys: &[u32],
-    colours: &[u32],
-    caps: &mut [u32],
-    labels: &[u32],
-    least: u32,
-    site: usize,
-    high: u32,
-) -> u32
-    requires { ⌜ Fits q (now heights) (now bounds) (now radices) (now draws) (now ys) (now colours) (now caps) ⌝ }
-    requires { ⌜ (site < length (now caps)) × (high ≤ 48) ⌝ }
-    ensures { λ r. ⌜ (r ≤ high) × (Reaches (tableBy q (now (heights .entry)) (now (bounds .entry)) (now (radices .entry)) (now (ys .entry)) (now (colours .entry))) (now (caps .entry)) least site high → Reaches (tableBy q (now (heights .entry)) (now (bounds .entry)) (now (radices .entry)) (now (ys .entry)) (now (colours .entry))) (now (caps .entry)) least site r) ⌝ }
-    ensures { λ _. ⌜ now (caps .exit) ≡ set (now (caps .entry)) site 0 ⌝ }
+// ---- the least cap
+
+// The highest slot that a site goes to: its goal's where it has one.
+fn high_of(goal: u32, slots: u32) -> u32
+    ensures { λ r. ⌜ (r ≤ slots - 1) × (r < slots - 1 → goal ≡ r + 1) ⌝ }
 {
-    let code = plus_of(colours[site], 1);
-    let slot = lesser(slot_of(heights, labels, ys[site], code), high);
-    caps[site] = slot + 1;
-    let cost = labels_cost(
-        q,
-        heights,
-        bounds,
-        radices,
-        draws,
-        ys,
-        colours,
-        caps,
-        labels,
-    );
-    caps[site] = 0;
-    if cost <= least {
-        return slot;
+    let last = monus(slots, 1);
+    if goal == 0 {
+        return last;
     }
-    high
+    lesser(goal - 1, last)
 }
 
 // A range of slots after a test at one of them: the site's cap is lost, no other is.
@@ -170,15 +141,17 @@ fn probed(
     caps: &mut [u32],
     work: &[u32],
     labels: &mut [u32],
+    goals: &mut [u32],
     least: u32,
     site: usize,
     range: Range,
     probe: u32,
 ) -> Range
     requires { ⌜ Fits q (now heights) (now bounds) (now radices) (now draws) (now ys) (now colours) (now caps) ⌝ }
-    requires { ⌜ Filled q (now heights) (now bounds) (now radices) (now ys) (now colours) (now work) least × (length (now labels) ≡ length (now heights)) × (site < length (now caps)) × (probe ≤ 48) × Reorders (now order) (length (now ys)) ⌝ }
+    requires { ⌜ Filled q (now heights) (now bounds) (now radices) (now ys) (now colours) (now work) least × (length (now labels) ≡ length (now heights)) × (site < length (now caps)) × (probe ≤ 48) × Reorders (now order) (length (now ys)) × Goals (tableBy q (now heights) (now bounds) (now radices) (now ys) (now colours)) (set (now caps) site 0) (now goals) least ⌝ }
     ensures { λ r. ⌜ Probed (tableBy q (now (heights .entry)) (now (bounds .entry)) (now (radices .entry)) (now (ys .entry)) (now (colours .entry))) (now (caps .entry)) least site range probe r ⌝ }
     ensures { λ _. ⌜ ((p : ℕ) → set (now (caps .exit)) site p ≡ set (now (caps .entry)) site p) ⌝ }
+    ensures { λ _. ⌜ Goals (tableBy q (now (heights .entry)) (now (bounds .entry)) (now (radices .entry)) (now (ys .entry)) (now (colours .entry))) (set (now (caps .exit)) site 0) (now (goals .exit)) least ⌝ }
 {
     if keeps_cost(
         q,
@@ -195,7 +168,7 @@ fn probed(
         site,
         probe,
     ) {
-        trace_labels(
+        trace_goals(
             q,
             heights,
             bounds,
@@ -206,25 +179,12 @@ fn probed(
             caps,
             work,
             labels,
+            goals,
             least,
-        );
-        let high = lowered(
-            q,
-            heights,
-            bounds,
-            radices,
-            draws,
-            ys,
-            colours,
-            caps,
-            labels,
-            least,
-            site,
-            probe,
         );
         return Range {
             low: range.low,
-            high: high,
+            high: monus(goals[site], 1),
         };
     }
     Range {
@@ -246,30 +206,18 @@ fn cap_site(
     caps: &mut [u32],
     work: &[u32],
     labels: &mut [u32],
+    goals: &mut [u32],
     least: u32,
     site: usize,
 )
     requires { ⌜ Fits q (now heights) (now bounds) (now radices) (now draws) (now ys) (now colours) (now caps) ⌝ }
-    requires { ⌜ Filled q (now heights) (now bounds) (now radices) (now ys) (now colours) (now work) least × (length (now labels) ≡ length (now heights)) × (site < length (now caps)) × (getD (now caps) site 0 ≡ 0) × Reorders (now order) (length (now ys)) ⌝ }
+    requires { ⌜ Filled q (now heights) (now bounds) (now radices) (now ys) (now colours) (now work) least × (length (now labels) ≡ length (now heights)) × (site < length (now caps)) × (getD (now caps) site 0 ≡ 0) × Reorders (now order) (length (now ys)) × Goals (tableBy q (now heights) (now bounds) (now radices) (now ys) (now colours)) (now caps) (now goals) least ⌝ }
     requires { ⌜ (value (tableBy q (now heights) (now bounds) (now radices) (now ys) (now colours)) (capsIn (now caps)) ≡ least) × Steady (tableBy q (now heights) (now bounds) (now radices) (now ys) (now colours)) least ⌝ }
     ensures { λ _. ⌜ now (caps .exit) ≡ set (now (caps .entry)) site (suc (choose (tableBy q (now (heights .entry)) (now (bounds .entry)) (now (radices .entry)) (now (ys .entry)) (now (colours .entry))) least (capsIn (now (caps .entry))) site)) ⌝ }
     ensures { λ _. ⌜ (Low (now (caps .entry)) → Low (now (caps .exit))) ⌝ }
+    ensures { λ _. ⌜ Goals (tableBy q (now (heights .entry)) (now (bounds .entry)) (now (radices .entry)) (now (ys .entry)) (now (colours .entry))) (now (caps .exit)) (now (goals .exit)) least ⌝ }
 {
-    let last = monus(heights.len() as u32, 1);
-    let high = lowered(
-        q,
-        heights,
-        bounds,
-        radices,
-        draws,
-        ys,
-        colours,
-        caps,
-        labels,
-        least,
-        site,
-        last,
-    );
+    let high = high_of(goals[site], heights.len() as u32);
     let mut range = Range { low: 0, high: high };
     let mut probe = monus(high, 1);
     while range.low < range.high {
@@ -285,6 +233,7 @@ fn cap_site(
             caps,
             work,
             labels,
+            goals,
             least,
             site,
             range,
@@ -293,6 +242,20 @@ fn cap_site(
         probe = (range.low + range.high) / 2;
     }
     caps[site] = range.low + 1;
+    renew_goals(
+        q,
+        heights,
+        bounds,
+        radices,
+        draws,
+        ys,
+        colours,
+        caps,
+        labels,
+        goals,
+        least,
+        site,
+    );
 }
 
 // All caps, by rising rank: the number of sites without one falls at each turn.
@@ -309,10 +272,11 @@ fn cap_all(
     caps: &mut [u32],
     work: &[u32],
     labels: &mut [u32],
+    goals: &mut [u32],
     least: u32,
 )
     requires { ⌜ Fits q (now heights) (now bounds) (now radices) (now draws) (now ys) (now colours) (now caps) ⌝ }
-    requires { ⌜ Filled q (now heights) (now bounds) (now radices) (now ys) (now colours) (now work) least × (length (now labels) ≡ length (now heights)) × Reorders (now order) (length (now ys)) ⌝ }
+    requires { ⌜ Filled q (now heights) (now bounds) (now radices) (now ys) (now colours) (now work) least × (length (now labels) ≡ length (now heights)) × Reorders (now order) (length (now ys)) × Goals (tableBy q (now heights) (now bounds) (now radices) (now ys) (now colours)) (now caps) (now goals) least ⌝ }
     requires { ⌜ (value (tableBy q (now heights) (now bounds) (now radices) (now ys) (now colours)) (capsIn (now caps)) ≡ least) × Steady (tableBy q (now heights) (now bounds) (now radices) (now ys) (now colours)) least ⌝ }
     ensures { λ _. ⌜ capsIn (now (caps .exit)) ≡ capAll (instanceBy q (now (heights .entry)) (now (bounds .entry)) (now (radices .entry)) (now (ys .entry)) (now (colours .entry)) (now (ranks .entry))) least (length (now (ys .entry))) (capsIn (now (caps .entry))) ⌝ }
     ensures { λ _. ⌜ (Low (now (caps .entry)) → Low (now (caps .exit))) ⌝ }
@@ -335,6 +299,7 @@ fn cap_all(
             caps,
             work,
             labels,
+            goals,
             least,
             site,
         );
@@ -356,15 +321,16 @@ fn cap_traced(
     caps: &mut [u32],
     work: &[u32],
     labels: &mut [u32],
+    goals: &mut [u32],
     least: u32,
 )
     requires { ⌜ Fits q (now heights) (now bounds) (now radices) (now draws) (now ys) (now colours) (now caps) ⌝ }
-    requires { ⌜ Filled q (now heights) (now bounds) (now radices) (now ys) (now colours) (now work) least × (length (now labels) ≡ length (now heights)) × Reorders (now order) (length (now ys)) ⌝ }
+    requires { ⌜ Filled q (now heights) (now bounds) (now radices) (now ys) (now colours) (now work) least × (length (now labels) ≡ length (now heights)) × Reorders (now order) (length (now ys)) × (length (now goals) ≡ length (now ys)) ⌝ }
     requires { ⌜ (value (tableBy q (now heights) (now bounds) (now radices) (now ys) (now colours)) (capsIn (now caps)) ≡ least) × Steady (tableBy q (now heights) (now bounds) (now radices) (now ys) (now colours)) least ⌝ }
     ensures { λ _. ⌜ capsIn (now (caps .exit)) ≡ capAll (instanceBy q (now (heights .entry)) (now (bounds .entry)) (now (radices .entry)) (now (ys .entry)) (now (colours .entry)) (now (ranks .entry))) least (length (now (ys .entry))) (capsIn (now (caps .entry))) ⌝ }
     ensures { λ _. ⌜ (Low (now (caps .entry)) → Low (now (caps .exit))) ⌝ }
 {
-    trace_labels(
+    trace_goals(
         q,
         heights,
         bounds,
@@ -375,6 +341,7 @@ fn cap_traced(
         caps,
         work,
         labels,
+        goals,
         least,
     );
     cap_all(
@@ -390,11 +357,12 @@ fn cap_traced(
         caps,
         work,
         labels,
+        goals,
         least,
     );
 }
 
-// The same with room for those labels.
+// The same with room for those labels and for the goals.
 fn cap_sites(
     q: Measures,
     heights: &[u32],
@@ -416,7 +384,9 @@ fn cap_sites(
     ensures { λ _. ⌜ (Low (now (caps .entry)) → Low (now (caps .exit))) ⌝ }
 {
     let m = heights.len();
+    let n = ys.len();
     let mut labels = [0u32; 48];
+    let mut goals = [0u32; 32];
     cap_traced(
         q,
         heights,
@@ -430,6 +400,7 @@ fn cap_sites(
         caps,
         work,
         &mut labels[..m],
+        &mut goals[..n],
         least,
     );
 }

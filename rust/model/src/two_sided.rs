@@ -3,11 +3,13 @@
 //!
 //! The benchmark times the library against this. Both read the sheet with all refusals, keep the table in the
 //! caller's work words, drop the bounds that can't bind, sort the sites by y, so that those of a strip stand side by
-//! side, fill the table once, read the labels of a cheapest layout off it, lower each site's cap to its slot there,
-//! which keeps the least cost, and test the slot before, or by halving where that one keeps it too. A test marks, from
-//! the top edge down, the entries that layouts of the least cost within the caps come to. Both pass over a strip that
-//! has a site of a third colour, go through budgets block by block, and leave all work words zero. What is this one's
-//! own: a strip's sites are known to stand side by side, so none of them is tested for lying in it.
+//! side, fill the table once, and read the labels of a cheapest layout off it. The slots of all sites there are goals
+//! for their caps; that they keep the least cost together is seen once for all. Each site's cap begins at its goal, and
+//! the slot before is tested, or by halving where that one keeps the cost too; after a test that does, labels are read
+//! and goals set anew. A test marks, from the top edge down, the entries that layouts of the least cost within the caps
+//! come to. Both pass over a strip that has a site of a third colour, go through budgets block by block, and leave all
+//! work words zero. What is this one's own: a strip's sites are known to stand side by side, so none of them is tested
+//! for lying in it.
 
 use crate::budgets::Budgets;
 use crate::costs::{Aim, NONE};
@@ -37,6 +39,8 @@ struct Maker<'a> {
     sites_above: [usize; PLACES],
     /// The colour at each place of a layout that cost the least when it was traced, 0 for none.
     labels: [usize; PLACES],
+    /// For each site a cap, at most its own: with all of them the least cost stays.
+    goals: [usize; MOST_SITES],
 }
 
 /// Fills the work area and gives the first word of the layout and each site's slot, by rising x.
@@ -51,6 +55,7 @@ pub fn best(sheet: &Sheet, order: &[usize], work: &mut [u32]) -> Option<(u32, [u
         return None;
     }
     maker.trace(work);
+    maker.set_goals(least);
     let mut marks = vec![0; maker.row(maker.bottom + 1, 0)];
     let mut slots = [0; MOST_SITES];
     for (rank, site) in order.iter().enumerate() {
@@ -84,19 +89,21 @@ impl<'a> Maker<'a> {
             sites,
             sites_above,
             labels: [0; PLACES],
+            goals: [0; MOST_SITES],
         }
     }
 
     /// Lowers a site's cap as far as the least cost allows. The cost falls as a cap rises.
     fn lower_cap(&mut self, index: usize, least: u32, work: &[u32], marks: &mut [u8]) -> usize {
         let mut low = 1;
-        let mut high = self.lower_by_labels(index, self.bottom - 1, least);
+        let mut high = self.goals[index];
         let mut probe = high - 1;
         while low < high {
             self.sites[index].cap = probe;
             if self.keeps(work, marks) {
                 self.trace(work);
-                high = self.lower_by_labels(index, probe, least);
+                self.set_goals(least);
+                high = self.goals[index];
             } else {
                 low = probe + 1;
             }
@@ -106,15 +113,19 @@ impl<'a> Maker<'a> {
         high
     }
 
-    /// The same to the site's slot among the known labels, if they keep the cost there.
-    fn lower_by_labels(&mut self, index: usize, from: usize, least: u32) -> usize {
-        let place = self.place_of(index).min(from);
-        self.sites[index].cap = place;
-        if self.labels_cost() == least {
-            place
-        } else {
-            from
+    /// The sites' slots among the known labels, if those keep the cost within them and the caps; else the caps.
+    fn set_goals(&mut self, least: u32) {
+        let caps = self.sites;
+        for index in 0..self.sites_above[self.bottom] {
+            self.sites[index].cap = self.place_of(index).min(caps[index].cap);
         }
+        if self.labels_cost() != least {
+            self.sites = caps;
+        }
+        for (goal, site) in self.goals.iter_mut().zip(&self.sites) {
+            *goal = site.cap;
+        }
+        self.sites = caps;
     }
 
     /// The place next above or next below a site whose label has its colour, the nearer of two.
@@ -217,29 +228,13 @@ impl<'a> Maker<'a> {
 
     /// Passes the marks of a row on to each label that may come next below.
     fn mark_below(&self, above: usize, above_colour: usize, work: &[u32], marks: &mut [u8]) {
-        let label = self.aim.cost(1, self.sheet.width);
         let own = self.row(above, above_colour);
         let (upper, lower) = marks.split_at_mut(self.row(above + 1, 0));
-        let mut other = 0;
-        for below in above + 1..self.bottom {
-            other = self.other_colour(other, above_colour, below);
-            if other == SEVERAL {
-                return;
-            }
-            if self.heights[below] - self.heights[above] < self.sheet.gap as i32 {
-                continue;
-            }
-            let below_colours = if other == 0 { 1..self.colours } else { other..other + 1 };
-            for below_colour in below_colours {
-                let strip = self.strip_cost(above, above_colour, below, below_colour);
-                if strip == NONE {
-                    continue;
-                }
-                let to = self.row(below - above - 1, below_colour);
-                let next = &work[self.row(below, below_colour)..];
-                self.mark_row(&upper[own..], &mut lower[to..], &work[own..], next, strip + label, below_colour - 1);
-            }
-        }
+        self.for_each_below(above, above_colour, |below, colour, step| {
+            let to = self.row(below - above - 1, colour);
+            let next = &work[self.row(below, colour)..];
+            self.mark_row(&upper[own..], &mut lower[to..], &work[own..], next, step, colour - 1);
+        });
     }
 
     /// An entry of the lower row is marked where that of the upper row is and their costs agree.
@@ -277,6 +272,14 @@ impl<'a> Maker<'a> {
 
     /// Lowers a row by each label that may come next below. `lower` begins at the place below `above`.
     fn fill_row(&self, above: usize, above_colour: usize, lower: &[u32], row: &mut [u32]) {
+        self.for_each_below(above, above_colour, |below, colour, step| {
+            let next = &lower[self.row(below - above - 1, colour)..][..row.len()];
+            self.lower_row(row, next, step, colour - 1);
+        });
+    }
+
+    /// The labels that may come next below one: place, colour, and what the label costs with the strip above it.
+    fn for_each_below(&self, above: usize, above_colour: usize, mut link: impl FnMut(usize, usize, u32)) {
         let label = self.aim.cost(1, self.sheet.width);
         let mut other = 0;
         for below in above + 1..self.bottom {
@@ -287,14 +290,12 @@ impl<'a> Maker<'a> {
             if self.heights[below] - self.heights[above] < self.sheet.gap as i32 {
                 continue;
             }
-            let below_colours = if other == 0 { 1..self.colours } else { other..other + 1 };
-            for below_colour in below_colours {
-                let strip = self.strip_cost(above, above_colour, below, below_colour);
-                if strip == NONE {
-                    continue;
+            let colours = if other == 0 { 1..self.colours } else { other..other + 1 };
+            for colour in colours {
+                let strip = self.strip_cost(above, above_colour, below, colour);
+                if strip != NONE {
+                    link(below, colour, strip + label);
                 }
-                let next = &lower[self.row(below - above - 1, below_colour)..][..row.len()];
-                self.lower_row(row, next, strip + label, below_colour - 1);
             }
         }
     }

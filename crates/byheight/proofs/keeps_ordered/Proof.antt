@@ -1,7 +1,6 @@
 use Rattle.byheight.proofs.Sites.{fits-same, value-same, value-free, right-free}
 use lib.Dec.{eqb}
 use mathlib.Core.Path.{ap₂, _∙_}
-use Prim.Native.Nat.{_-_}
 use borrow.Author.Needs.{needs}
 use Rattle.byheight.proofs.keeps_ordered.Statement.{statement}
 use Rattle.byheight.proofs.keeps_ordered.Tie as tie

@@ -1,6 +1,5 @@
 use Rattle.byheight.proofs.Sites.{fits-same, value-same, right-back}
 use mathlib.Core.Path.{_∙_}
-use Prim.Native.Nat.{_-_}
 use borrow.Author.Needs.{needs}
 use Rattle.byheight.proofs.value_ordered.Statement.{statement}
 use Rattle.byheight.proofs.value_ordered.Tie as tie

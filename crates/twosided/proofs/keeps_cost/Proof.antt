@@ -1,6 +1,7 @@
 use Rattle.usedslots.specs.Table.{tableBy}
-use Rattle.twosided.proofs.Caps.{fits-set, filled-some, keeps-at}
-use Prim.Native.Nat.{_+_, _-_}
+use Rattle.goals.proofs.Goals.{fits-set}
+use Rattle.twosided.proofs.Caps.{filled-some, keeps-at}
+use Prim.Native.Nat.{_+_}
 use native.Mathlib.Numerals.{add-one}
 use lib.ListN.{set, length-set}
 use borrow.Author.Needs.{needs}

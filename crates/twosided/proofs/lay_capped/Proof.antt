@@ -1,7 +1,7 @@
 use Rattle.usedslots.specs.Table.{tableWords}
 use Rattle.twosided.proofs.Answer.{laid-none, laid-some, steady-at, filled-at, low-none}
 use mathlib.Core.Path.{sym, _∙_}
-use Prim.Native.Nat.{_-_, _≤_}
+use Prim.Native.Nat.{_≤_}
 use native.Mathlib.Omega.{arith}
 use lib.ListN.{length}
 use borrow.Author.Needs.{needs}

@@ -6,7 +6,7 @@ use Rattle.arrays.specs.Arrays.{boundsOf, xsOf, ysOf, coloursOf, radicesBy, dra
 use Rattle.arrays.proofs.Ordered.{radices-long, draws-long}
 use Rattle.twosided.proofs.Answer.{part-is, part-long, zero-part, bounds-long, ys-long, cs-long, xs-long, bounds-part, bounds-low, product-low, fits-from, areas-from, steady-made, made}
 use mathlib.Core.Path.{_≡_, ap, sym, _∙_}
-use Prim.Native.Nat.{ℕ, _-_}
+use Prim.Native.Nat.{ℕ}
 use native.Mathlib.Omega.{arith}
 use lib.ListN.{length, take}
 use borrow.Author.Needs.{needs}

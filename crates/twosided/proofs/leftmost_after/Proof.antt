@@ -1,4 +1,3 @@
-use Prim.Native.Nat.{_-_}
 use borrow.Author.Needs.{needs}
 use Rattle.twosided.proofs.leftmost_after.Statement.{statement}
 use Rattle.twosided.proofs.leftmost_after.Tie as tie
