@@ -2,7 +2,7 @@
 
 use std::time::{Duration, Instant};
 
-const MOST_ROUNDS: usize = 60;
+const MOST_ROUNDS: usize = 200;
 const FEWEST_ROUNDS: usize = 3;
 /// Calls of one round take about this long together: short, so that some rounds are not interrupted.
 const ROUND: Duration = Duration::from_millis(2);
