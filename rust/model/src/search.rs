@@ -3,14 +3,25 @@
 use crate::rules::{layout_words, Ties};
 use crate::sheet::Sheet;
 
+/// The best layout: each site's slot, and how many layouts have its count and length.
+pub struct Found {
+    pub slot_of: Vec<usize>,
+    pub equals: usize,
+}
+
 /// The words of the best layout, or none where no layout obeys rules 1 to 5.
+pub fn best(sheet: &Sheet) -> Option<Vec<u32>> {
+    find(sheet).map(|found| layout_words(sheet, &found.slot_of))
+}
+
+/// The best layout, or none where no layout obeys rules 1 to 5.
 ///
 /// Layouts are tried in the order of choice (the site with the least x first, its lowest slot first), so the
 /// first of the equals is the one that is kept.
-pub fn best(sheet: &Sheet) -> Option<Vec<u32>> {
+pub fn find(sheet: &Sheet) -> Option<Found> {
     let order = sheet.by_x();
     let mut slot_of = vec![0; sheet.sites.len()];
-    let mut least: Option<((u32, u32), Vec<usize>)> = None;
+    let mut least: Option<((u32, u32), Found)> = None;
     if sheet.slots.is_empty() && !slot_of.is_empty() {
         return None;
     }
@@ -19,12 +30,14 @@ pub fn best(sheet: &Sheet) -> Option<Vec<u32>> {
         if ties.broken() == 0 {
             let (count, length) = ties.numbers();
             let cost = if sheet.shortest { (length, count) } else { (count, length) };
-            if least.as_ref().is_none_or(|(old, _)| cost < *old) {
-                least = Some((cost, slot_of.clone()));
+            match &mut least {
+                Some((old, found)) if cost == *old => found.equals += 1,
+                Some((old, _)) if cost > *old => {}
+                _ => least = Some((cost, Found { slot_of: slot_of.clone(), equals: 1 })),
             }
         }
         if !next(&mut slot_of, &order, sheet.slots.len()) {
-            return least.map(|(_, slot_of)| layout_words(sheet, &slot_of));
+            return least.map(|(_, found)| found);
         }
     }
 }
