@@ -6,7 +6,7 @@ use Prim.Native.Nat.{ℕ}
 use lib.Dec.{eqb}
 use lib.ListN.{getD, drop}
 use Rattle.sheet.specs.Sheet.{bits, sheetIn}
-use Rattle.pairs.specs.declared.Head.{Head}
+use Rattle.tied.specs.declared.Head.{Head}
 use Rattle.pairs.specs.declared.Test.the-variants.{Colours, Gaps, Misses, Clears, First}
 use Rattle.rules.specs.Words.{tiedIn, pairsPass, passing, boundsFrom, labelsIn, lengthIn}
 use Rattle.rules.proofs.Kept.{rule-one, rule-two, rule-three, rule-four, rule-five, labels-counted, length-counted}

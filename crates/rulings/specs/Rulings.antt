@@ -6,7 +6,7 @@ use Prim.Native.Nat.{ℕ}
 use lib.Dec.{eqb}
 use Rattle.sheet.specs.Sheet.{all, sheetIn, sheetFault}
 use Rattle.labelling.specs.Layout.{tied, coloursKept, boundsKept, gapsKept, missesAll, clearsAll, countOf, lengthOf, statedCount, statedLength, layoutTies, isLayout}
-use Rattle.pairs.specs.declared.Head.{Head}
+use Rattle.tied.specs.declared.Head.{Head}
 use Rattle.rules.specs.Words.{headOf}
 
 -- an accepted sheet, its head, and a layout of it

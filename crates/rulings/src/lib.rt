@@ -3,12 +3,12 @@ ghost use mathlib.Core.Path.{_≡_};
 ghost use Rattle.sheet.specs.Sheet.{sheetIn};
 ghost use Rattle.labelling.specs.Layout.{brokenBy};
 ghost use Rattle.rulings.specs.Rulings.{Stored, keepsSix};
-use pairs::Head;
 use pairs::Test;
 use rules::bounds_pass;
 use rules::pairs_pass;
 use rules::passing_sites;
 use rules::total_length;
+use tied::Head;
 use totals::is_stated;
 use words::get;
 

@@ -1,7 +1,7 @@
 use mathlib.Core.Path.{refl}
 use borrow.Author.Needs.{needs}
-use Rattle.pairs.proofs.vertical_has.Statement.{statement}
-use Rattle.pairs.proofs.vertical_has.Tie as tie
+use Rattle.verticals.proofs.vertical_has.Statement.{statement}
+use Rattle.verticals.proofs.vertical_has.Tie as tie
 
 choose-requires : tie.Need-choose-requires
 choose-requires c κs = search needs

@@ -1,7 +1,7 @@
 use mathlib.Core.Path.{refl}
 use borrow.Author.Needs.{needs}
-use Rattle.pairs.proofs.gaps_pass.Statement.{statement}
-use Rattle.pairs.proofs.gaps_pass.Tie as tie
+use Rattle.clearance.proofs.gaps_pass.Statement.{statement}
+use Rattle.clearance.proofs.gaps_pass.Tie as tie
 
 apart-of-requires : tie.Need-apart-of-requires
 apart-of-requires c κs = search needs
