@@ -6,7 +6,6 @@ ghost use lib.ListN.{length};
 ghost use Rattle.sheet.specs.Sheet.{slotsIn, coloursIn, sitesIn};
 ghost use Rattle.sheet.specs.Words.{countKind};
 use words::both;
-use words::few;
 use words::kind_of;
 
 // The words of a kind.
@@ -28,8 +27,8 @@ pub fn count_kind(words: &[u32], kind: u32) -> usize
 pub fn counts_fit(body: &[u32]) -> bool
     ensures { λ r. ⌜ r ≡ (leb (length (slotsIn (now (body .entry)))) 48 && leb (length (coloursIn (now (body .entry)))) 8 && leb (length (sitesIn 0 (now (body .entry)))) 32) ⌝ }
 {
-    let slots = few(count_kind(body, 2), 48);
-    let colours = few(count_kind(body, 3), 8);
-    let sites = few(count_kind(body, 4), 32);
+    let slots = count_kind(body, 2) <= 48;
+    let colours = count_kind(body, 3) <= 8;
+    let sites = count_kind(body, 4) <= 32;
     both(both(slots, colours), sites)
 }

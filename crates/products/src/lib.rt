@@ -5,15 +5,15 @@ ghost use Rattle.sheet.specs.Sheet.{coloursIn, productOf};
 ghost use Rattle.products.specs.Products.{factorOf, capped};
 use words::choose;
 use words::kind_of;
-use words::same;
 
 // What a word multiplies P by.
 fn factor(w: u32) -> u32
     ensures { λ r. ⌜ r ≡ factorOf w ⌝ }
 {
     let bound = w % 256;
-    let times = choose(same(bound, 255), 1, bound + 1);
-    choose(same(kind_of(w), 3), times, 1)
+    let times = choose(bound == 255, 1, bound + 1);
+    let colour = kind_of(w) == 3;
+    choose(colour, times, 1)
 }
 
 // P, or 65 where it is above 64: it stops there, so that no product is too large.

@@ -5,16 +5,16 @@ ghost use lib.ListN.{length, getD, drop};
 ghost use Rattle.ranks.specs.Ranks.{isRanked, someRanked, rankNew};
 use words::both;
 use words::either;
-use words::is_not;
 use words::kind_of;
 use words::rank_of;
-use words::same;
 
 // A word is a site of this rank.
 fn is_ranked(rank: u32, w: u32) -> bool
     ensures { λ r. ⌜ r ≡ isRanked rank w ⌝ }
 {
-    both(same(kind_of(w), 4), same(rank_of(w), rank))
+    let site = kind_of(w) == 4;
+    let equal = rank_of(w) == rank;
+    both(site, equal)
 }
 
 // Some word from a place on is a site of this rank.
@@ -37,8 +37,7 @@ pub fn rank_new(words: &[u32], i: usize) -> bool
     ensures { λ r. ⌜ r ≡ rankNew (getD (now (words .entry)) i 0) (drop (i + 1) (now (words .entry))) ⌝ }
 {
     let w = words[i];
-    either(
-        is_not(same(kind_of(w), 4)),
-        is_not(some_ranked(words, i + 1, rank_of(w))),
-    )
+    let other = kind_of(w) != 4;
+    let new = !some_ranked(words, i + 1, rank_of(w));
+    either(other, new)
 }

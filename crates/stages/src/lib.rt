@@ -5,7 +5,6 @@ ghost use Rattle.stages.specs.Stages.{stageAfter};
 use words::choose;
 use words::high_field;
 use words::kind_of;
-use words::same;
 
 // Refusal 2: a bit that has no name.
 fn has_spare(w: u32) -> bool
@@ -30,13 +29,13 @@ pub fn stage_after(z: u32, w: u32) -> u32
     }
     let k = kind_of(w);
     if k == 2 {
-        return choose(same(z, 0), 0, 2);
+        return choose(z == 0, 0, 2);
     }
     if k == 3 {
         return 1;
     }
     if k == 4 {
-        return choose(same(z, 1), 1, 2);
+        return choose(z == 1, 1, 2);
     }
     2
 }

@@ -7,35 +7,21 @@ use Rattle.ranks.proofs.is_ranked.Tie as tie
 kind-of-requires : tie.Need-kind-of-requires
 kind-of-requires c κs = search needs
 
-same-requires : tie.Need-same-requires
-same-requires c κs = search needs
-
 rank-of-requires : tie.Need-rank-of-requires
 rank-of-requires c κs = search needs
-
-same-requires-2 : tie.Need-same-requires-2
-same-requires-2 c κs = search needs
 
 both-requires : tie.Need-both-requires
 both-requires c κs = search needs
 
 returns : tie.Need-returns
 returns c =
-    rw (
-      c .both .ensures,
-      c .before .same2 .ensures,
-      c .before .before .rank-of .ensures,
-      c .before .before .before .same .ensures,
-      c .before .before .before .before .kind-of .ensures,
-    ) refl
+    rw (c .both .ensures, c .before .rank-of .ensures, c .before .before .kind-of .ensures) refl
 
 pub is-ranked-spec : {M : Type 1} → statement M
 is-ranked-spec =
     tie.close
     (tie.spec
     kind-of-requires
-    same-requires
     rank-of-requires
-    same-requires-2
     both-requires
     returns)

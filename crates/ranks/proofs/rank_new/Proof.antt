@@ -13,12 +13,6 @@ shared-slice-read-w c = search needs
 kind-of-requires : tie.Need-kind-of-requires
 kind-of-requires c κs = search needs
 
-same-requires : tie.Need-same-requires
-same-requires c κs = search needs
-
-is-not-requires : tie.Need-is-not-requires
-is-not-requires c κs = search needs
-
 add-some-ranked : tie.Need-add-some-ranked
 add-some-ranked c = search needs
 
@@ -28,23 +22,12 @@ rank-of-requires c κs = search needs
 some-ranked-requires : tie.Need-some-ranked-requires
 some-ranked-requires c κs = search needs
 
-is-not-requires-2 : tie.Need-is-not-requires-2
-is-not-requires-2 c κs = search needs
-
 either-requires : tie.Need-either-requires
 either-requires c κs = search needs
 
 returns : tie.Need-returns
 returns c =
-    rw (
-      c .either .ensures,
-      c .before .is-not2 .ensures,
-      c .before .before .some-ranked .ensures,
-      c .before .before .before .rank-of .ensures,
-      c .before .before .before .before .is-not .ensures,
-      c .before .before .before .before .before .same .ensures,
-      c .before .before .before .before .before .before .kind-of .ensures,
-    ) refl
+    rw (c .either .ensures, c .before .some-ranked .ensures, c .before .before .rank-of .ensures, c .before .before .before .kind-of .ensures) refl
 
 pub rank-new-spec : {M : Type 1} → statement M
 rank-new-spec =
@@ -53,11 +36,8 @@ rank-new-spec =
     mul-w
     shared-slice-read-w
     kind-of-requires
-    same-requires
-    is-not-requires
     add-some-ranked
     rank-of-requires
     some-ranked-requires
-    is-not-requires-2
     either-requires
     returns)

@@ -18,17 +18,14 @@ returns c =
 kind-of-requires : tie.Need-kind-of-requires
 kind-of-requires c κs = search needs
 
-same-requires : tie.Need-same-requires
-same-requires c κs = search needs
-
 choose-requires : tie.Need-choose-requires
 choose-requires c κs = search needs
 
 returns-2 : tie.Need-returns-2
 returns-2 c =
-    let w = c .before .before .before .before .before .before .args .w in
-    let spare : hasSpare w ≡ false = sym (c .before .before .before .before .before .has-spare .ensures) ∙ c .before .before .before .before .if1 .left in
-    rw (spare, eq-eqb (kindOf w) 2 (omega arith), c .choose .ensures, c .before .same .ensures) refl
+    let w = c .before .before .before .before .before .args .w in
+    let spare : hasSpare w ≡ false = sym (c .before .before .before .before .has-spare .ensures) ∙ c .before .before .before .if1 .left in
+    rw (spare, eq-eqb (kindOf w) 2 (omega arith), c .choose .ensures) refl
 
 returns-3 : tie.Need-returns-3
 returns-3 c =
@@ -36,17 +33,14 @@ returns-3 c =
     let spare : hasSpare w ≡ false = sym (c .before .before .before .before .has-spare .ensures) ∙ c .before .before .before .if1 .left in
     rw (spare, ne-eqb (kindOf w) 2 (λ e. omega arith), eq-eqb (kindOf w) 3 (omega arith))
 
-same-requires-2 : tie.Need-same-requires-2
-same-requires-2 c κs = search needs
-
 choose-requires-2 : tie.Need-choose-requires-2
 choose-requires-2 c κs = search needs
 
 returns-4 : tie.Need-returns-4
 returns-4 c =
-    let w = c .before .before .before .before .before .before .before .before .args .w in
-    let spare : hasSpare w ≡ false = sym (c .before .before .before .before .before .before .before .has-spare .ensures) ∙ c .before .before .before .before .before .before .if1 .left in
-    rw (spare, ne-eqb (kindOf w) 2 (λ e. omega arith), ne-eqb (kindOf w) 3 (λ e. omega arith), eq-eqb (kindOf w) 4 (omega arith), c .choose2 .ensures, c .before .same2 .ensures) refl
+    let w = c .before .before .before .before .before .before .before .args .w in
+    let spare : hasSpare w ≡ false = sym (c .before .before .before .before .before .before .has-spare .ensures) ∙ c .before .before .before .before .before .if1 .left in
+    rw (spare, ne-eqb (kindOf w) 2 (λ e. omega arith), ne-eqb (kindOf w) 3 (λ e. omega arith), eq-eqb (kindOf w) 4 (omega arith), c .choose2 .ensures) refl
 
 returns-5 : tie.Need-returns-5
 returns-5 c =
@@ -61,11 +55,9 @@ stage-after-spec =
     has-spare-requires
     returns
     kind-of-requires
-    same-requires
     choose-requires
     returns-2
     returns-3
-    same-requires-2
     choose-requires-2
     returns-4
     returns-5)
