@@ -14,7 +14,7 @@ use Rattle.lists.proofs.Front.{front, front-all}
 use Rattle.optimum.specs.UsedSlots.{Instance, value, allows}
 use Rattle.arrays.specs.declared.Measures.{Measures}
 use Rattle.usedslots.specs.Table.{capsIn, Fits}
-use Rattle.keeps.proofs.Lower.{value-lower}
+use Rattle.marking.proofs.Lower.{value-lower}
 use Rattle.goals.specs.Goals.{Reaches, Within, Goals}
 
 -- other caps, as many
