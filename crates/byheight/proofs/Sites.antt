@@ -1,11 +1,11 @@
 -- Sites in another order: strips and the least cost stay. Assumes nothing.
 use mathlib.Core.Path.{_≡_, refl, sym, ap, ap₂, _∙_, fun-ext, subst}
 use mathlib.Core.Bool.{Bool}
-use mathlib.Core.List.{List, [], _∷_}
+use mathlib.Core.List.{List, [], _∷_, _++_}
 use Prim.Native.Nat.{ℕ, zero, suc, _+_, _-_, _≤_, _<_}
 use native.Mathlib.Omega.{arith}
 use lib.Dec.{eqb}
-use lib.ListN.{length, getD, take}
+use lib.ListN.{length, getD, take, drop, replicate}
 use Rattle.search.specs.Walk.{Process, best}
 use Rattle.search.specs.Sums.{sumTo, listing}
 use Rattle.search.proofs.CappedSums.{sum-cong}
@@ -13,7 +13,7 @@ use Rattle.optimum.specs.Slots.{farFrom}
 use Rattle.optimum.specs.UsedSlots.{may, draw, strip, price, next, final, labels, State, below, T, value}
 use Rattle.arrays.specs.declared.Measures.{Measures}
 use Rattle.arrays.specs.Arrays.{padded, gathered}
-use Rattle.arrays.proofs.Whole.{front}
+use Rattle.arrays.proofs.Whole.{whole, front}
 use Rattle.arrays.proofs.Ordered.{gathered-long}
 use Rattle.tiefits.specs.declared.Label.{Label}
 use Rattle.stripcosts.specs.Costs.{upperAt, lowerAt, siteOf, stripOf}
@@ -154,14 +154,20 @@ module _ (q : Measures) (hs bs rs ys cs order : List ℕ) (r : Reorders order (l
 
 -- ---- the same of the fronts of the arrays that code has
 
-taken-front : (l order r : List ℕ) (n : ℕ) → Reorders order n → r ≡ padded 32 (gathered l order) → take n r ≡ gathered l order
-taken-front l order r n o e = rw e (front 32 (gathered l order) n (sym (gathered-long l order ∙ o .long)))
+-- words gathered into an array of zeros
+abbrev gathered32 : (l order : List ℕ) → List ℕ
+gathered32 l order = gathered l order ++ drop (length order) (replicate 32 0)
 
-pub front-long : (l order r : List ℕ) (n : ℕ) → Reorders order n → r ≡ padded 32 (gathered l order) → n ≡ length (take n r)
+taken-front : (l order r : List ℕ) (n : ℕ) → Reorders order n → r ≡ gathered32 l order → take n r ≡ gathered l order
+taken-front l order r n o e =
+    let z : r ≡ padded 32 (gathered l order) = e ∙ whole (gathered l order) (gathered l order) 32 (length order) refl (sym (gathered-long l order)) in
+    rw z (front 32 (gathered l order) n (sym (gathered-long l order ∙ o .long)))
+
+pub front-long : (l order r : List ℕ) (n : ℕ) → Reorders order n → r ≡ gathered32 l order → n ≡ length (take n r)
 front-long l order r n o e = sym (ap length (taken-front l order r n o e) ∙ gathered-long l order ∙ o .long)
 
 module _ (q : Measures) (hs bs rs ds ys cs caps order : List ℕ) (r : Reorders order (length ys)) (x y z : List ℕ)
-    (x-is : x ≡ padded 32 (gathered ys order)) (y-is : y ≡ padded 32 (gathered cs order)) (z-is : z ≡ padded 32 (gathered caps order)) where
+    (x-is : x ≡ gathered32 ys order) (y-is : y ≡ gathered32 cs order) (z-is : z ≡ gathered32 caps order) where
   abbrev us : List ℕ
   us = take (length ys) x
 

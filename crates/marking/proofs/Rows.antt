@@ -9,7 +9,7 @@ use native.Mathlib.Omega.{arith}
 use lib.ListN.{length, getD, take, replicate}
 use Rattle.search.specs.Cost.{plus}
 use Rattle.optimum.specs.Slots.{farFrom}
-use Rattle.optimum.specs.UsedSlots.{Instance}
+use Rattle.optimum.specs.UsedSlots.{Instance, value}
 use Rattle.optimum.specs.Rows.{cell}
 use Rattle.optimum.proofs.Rows.{link-near, link-lost, acc-next, cell-apart}
 use Rattle.arrays.specs.declared.Measures.{Measures}
@@ -22,9 +22,9 @@ use Rattle.links.specs.Rows.{sizeOf}
 use Rattle.usedslots.specs.Table.{none, tableBy, capsIn, Fits, tableWords}
 use Rattle.usedslots.proofs.Strips.{strip-is}
 use Rattle.usedslots.proofs.Links.{may-is, draw-is, row-there}
-use Rattle.rowmarks.specs.Marks.{Linked}
-use Rattle.marking.specs.Marked.{Table, RowTo}
-use Rattle.marking.proofs.Search.{row-skip, row-more}
+use Rattle.rowmarks.specs.Marks.{Linked, Ended}
+use Rattle.marking.specs.Marked.{Table, Reached, RowTo, PlaceTo}
+use Rattle.marking.proofs.Search.{row-skip, row-more, row-found, row-first, row-whole, row-unmarked, place-unmarked}
 
 module _ (q : Measures) (hs bs rs ds ys cs caps : List ℕ) (f : Fits q hs bs rs ds ys cs caps) (a ca : ℕ) (p₀ : List ℕ) where
   abbrev G : Instance
@@ -72,6 +72,44 @@ module _ (q : Measures) (hs bs rs ds ys cs caps : List ℕ) (f : Fits q hs bs rs
   pub row-ends : (p : List ℕ) (j other : ℕ) → a + j < length hs → other ≡ 255 → Barred hs ys cs a ca (a + j) other → R p j 0 → R p (length hs - a) 0
   row-ends p j other h o b r = lost.all-lost hs ys cs (f .rising) a ca (q .colours) (R p) (skip-lost p) (next-slot p) j other (f .few-colours) h o b r
 
+-- ---- a row and a place in the numbers that code has
+
+module _ (q : Measures) (hs bs rs ys cs caps : List ℕ) (a ca : ℕ) where
+  abbrev H : Instance
+  H = tableBy q hs bs rs ys cs
+
+  -- no mark in the row
+  pub row-none : (p : List ℕ) (own : ℕ) (t : Bool) → own ≡ cell (q .colours) (q .budgets) a ca 0 →
+      (t ≡ false → (i : ℕ) → i < q .budgets → getD p (own + i) 0 ≡ 0) → t ≡ false →
+      Reached H (capsIn caps) (q .budgets) p → PlaceTo H (capsIn caps) (q .budgets) p p a ca (suc ca)
+  row-none p own t e h f r = row-unmarked H (capsIn caps) (q .budgets) p a ca (rw e at (h f)) r
+
+  -- a layout ends there, or none does and the marks are passed on
+  pub row-ended : (p work : List ℕ) (own strip : ℕ) (t : Bool) → a ≤ length hs → ca ≤ q .colours → own ≡ cell (q .colours) (q .budgets) a ca 0 → Table H work (q .budgets) a ca →
+      strip ≡ stripOf q (upperAt hs a ca) (lowerAt hs (length hs) 0) ys cs caps → Reached H (capsIn caps) (q .budgets) p →
+      Ended p work own (q .budgets) strip t → t ≡ true → value H (capsIn caps) ≤ value H (λ i. 0)
+  row-ended p work own s t h l o tb e r n y =
+      row-found H (capsIn caps) (q .budgets) p work a ca s h l tb (e ∙ strip-is q hs bs rs ys cs [] caps a ca (length hs) 0) r (rw (o, y) at n)
+
+  pub row-passed : (p new work : List ℕ) (own strip : ℕ) (t : Bool) → a ≤ length hs → own ≡ cell (q .colours) (q .budgets) a ca 0 → Table H work (q .budgets) a ca →
+      strip ≡ stripOf q (upperAt hs a ca) (lowerAt hs (length hs) 0) ys cs caps → Reached H (capsIn caps) (q .budgets) p →
+      Ended p work own (q .budgets) strip t → t ≡ false →
+      ((old : List ℕ) → RowTo H (capsIn caps) (q .budgets) old p a ca 0 0 → RowTo H (capsIn caps) (q .budgets) old new a ca (length hs - a) 0) →
+      PlaceTo H (capsIn caps) (q .budgets) p new a ca (suc ca)
+  row-passed p new work own s t h o tb e r n y f =
+      row-whole H (capsIn caps) (q .budgets) p new a ca (length hs - a) h refl
+      (f p (row-first H (capsIn caps) (q .budgets) p work a ca s h tb (e ∙ strip-is q hs bs rs ys cs [] caps a ca (length hs) 0) r (rw (o, y) at n)))
+
+  -- no mark in the rows of a place, ca the first code
+  pub place-over : (p : List ℕ) (last own rows : ℕ) (t : Bool) → ca ≤ suc last → own ≡ cell (q .colours) (q .budgets) a ca 0 → rows ≡ last + 1 - ca →
+      (t ≡ false → (i : ℕ) → i < rows * q .budgets → getD p (own + i) 0 ≡ 0) → t ≡ false →
+      Reached H (capsIn caps) (q .budgets) p → PlaceTo H (capsIn caps) (q .budgets) p p a ca (suc last)
+  place-over p last own rows t h e f n y r = place-unmarked H (capsIn caps) (q .budgets) p a ca last h (rw (e, f) at (n y)) r
+
+-- where a row lies
+pub row-in : (q : Measures) (hs : List ℕ) (a ca own len : ℕ) → 0 < q .budgets → a ≤ length hs → ca ≤ q .colours → own ≡ cell (q .colours) (q .budgets) a ca 0 → tableWords q hs ≤ len → own + q .budgets ≤ len
+row-in q hs a ca own len p h l e t = let z = row-there q hs a ca p (omega arith) l in omega arith
+
 -- the row of a place and a code ends before that of a label below it begins
 pub rows-apart : (C P a ca j d own to : ℕ) → ca ≤ C → 0 < P → own ≡ cell C P a ca 0 → to ≡ cell C P (a + j + 1) (d + 1) 0 → own + P ≤ to
 rows-apart C P a ca j d own to h l e f = let z = cell-apart C P a ca (P - 1) (a + j + 1) (d + 1) 0 (omega arith) h (omega arith) in omega arith
@@ -80,12 +118,16 @@ rows-apart C P a ca j d own to h l e f = let z = cell-apart C P a ca (P - 1) (a 
 code-end : (C P a first k : ℕ) → cell C P a first 0 + k * P ≡ (a * suc C + (first + k)) * P
 code-end C P a first k = omega arith
 
-pub place-there : (q : Measures) (hs : List ℕ) (a first last : ℕ) → 0 < q .budgets → a ≤ suc (length hs) → first ≤ suc last → last ≤ q .colours →
+place-there : (q : Measures) (hs : List ℕ) (a first last : ℕ) → 0 < q .budgets → a ≤ suc (length hs) → first ≤ suc last → last ≤ q .colours →
     cell (q .colours) (q .budgets) a first 0 + (last + 1 - first) * q .budgets ≤ tableWords q hs
 place-there q hs a first last p h u l =
     let e : first + (last + 1 - first) ≡ suc last = omega arith in
     let z = row-there q hs a last p h l in
     rw (code-end (q .colours) (q .budgets) a first (last + 1 - first), e) (omega arith)
+
+pub place-in : (q : Measures) (hs : List ℕ) (a first last own rows len : ℕ) → 0 < q .budgets → a ≤ length hs → first ≤ suc last → last ≤ q .colours →
+    own ≡ cell (q .colours) (q .budgets) a first 0 → rows ≡ last + 1 - first → len ≡ tableWords q hs → own + rows * q .budgets ≤ len
+place-in q hs a first last own rows len p h u l e f t = rw (e, f, t) (place-there q hs a first last p (omega arith) u l)
 
 pub rows-few : (r P : ℕ) → r ≤ 9 → P ≤ 64 → r * P ≤ 576
 rows-few r P h l = mul-le-mul {n₂ = 9} {m₂ = 64} h l

@@ -5,49 +5,61 @@ use borrow.Author.Needs.{needs}
 use Rattle.byheight.proofs.value_of.Statement.{statement}
 use Rattle.byheight.proofs.value_of.Tie as tie
 
-gathered-of-requires : tie.Need-gathered-of-requires
-gathered-of-requires c κs =
-    let p = c .before .before .before .before .before .before .before .before .before .pre in omega (arith, p .0 .few-sites, p .1 .0 .long)
+slice-aggregate-gather-into : tie.Need-slice-aggregate-gather-into
+slice-aggregate-gather-into c =
+    search needs
 
-gathered-of-requires-2 : tie.Need-gathered-of-requires-2
-gathered-of-requires-2 c κs =
+gather-into-requires : tie.Need-gather-into-requires
+gather-into-requires c κs =
     let p = c .before .before .before .before .before .before .before .before .before .before .pre in omega (arith, p .0 .few-sites, p .1 .0 .long)
 
-gathered-of-requires-3 : tie.Need-gathered-of-requires-3
-gathered-of-requires-3 c κs =
-    let p = c .before .before .before .before .before .before .before .before .before .before .before .pre in omega (arith, p .0 .few-sites, p .1 .0 .long)
+slice-aggregate-gather-into-2 : tie.Need-slice-aggregate-gather-into-2
+slice-aggregate-gather-into-2 c =
+    search needs
+
+gather-into-requires-2 : tie.Need-gather-into-requires-2
+gather-into-requires-2 c κs =
+    let p = c .before .before .before .before .before .before .before .before .before .before .before .before .before .pre in omega (arith, p .0 .few-sites, p .1 .0 .long)
+
+slice-aggregate-gather-into-3 : tie.Need-slice-aggregate-gather-into-3
+slice-aggregate-gather-into-3 c =
+    search needs
+
+gather-into-requires-3 : tie.Need-gather-into-requires-3
+gather-into-requires-3 c κs =
+    let p = c .before .before .before .before .before .before .before .before .before .before .before .before .before .before .before .before .pre in omega (arith, p .0 .few-sites, p .1 .0 .long)
 
 array-share-prefix-sorted-ys : tie.Need-array-share-prefix-sorted-ys
 array-share-prefix-sorted-ys c =
-    omega (arith, c .before .before .before .before .before .before .before .before .before .before .before .before .pre .0 .few-sites)
+    omega (arith, c .before .before .before .before .before .before .before .before .before .before .before .before .before .before .before .before .before .before .pre .0 .few-sites)
 
 slice-aggregate-value-of : tie.Need-slice-aggregate-value-of
 slice-aggregate-value-of c =
-    let a = c .before .before .before .before .before .before .before .before .before .before .before .before .before .args in let p = c .before .before .before .before .before .before .before .before .before .before .before .before .before .pre in
-    front-long (a .ys .now) (a .order .now) (c .before .before .before .gathered-of .result) (length (a .ys .now)) (p .1 .0) (c .before .before .before .gathered-of .ensures)
+    let a = c .before .before .before .before .before .before .before .before .before .before .before .before .before .before .before .before .before .before .before .args in let p = c .before .before .before .before .before .before .before .before .before .before .before .before .before .before .before .before .before .before .before .pre in
+    front-long (a .ys .now) (a .order .now) _ (length (a .ys .now)) (p .1 .0) (c .before .before .before .before .before .before .before .before .gather-into .ensures)
 
 array-share-prefix-sorted-colours : tie.Need-array-share-prefix-sorted-colours
 array-share-prefix-sorted-colours c =
-    omega (arith, c .before .before .before .before .before .before .before .before .before .before .before .before .before .pre .0 .few-sites)
+    omega (arith, c .before .before .before .before .before .before .before .before .before .before .before .before .before .before .before .before .before .before .before .pre .0 .few-sites)
 
 slice-aggregate-value-of-2 : tie.Need-slice-aggregate-value-of-2
 slice-aggregate-value-of-2 c =
-    let a = c .before .before .before .before .before .before .before .before .before .before .before .before .before .before .args in let p = c .before .before .before .before .before .before .before .before .before .before .before .before .before .before .pre in
-    front-long (a .colours .now) (a .order .now) (c .before .before .before .gathered-of2 .result) (length (a .ys .now)) (p .1 .0) (c .before .before .before .gathered-of2 .ensures)
+    let a = c .before .before .before .before .before .before .before .before .before .before .before .before .before .before .before .before .before .before .before .before .args in let p = c .before .before .before .before .before .before .before .before .before .before .before .before .before .before .before .before .before .before .before .before .pre in
+    front-long (a .colours .now) (a .order .now) _ (length (a .ys .now)) (p .1 .0) (c .before .before .before .before .before .before .gather-into2 .ensures)
 
 array-share-prefix-sorted-caps : tie.Need-array-share-prefix-sorted-caps
 array-share-prefix-sorted-caps c =
-    omega (arith, c .before .before .before .before .before .before .before .before .before .before .before .before .before .before .pre .0 .few-sites)
+    omega (arith, c .before .before .before .before .before .before .before .before .before .before .before .before .before .before .before .before .before .before .before .before .pre .0 .few-sites)
 
 slice-aggregate-value-of-3 : tie.Need-slice-aggregate-value-of-3
 slice-aggregate-value-of-3 c =
-    let a = c .before .before .before .before .before .before .before .before .before .before .before .before .before .before .before .args in let p = c .before .before .before .before .before .before .before .before .before .before .before .before .before .before .before .pre in
-    front-long (a .caps .now) (a .order .now) (c .before .before .before .gathered-of3 .result) (length (a .ys .now)) (p .1 .0) (c .before .before .before .gathered-of3 .ensures)
+    let a = c .before .before .before .before .before .before .before .before .before .before .before .before .before .before .before .before .before .before .before .before .before .args in let p = c .before .before .before .before .before .before .before .before .before .before .before .before .before .before .before .before .before .before .before .before .before .pre in
+    front-long (a .caps .now) (a .order .now) _ (length (a .ys .now)) (p .1 .0) (c .before .before .before .before .gather-into3 .ensures)
 
 value-of-requires : tie.Need-value-of-requires
 value-of-requires c κs =
-    let a = c .before .before .before .before .before .before .before .before .before .before .before .before .before .before .before .before .args in let p = c .before .before .before .before .before .before .before .before .before .before .before .before .before .before .before .before .pre in
-    (fits-front (a .q) (a .heights .now) (a .bounds .now) (a .radices .now) (a .draws .now) (a .ys .now) (a .colours .now) (a .caps .now) (a .order .now) (p .1 .0) (c .before .before .before .before .before .before .gathered-of .result) (c .before .before .before .before .before .gathered-of2 .result) (c .before .before .before .before .gathered-of3 .result) (c .before .before .before .before .before .before .gathered-of .ensures) (c .before .before .before .before .before .gathered-of2 .ensures) (c .before .before .before .before .gathered-of3 .ensures) (p .0), p .1 .1)
+    let a = c .before .before .before .before .before .before .before .before .before .before .before .before .before .before .before .before .before .before .before .before .before .before .args in let p = c .before .before .before .before .before .before .before .before .before .before .before .before .before .before .before .before .before .before .before .before .before .before .pre in
+    (fits-front (a .q) (a .heights .now) (a .bounds .now) (a .radices .now) (a .draws .now) (a .ys .now) (a .colours .now) (a .caps .now) (a .order .now) (p .1 .0) _ _ _ (c .before .before .before .before .before .before .before .before .before .before .before .gather-into .ensures) (c .before .before .before .before .before .before .before .before .gather-into2 .ensures) (c .before .before .before .before .before .gather-into3 .ensures) (p .0), p .1 .1)
 
 same-length : tie.Need-same-length
 same-length c =
@@ -55,18 +67,21 @@ same-length c =
 
 returns : tie.Need-returns
 returns c =
-    let a = c .before .before .before .before .before .before .before .before .before .before .before .before .before .before .before .before .before .before .before .args in let p = c .before .before .before .before .before .before .before .before .before .before .before .before .before .before .before .before .before .before .before .pre in let v = c .before .before .value-of in (
-      value-front (a .q) (a .heights .now) (a .bounds .now) (a .radices .now) (a .draws .now) (a .ys .now) (a .colours .now) (a .caps .now) (a .order .now) (p .1 .0) (c .before .before .before .before .before .before .before .before .before .gathered-of .result) (c .before .before .before .before .before .before .before .before .gathered-of2 .result) (c .before .before .before .before .before .before .before .gathered-of3 .result) (c .before .before .before .before .before .before .before .before .before .gathered-of .ensures) (c .before .before .before .before .before .before .before .before .gathered-of2 .ensures) (c .before .before .before .before .before .before .before .gathered-of3 .ensures) (v .result) (v .ensures .0),
-      (right-front (a .q) (a .heights .now) (a .bounds .now) (a .radices .now) (a .draws .now) (a .ys .now) (a .colours .now) (a .caps .now) (a .order .now) (p .1 .0) (c .before .before .before .before .before .before .before .before .before .gathered-of .result) (c .before .before .before .before .before .before .before .before .gathered-of2 .result) (c .before .before .before .before .before .before .before .gathered-of3 .result) (c .before .before .before .before .before .before .before .before .before .gathered-of .ensures) (c .before .before .before .before .before .before .before .before .gathered-of2 .ensures) (c .before .before .before .before .before .before .before .gathered-of3 .ensures) _ (v .ensures .1 .0), v .ensures .1 .1),
+    let a = c .before .before .before .before .before .before .before .before .before .before .before .before .before .before .before .before .before .before .before .before .before .before .before .before .before .args in let p = c .before .before .before .before .before .before .before .before .before .before .before .before .before .before .before .before .before .before .before .before .before .before .before .before .before .pre in let v = c .before .before .value-of in (
+      value-front (a .q) (a .heights .now) (a .bounds .now) (a .radices .now) (a .draws .now) (a .ys .now) (a .colours .now) (a .caps .now) (a .order .now) (p .1 .0) _ _ _ (c .before .before .before .before .before .before .before .before .before .before .before .before .before .before .gather-into .ensures) (c .before .before .before .before .before .before .before .before .before .before .before .gather-into2 .ensures) (c .before .before .before .before .before .before .before .before .gather-into3 .ensures) (v .result) (v .ensures .0),
+      (right-front (a .q) (a .heights .now) (a .bounds .now) (a .radices .now) (a .draws .now) (a .ys .now) (a .colours .now) (a .caps .now) (a .order .now) (p .1 .0) _ _ _ (c .before .before .before .before .before .before .before .before .before .before .before .before .before .before .gather-into .ensures) (c .before .before .before .before .before .before .before .before .before .before .before .gather-into2 .ensures) (c .before .before .before .before .before .before .before .before .gather-into3 .ensures) _ (v .ensures .1 .0), v .ensures .1 .1),
     )
 
 pub value-of-spec : {M : Type 1} → statement M
 value-of-spec =
     tie.close
     (tie.spec
-    gathered-of-requires
-    gathered-of-requires-2
-    gathered-of-requires-3
+    slice-aggregate-gather-into
+    gather-into-requires
+    slice-aggregate-gather-into-2
+    gather-into-requires-2
+    slice-aggregate-gather-into-3
+    gather-into-requires-3
     array-share-prefix-sorted-ys
     slice-aggregate-value-of
     array-share-prefix-sorted-colours

@@ -1,15 +1,14 @@
-use Rattle.marking.proofs.Search.{place-none, place-more, place-last, place-unmarked}
-use Rattle.marking.proofs.Rows.{place-there, rows-few}
+use Rattle.marking.proofs.Search.{place-none, place-more, place-last}
+use Rattle.marking.proofs.Rows.{place-over, place-in, rows-few}
 use Rattle.marking.specs.Marked.{PlaceTo}
 use Rattle.usedslots.specs.Table.{tableBy, capsIn}
-use Rattle.optimum.specs.Rows.{cell}
 use Rattle.lists.proofs.Tests.{clash}
 use borrow.Author.Tests.{not-true}
 use mathlib.Core.Path.{_≡_, refl, _∙_}
-use Prim.Native.Nat.{ℕ, _+_, _-_, _*_, _<_, _≤_}
+use Prim.Native.Nat.{_+_, _-_, _≤_}
 use native.Mathlib.Omega.{arith}
 use native.Mathlib.Numerals.{add-one}
-use lib.ListN.{length, getD}
+use lib.ListN.{length}
 use borrow.Author.Needs.{needs}
 use Rattle.marking.proofs.mark_place.Statement.{statement}
 use Rattle.marking.proofs.mark_place.Tie as tie
@@ -52,7 +51,8 @@ mul-is-any-marked c =
 -- src/lib.rt:347:9
 is-any-marked-requires : tie.Need-is-any-marked-requires Inv-loop μ-loop
 is-any-marked-requires c κs =
-    let a = c .before .before .before .before .before .before .before .before .before .before .before .before .before .before .before .args in let p = c .before .before .before .before .before .before .before .before .before .before .before .before .before .before .before .pre in rw (c .before .row-start .ensures, c .before .before .before .monus .ensures, p .1 .1 .0 .1) (place-there (a .q) (a .heights .now) (a .a) (a .first) (a .last) (p .0 .some-budget) (omega (arith, p .1 .0 .0)) (p .1 .0 .1) (p .1 .0 .2))
+    let a = c .before .before .before .before .before .before .before .before .before .before .before .before .before .before .before .args in let p = c .before .before .before .before .before .before .before .before .before .before .before .before .before .before .before .pre in
+    place-in (a .q) (a .heights .now) (a .a) (a .first) (a .last) (c .before .row-start .result) (c .before .before .before .monus .result) (length (a .marks .now)) (p .0 .some-budget) (p .1 .0 .0) (p .1 .0 .1) (p .1 .0 .2) (c .before .row-start .ensures) (c .before .before .before .monus .ensures) (p .1 .1 .0 .1)
 
 -- src/lib.rt:348:9
 same-length : tie.Need-same-length Inv-loop μ-loop
@@ -62,8 +62,7 @@ same-length c = search needs
 returns : tie.Need-returns Inv-loop μ-loop
 returns c =
     let a = c .before .before .before .before .before .before .before .before .before .before .before .before .before .before .before .before .before .args in let p = c .before .before .before .before .before .before .before .before .before .before .before .before .before .before .before .before .before .pre in
-    let e : (i : ℕ) → i < (a .last + 1 - a .first) * a .q .budgets → getD (a .marks .now) (cell (a .q .colours) (a .q .budgets) (a .a) (a .first) 0 + i) 0 ≡ 0 = rw (c .before .before .before .row-start .ensures, c .before .before .before .before .before .monus .ensures) at (c .before .is-any-marked .ensures (not-true _ (c .if1 .taken))) in
-    (λ z. clash z refl, λ z. place-unmarked (tableBy (a .q) (a .heights .now) (a .bounds .now) (a .radices .now) (a .ys .now) (a .colours .now)) (capsIn (a .caps .now)) (a .q .budgets) (a .marks .now) (a .a) (a .first) (a .last) (p .1 .0 .1) e (p .1 .1 .1))
+    (λ z. clash z refl, λ z. place-over (a .q) (a .heights .now) (a .bounds .now) (a .radices .now) (a .ys .now) (a .colours .now) (a .caps .now) (a .a) (a .first) (a .marks .now) (a .last) (c .before .before .before .row-start .result) (c .before .before .before .before .before .monus .result) (c .before .is-any-marked .result) (p .1 .0 .1) (c .before .before .before .row-start .ensures) (c .before .before .before .before .before .monus .ensures) (c .before .is-any-marked .ensures) (not-true (c .before .is-any-marked .result) (c .if1 .taken)) (p .1 .1 .1))
 
 -- src/lib.rt:350:9
 first-below-requires : tie.Need-first-below-requires Inv-loop μ-loop
