@@ -9,11 +9,12 @@ ghost use Rattle.rest.specs.Rest.{LevelIn, restRows};
 ghost use Rattle.optimum.specs.Strips as model;
 ghost use Rattle.arrays.specs.Arrays.{instanceBy};
 ghost use Rattle.arrays.specs.declared.Measures as measured;
-ghost use Rattle.strips.specs.Strips.{stripOf, pointOf, Small};
+ghost use Rattle.strips.specs.Strips.{Small};
+ghost use Rattle.rows.specs.Rows.{stripOf, pointOf};
 ghost use Rattle.choice.specs.Choice.{priceIn, budgetLeft, keepsCost, SheetArrays, SiteIn};
 use arrays::Measures;
-use strips::Site;
-use strips::Strip;
+use rows::Site;
+use rows::Strip;
 
 // What is left for the sites that are not tied yet: the budget, and what they are to cost.
 pub struct Left {

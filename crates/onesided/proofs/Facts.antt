@@ -24,7 +24,7 @@ use Rattle.arrays.specs.Arrays.{measuresOf, boundsOf, drawsList, xsOf, ysOf, co
 use Rattle.arrays.proofs.Instances.{ys-at, colours-at}
 use Rattle.arrays.proofs.Fields.{bounds-long}
 use Rattle.arrays.proofs.Ordered.{gathered-long, radix-pos}
-use Rattle.entries.specs.Rows.{levelSize}
+use Rattle.rows.specs.Rows.{levelSize}
 use Rattle.table.specs.Rows.{Given}
 use Rattle.budgets.specs.Budgets.{Splits}
 use Rattle.optimum.specs.Reached.{TableOf}

@@ -1,2 +1,3 @@
 pub mod Decisions
 pub mod Windows
+pub mod Joining

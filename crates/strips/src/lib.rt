@@ -6,7 +6,8 @@ ghost use Prim.Native.Nat.{ℕ, _+_, _-_, _<_};
 ghost use lib.Dec.{ltb};
 ghost use lib.ListN.{length, getD};
 ghost use Rattle.optimum.specs.Strips as model;
-ghost use Rattle.strips.specs.Strips.{instanceOn, stripOf, pointOf, Measured, Small, gapLeft, FirstFar, FarEnd, WindowOf, siteOpens, openCost, joinCost};
+ghost use Rattle.strips.specs.Strips.{Framed, Stands, joinLeast, instanceOn, Measured, Small, gapLeft, FirstFar, FarEnd, WindowOf, siteOpens, openCost, joinCost};
+ghost use Rattle.rows.specs.Rows.{stripOf, pointOf, Lies};
 use arrays::Measures;
 use costs::word_of;
 use drops::apart_of;
@@ -14,29 +15,19 @@ use places::is_clear;
 use places::is_far;
 use places::is_over;
 use places::is_under;
+use rows::Site;
+use rows::Strip;
 use words::NONE;
 use words::at_most;
 use words::both;
+use words::choose;
 use words::either;
 use words::get;
 use words::is_not;
 use words::less;
+use words::lesser;
 use words::monus;
 use words::same;
-
-// A strip: the labels above and below it (0: the top edge, k + 1: slot k, m + 1: the bottom edge) and their colours (0: none, c + 1: colour c).
-pub struct Strip {
-    pub a: u32,
-    pub ca: u32,
-    pub b: u32,
-    pub cb: u32,
-}
-
-pub struct Site {
-    pub x: u32,
-    pub y: u32,
-    pub c: u32,
-}
 
 // The slots from `from` up to, not with, `to`.
 pub struct Window {
@@ -199,4 +190,19 @@ pub fn step_cost(q: Measures, heights: &[u32], bounds: &[u32], p: Strip, s: Site
         return join_cost(q, heights, s, k);
     }
     NONE
+}
+
+// The least that joining a label costs.
+pub fn join_least(q: Measures, heights: &[u32], bounds: &[u32], p: Strip, s: Site) -> u32
+    requires { ⌜ Framed q (now heights) (now bounds) ⌝ }
+    requires { ⌜ Lies (length (now heights)) (q .colours) (stripOf p) × Stands (q .colours) (pointOf s) ⌝ }
+    ensures { λ r. ⌜ r ≡ joinLeast q (now (heights .entry)) (now (bounds .entry)) (stripOf p) (pointOf s) ⌝ }
+{
+    let up = monus(p.a, 1);
+    let down = monus(p.b, 1);
+    let slot = (up as usize) < heights.len();
+    let above = both(slot, joins_up(q, heights, bounds, p, s, up));
+    let below = joins_down(q, heights, bounds, p, s, down);
+    let rise = choose(above, join_cost(q, heights, s, up), NONE);
+    lesser(rise, choose(below, join_cost(q, heights, s, down), NONE))
 }

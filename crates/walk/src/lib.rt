@@ -3,14 +3,14 @@ ghost use mathlib.Core.Path.{_≡_};
 ghost use Prim.Native.Nat.{_+_, _<_};
 ghost use lib.ListN.{length, getD};
 ghost use Rattle.arrays.specs.Arrays.{instanceBy, pointsBy};
-ghost use Rattle.strips.specs.Strips.{pointOf};
+ghost use Rattle.rows.specs.Rows.{pointOf};
 ghost use Rattle.walk.specs.Walk.{WalkArrays, Standing, tiedFrom};
 use arrays::Measures;
 use choice::Left;
 use choice::choose_slot;
 use choice::hold_of;
 use choice::left_after;
-use strips::Site;
+use rows::Site;
 
 // The site of rank j.
 fn site_at(xs: &[u32], ys: &[u32], colours: &[u32], j: usize) -> Site

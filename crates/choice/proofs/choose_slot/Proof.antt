@@ -1,15 +1,11 @@
 use Rattle.arrays.specs.Arrays.{instanceBy}
-use Rattle.strips.specs.Strips.{stripOf, pointOf}
+use Rattle.rows.specs.Rows.{stripOf, pointOf}
 use Rattle.choice.specs.Choice.{keepsCost}
 use Rattle.choice.proofs.Prices.{Tried, tried-none, tried-more, tried-found, tried-all}
 use mathlib.Core.Path.{_≡_, refl, ap, sym, _∙_}
-use mathlib.Core.List.{List, [], _∷_, _++_}
-use mathlib.Core.Logic.{⊎-elim}
-use Prim.Native.Nat.{ℕ, zero, suc, _+_, _-_, _*_, _<_, _≤_}
+use Prim.Native.Nat.{_-_}
 use native.Mathlib.Omega.{arith}
-use native.Mathlib.Numerals.{add-one}
-use lib.ListN.{length, getD, take, drop, set, length-set}
-use borrow.Author.Tests.{eq-eqb, ne-eqb, lt-ltb, le-ltb, le-leb, lt-leb}
+use lib.ListN.{length}
 use borrow.Author.Needs.{needs}
 use Rattle.choice.proofs.choose_slot.Statement.{statement}
 use Rattle.choice.proofs.choose_slot.Tie as tie

@@ -1,14 +1,8 @@
-use Rattle.strips.specs.Strips.{stripOf, pointOf}
+use Rattle.rows.specs.Rows.{stripOf, pointOf}
 use Rattle.choice.proofs.Prices.{price-had, price-not, small, measured}
-use mathlib.Core.Path.{_≡_, refl, ap, sym, _∙_}
-use mathlib.Core.List.{List, [], _∷_, _++_}
-use mathlib.Core.Logic.{⊎-elim}
-use Prim.Native.Nat.{ℕ, zero, suc, _+_, _-_, _*_, _<_, _≤_}
+use mathlib.Core.Path.{sym, _∙_}
+use Prim.Native.Nat.{_-_}
 use native.Mathlib.Omega.{arith}
-use native.Mathlib.Numerals.{add-one}
-use lib.ListN.{length, getD, take, drop, set, length-set}
-use borrow.Author.Tests.{eq-eqb, ne-eqb, lt-ltb, le-ltb, le-leb, lt-leb}
-use borrow.Author.Needs.{needs}
 use Rattle.choice.proofs.price_of.Statement.{statement}
 use Rattle.choice.proofs.price_of.Tie as tie
 use Rattle.choice.proofs.price_of.Reads as reads

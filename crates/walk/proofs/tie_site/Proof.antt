@@ -1,20 +1,10 @@
-use Rattle.walk.proofs.Tying.{base-low}
-use native.Mathlib.Nat.{mul-le-mul-right}
-use mathlib.Core.Path.{subst, subst⁻¹}
-use Rattle.optimum.specs.Strips.{Point}
+use Rattle.walk.proofs.Tying.{base-low, long, level-of, Tied, tied}
+use mathlib.Core.Path.{subst, subst⁻¹, ap}
 use Rattle.choice.specs.Choice.{SiteIn}
-use Rattle.rest.specs.Rest.{LevelIn}
-use Rattle.strips.specs.Strips.{stripOf, pointOf}
-use Rattle.walk.proofs.Tying.{long, level-of, Tied, tied}
-use mathlib.Core.Path.{_≡_, refl, ap, sym, _∙_}
-use mathlib.Core.List.{List, [], _∷_, _++_}
-use mathlib.Core.Logic.{⊎-elim}
-use Prim.Native.Nat.{ℕ, zero, suc, _+_, _-_, _*_, _<_, _≤_}
+use Rattle.rows.specs.Rows.{stripOf, pointOf}
+use Prim.Native.Nat.{ℕ, _+_, _-_, _*_}
 use native.Mathlib.Omega.{arith}
-use native.Mathlib.Numerals.{add-one}
-use lib.ListN.{length, getD, take, drop, set, length-set}
-use borrow.Author.Tests.{eq-eqb, ne-eqb, lt-ltb, le-ltb, le-leb, lt-leb}
-use borrow.Author.Needs.{needs}
+use lib.ListN.{length, getD, length-set}
 use Rattle.walk.proofs.tie_site.Statement.{statement}
 use Rattle.walk.proofs.tie_site.Tie as tie
 use Rattle.walk.proofs.tie_site.Reads as reads

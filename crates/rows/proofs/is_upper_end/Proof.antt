@@ -1,11 +1,11 @@
-use Rattle.marks.specs.Marks.{upperEnd}
+use Rattle.rows.specs.Rows.{upperEnd}
 use mathlib.Core.Path.{refl}
 use Prim.Native.Nat.{_-_}
 use borrow.Author.Tests.{eq-eqb, ne-eqb}
-use Rattle.marks.proofs.is_upper_end.Statement.{statement}
-use Rattle.marks.proofs.is_upper_end.Tie as tie
-use Rattle.marks.proofs.is_upper_end.Reads as reads
-use Rattle.marks.proofs.is_upper_end.Lts as lts
+use Rattle.rows.proofs.is_upper_end.Statement.{statement}
+use Rattle.rows.proofs.is_upper_end.Tie as tie
+use Rattle.rows.proofs.is_upper_end.Reads as reads
+use Rattle.rows.proofs.is_upper_end.Lts as lts
 
 -- src/lib.rt:45:9
 returns : tie.Need-returns

@@ -2,10 +2,10 @@ use native.Mathlib.Nat.{mul-le-mul}
 use Prim.Native.Nat.{_+_, _-_, _≤_}
 use native.Mathlib.Omega.{arith}
 use borrow.Author.Needs.{needs}
-use Rattle.table.proofs.rows_of.Statement.{statement}
-use Rattle.table.proofs.rows_of.Tie as tie
-use Rattle.table.proofs.rows_of.Reads as reads
-use Rattle.table.proofs.rows_of.Lts as lts
+use Rattle.rows.proofs.rows_of.Statement.{statement}
+use Rattle.rows.proofs.rows_of.Tie as tie
+use Rattle.rows.proofs.rows_of.Reads as reads
+use Rattle.rows.proofs.rows_of.Lts as lts
 
 -- src/lib.rt:16:20
 cast-colours : tie.Need-cast-colours

@@ -1,13 +1,13 @@
-use Rattle.entries.specs.Rows.{joinLeast}
+use Rattle.strips.specs.Strips.{joinLeast}
 use Prim.Native.Nat.{_-_}
 use borrow.Author.Needs.{needs}
-use Rattle.entries.proofs.join_least.Statement.{statement}
-use Rattle.entries.proofs.join_least.Tie as tie
-use Rattle.entries.proofs.join_least.Reads as reads
-use Rattle.entries.proofs.join_least.Lts as lts
+use Rattle.strips.proofs.join_least.Statement.{statement}
+use Rattle.strips.proofs.join_least.Tie as tie
+use Rattle.strips.proofs.join_least.Reads as reads
+use Rattle.strips.proofs.join_least.Lts as lts
 use Rattle.strips.proofs.join_cost.Reads as join-cost-reads
 use Rattle.strips.proofs.joins_down.Reads as joins-down-reads
 use Rattle.strips.proofs.joins_up.Reads as joins-up-reads
 use Rattle.words.proofs.both.Reads as both-reads
 use Rattle.words.proofs.choose.Reads as choose-reads
 use Rattle.words.proofs.lesser.Reads as lesser-reads

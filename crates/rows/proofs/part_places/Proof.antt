@@ -1,14 +1,14 @@
-use Rattle.strips.specs.Strips.{stripOf, pointOf}
-use Rattle.entries.proofs.Places.{row-fits, upper-lies, lower-lies}
+use Rattle.rows.specs.Rows.{stripOf, pointOf}
+use Rattle.rows.proofs.Places.{row-fits, upper-lies, lower-lies}
 use mathlib.Core.Path.{ap}
 use Prim.Native.Nat.{ℕ, _+_, _-_}
 use native.Mathlib.Omega.{arith}
 use borrow.Author.Needs.{needs}
-use Rattle.entries.proofs.part_places.Statement.{statement}
-use Rattle.entries.proofs.part_places.Tie as tie
-use Rattle.entries.proofs.part_places.Reads as reads
-use Rattle.entries.proofs.part_places.Lts as lts
-use Rattle.entries.proofs.row_place.Reads as row-place-reads
+use Rattle.rows.proofs.part_places.Statement.{statement}
+use Rattle.rows.proofs.part_places.Tie as tie
+use Rattle.rows.proofs.part_places.Reads as reads
+use Rattle.rows.proofs.part_places.Lts as lts
+use Rattle.rows.proofs.row_place.Reads as row-place-reads
 
 -- src/lib.rt:139:13
 add-c : tie.Need-add-c

@@ -11,9 +11,8 @@ use Rattle.lists.proofs.Tests.{by-test, by-either, and-both, and-of}
 use Rattle.optimum.specs.Strips.{Point, Strip, opens, joinsUp, joinsDown}
 use Rattle.optimum.specs.OneSided.{topWord}
 use Rattle.arrays.specs.declared.Measures.{Measures}
-use Rattle.strips.specs.Strips.{instanceOn, gapLeft, siteOpens, joinCost}
+use Rattle.strips.specs.Strips.{instanceOn, gapLeft, siteOpens, joinCost, joinLeast, Framed, Stands}
 use Rattle.strips.proofs.Decisions.{opens-split}
-use Rattle.entries.specs.Rows.{joinLeast, Framed, Stands}
 
 -- what opening asks, taken apart
 pub record Opening (q : Measures) (hs bs : List ℕ) (p : Strip) (s : Point) (k : ℕ) : Type 0 where

@@ -1,12 +1,12 @@
-use Rattle.strips.specs.Strips.{stripOf}
-use Rattle.entries.proofs.Places.{Sized, sized}
+use Rattle.rows.specs.Rows.{stripOf}
+use Rattle.rows.proofs.Places.{Sized, sized}
 use Prim.Native.Nat.{_-_}
 use native.Mathlib.Omega.{arith}
 use borrow.Author.Needs.{needs}
-use Rattle.entries.proofs.row_place.Statement.{statement}
-use Rattle.entries.proofs.row_place.Tie as tie
-use Rattle.entries.proofs.row_place.Reads as reads
-use Rattle.entries.proofs.row_place.Lts as lts
+use Rattle.rows.proofs.row_place.Statement.{statement}
+use Rattle.rows.proofs.row_place.Tie as tie
+use Rattle.rows.proofs.row_place.Reads as reads
+use Rattle.rows.proofs.row_place.Lts as lts
 
 -- the products are small
 size : (c : tie.After-struct-known) → Sized (c .before .args .m) (c .before .args .q .colours) (c .before .args .q .budgets) (stripOf (c .before .args .p))
