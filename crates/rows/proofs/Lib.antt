@@ -1,1 +1,2 @@
+mod Holding
 pub mod Places

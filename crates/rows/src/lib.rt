@@ -1,6 +1,11 @@
 // Strips of a one-sided sheet and where their rows stand: a level has a row of words for each strip, by the ends above and below it.
 ghost use mathlib.Core.Path.{_≡_};
-ghost use Prim.Native.Nat.{_+_, _*_, _<_, _≤_};
+ghost use mathlib.Core.List.{List};
+ghost use Prim.Native.Nat.{ℕ, suc, _+_, _*_, _<_, _≤_};
+ghost use lib.ListN.{length, replicate};
+ghost use Rattle.optimum.specs.Strips as model;
+ghost use Rattle.arrays.specs.Arrays.{instanceBy};
+ghost use Rattle.arrays.specs.declared.Measures as measured;
 ghost use Rattle.rows.specs.Rows.{stripOf, pointOf, rowOf, rowsOf, Lies, upperPart, lowerPart, endPlace, upperEnd};
 use arrays::Measures;
 
@@ -122,4 +127,38 @@ pub fn is_upper_end(e: End) -> bool
         return e.colour == 0;
     }
     0 < e.colour
+}
+
+// The strip that holds the height y.
+pub fn hold_of(heights: &[u32], labels: &[u32], y: u32) -> Strip
+    requires { ⌜ (length (now labels) ≡ length (now heights)) × (length (now heights) ≤ 48) ⌝ }
+    ensures { λ r. ⌜ ((q : measured.Measures) (bs rs ds : List ℕ) → stripOf r ≡ model.hold (instanceBy q (now (heights .entry)) bs rs ds) (now (labels .entry)) (replicate (suc (length (now (heights .entry)))) 0) y) ⌝ }
+{
+    let m = labels.len();
+    let mut a: u32 = 0;
+    let mut ca: u32 = 0;
+    let mut i: usize = 0;
+    while i < m {
+        let e = labels[i];
+        let none = e == 0;
+        let b = i as u32 + 1;
+        if words::both(!none, y < heights[i]) {
+            return Strip {
+                a: a,
+                ca: ca,
+                b: b,
+                cb: e,
+            };
+        }
+        a = words::choose(none, a, b);
+        ca = words::choose(none, ca, e);
+        i += 1;
+    }
+    let end = m as u32 + 1;
+    Strip {
+        a: a,
+        ca: ca,
+        b: end,
+        cb: 0,
+    }
 }

@@ -1,3 +1,4 @@
 pub mod Decisions
 pub mod Windows
 pub mod Joining
+mod Steps

@@ -1,13 +1,13 @@
 use Rattle.rows.specs.Rows.{stripOf, pointOf}
-use Rattle.choice.proofs.Prices.{draw-opens, draw-joins}
+use Rattle.strips.proofs.Steps.{draw-opens, draw-joins}
 use mathlib.Core.Path.{sym, _∙_}
 use Prim.Native.Nat.{_-_}
 use borrow.Author.Needs.{needs}
-use Rattle.choice.proofs.draw_of.Statement.{statement}
-use Rattle.choice.proofs.draw_of.Tie as tie
-use Rattle.choice.proofs.draw_of.Reads as reads
-use Rattle.choice.proofs.draw_of.Lts as lts
+use Rattle.strips.proofs.draw_of.Statement.{statement}
+use Rattle.strips.proofs.draw_of.Tie as tie
+use Rattle.strips.proofs.draw_of.Reads as reads
+use Rattle.strips.proofs.draw_of.Lts as lts
 use Rattle.strips.proofs.opens.Reads as opens-reads
 
 -- src/lib.rt:204:8
 opens-requires : tie.Need-opens-requires

@@ -1,21 +1,16 @@
 use Rattle.search.specs.Radix.{below, maskFrom}
 use Rattle.search.proofs.Radix.{bit-small, mask-none, mask-more, mask-all, mask-word}
 use mathlib.Core.Bool.{cond}
-use mathlib.Core.Path.{_≡_, refl, ap, sym, _∙_}
-use mathlib.Core.List.{List, [], _∷_, _++_}
-use mathlib.Core.Logic.{⊎-elim}
-use Prim.Native.Nat.{ℕ, zero, suc, _+_, _-_, _*_, _<_, _≤_}
+use mathlib.Core.Path.{_≡_, _∙_}
+use Prim.Native.Nat.{ℕ, _+_, _-_, _*_, _<_, _≤_}
 use native.Mathlib.Omega.{arith}
-use native.Mathlib.Numerals.{add-one}
-use lib.ListN.{length, getD, take, drop, set, length-set}
-use borrow.Author.Tests.{eq-eqb, ne-eqb, lt-ltb, le-ltb, le-leb, lt-leb}
 use borrow.Author.Needs.{needs}
-use Rattle.budgets.proofs.mask_below.Statement.{statement}
-use Rattle.budgets.proofs.mask_below.Tie as tie
-use Rattle.budgets.proofs.mask_below.Reads as reads
-use Rattle.budgets.proofs.mask_below.Lts as lts
-use Rattle.budgets.proofs.bit_of.Reads as bit-of-reads
-use Rattle.budgets.proofs.is_below.Reads as is-below-reads
+use Rattle.masks.proofs.mask_below.Statement.{statement}
+use Rattle.masks.proofs.mask_below.Tie as tie
+use Rattle.masks.proofs.mask_below.Reads as reads
+use Rattle.masks.proofs.mask_below.Lts as lts
+use Rattle.masks.proofs.bit_of.Reads as bit-of-reads
+use Rattle.masks.proofs.is_below.Reads as is-below-reads
 
 abbrev Inv-loop : tie.InvT-loop
 Inv-loop radices v mask₀ w₀ mask w = (w ≤ v + 1) × (mask ≡ maskFrom radices v w)

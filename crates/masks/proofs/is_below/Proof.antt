@@ -1,19 +1,15 @@
-use lib.ListN.{drop-of-length-le}
+use lib.ListN.{drop-of-length-le, length, drop}
 use Rattle.search.specs.Radix.{below}
-use Rattle.budgets.proofs.Lists.{below-step}
-use mathlib.Core.Path.{_≡_, refl, ap, sym, _∙_}
-use mathlib.Core.List.{List, [], _∷_, _++_}
-use mathlib.Core.Logic.{⊎-elim}
-use Prim.Native.Nat.{ℕ, zero, suc, _+_, _-_, _*_, _<_, _≤_}
+use Rattle.masks.proofs.Digits.{below-step}
+use mathlib.Core.Path.{_≡_, sym, _∙_}
+use Prim.Native.Nat.{_-_}
 use native.Mathlib.Omega.{arith}
-use native.Mathlib.Numerals.{add-one}
-use lib.ListN.{length, getD, take, drop, set, length-set}
-use borrow.Author.Tests.{eq-eqb, ne-eqb, lt-ltb, le-ltb, le-leb, lt-leb}
+use borrow.Author.Tests.{le-leb, lt-leb}
 use borrow.Author.Needs.{needs}
-use Rattle.budgets.proofs.is_below.Statement.{statement}
-use Rattle.budgets.proofs.is_below.Tie as tie
-use Rattle.budgets.proofs.is_below.Reads as reads
-use Rattle.budgets.proofs.is_below.Lts as lts
+use Rattle.masks.proofs.is_below.Statement.{statement}
+use Rattle.masks.proofs.is_below.Tie as tie
+use Rattle.masks.proofs.is_below.Reads as reads
+use Rattle.masks.proofs.is_below.Lts as lts
 
 abbrev Inv-loop : tie.InvT-loop
 Inv-loop radices w v a₀ b₀ i₀ a b i = below radices w v ≡ below (drop i radices) a b

@@ -1,16 +1,16 @@
 -- The loop that looks for the strip which holds a height. Assumes nothing.
-use mathlib.Core.Path.{_≡_, refl, sym, ap, ap₂, _∙_}
-use mathlib.Core.Bool.{Bool, true, false, cond, not, _&&_}
-use mathlib.Core.List.{List, [], _∷_}
-use Prim.Native.Nat.{ℕ, zero, suc, _+_, _-_, _*_, _≤_, _<_}
+use mathlib.Core.Path.{_≡_, sym, ap, _∙_}
+use mathlib.Core.Bool.{true, false, cond, not, _&&_}
+use mathlib.Core.List.{List}
+use Prim.Native.Nat.{ℕ, suc, _+_, _-_, _<_}
 use native.Mathlib.Numerals.{add-one}
 use native.Mathlib.Omega.{arith}
 use lib.Dec.{eqb, ltb}
 use lib.ListN.{length, getD, replicate}
-use Rattle.lists.proofs.Tests.{by-test, and-both, clash}
+use Rattle.lists.proofs.Tests.{by-test, clash}
 use Rattle.arrays.specs.declared.Measures.{Measures}
 use Rattle.arrays.specs.Arrays.{instanceBy}
-use Rattle.optimum.specs.Strips.{Strip, Instance, hold, holdFrom}
+use Rattle.optimum.specs.Strips.{Instance, hold, holdFrom}
 use Rattle.optimum.proofs.Pairs.{zeros}
 
 module _ (hs L : List ℕ) (y : ℕ) where

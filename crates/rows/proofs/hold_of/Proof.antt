@@ -1,17 +1,13 @@
-use Rattle.choice.proofs.Holding.{Looking, looking-none, looking-more, looking-here, looking-end}
-use mathlib.Core.Path.{_≡_, refl, ap, sym, _∙_}
-use mathlib.Core.List.{List, [], _∷_, _++_}
-use mathlib.Core.Logic.{⊎-elim}
-use Prim.Native.Nat.{ℕ, zero, suc, _+_, _-_, _*_, _<_, _≤_}
+use Rattle.rows.proofs.Holding.{Looking, looking-none, looking-more, looking-here, looking-end}
+use mathlib.Core.Path.{sym, _∙_}
+use Prim.Native.Nat.{_-_, _≤_}
 use native.Mathlib.Omega.{arith}
-use native.Mathlib.Numerals.{add-one}
-use lib.ListN.{length, getD, take, drop, set, length-set}
-use borrow.Author.Tests.{eq-eqb, ne-eqb, lt-ltb, le-ltb, le-leb, lt-leb}
+use lib.ListN.{length}
 use borrow.Author.Needs.{needs}
-use Rattle.choice.proofs.hold_of.Statement.{statement}
-use Rattle.choice.proofs.hold_of.Tie as tie
-use Rattle.choice.proofs.hold_of.Reads as reads
-use Rattle.choice.proofs.hold_of.Lts as lts
+use Rattle.rows.proofs.hold_of.Statement.{statement}
+use Rattle.rows.proofs.hold_of.Tie as tie
+use Rattle.rows.proofs.hold_of.Reads as reads
+use Rattle.rows.proofs.hold_of.Lts as lts
 use Rattle.words.proofs.both.Reads as both-reads
 use Rattle.words.proofs.choose.Reads as choose-reads
 
