@@ -1,27 +1,25 @@
 -- With the table filled: the least cost, and where the walk starts. Assumes nothing.
-use mathlib.Core.Path.{_≡_, refl, sym, ap, ap₂, _∙_, subst}
-use mathlib.Core.Bool.{Bool, true, false, cond}
-use mathlib.Core.List.{List, [], _∷_, _++_}
-use Prim.Native.Nat.{ℕ, zero, suc, _+_, _-_, _*_, _≤_, _<_}
-use native.Mathlib.Nat.{mul-le-mul}
+use mathlib.Core.Path.{_≡_, refl, sym, ap, _∙_}
+use mathlib.Core.Bool.{true, false}
+use mathlib.Core.List.{List}
+use Prim.Native.Nat.{ℕ, _+_, _-_, _*_, _≤_, _<_}
 use native.Mathlib.Omega.{arith}
 use lib.Dec.{ltb}
-use lib.ListN.{length, getD, set, drop, replicate, length-set, length-replicate}
+use lib.ListN.{length, set, replicate, length-set, length-replicate}
 use borrow.Author.Tests.{lt-ltb, le-ltb}
 use Rattle.arrays.specs.declared.Measures.{Measures}
 use Rattle.arrays.specs.Arrays.{instanceBy, pointsBy}
-use Rattle.optimum.specs.Strips.{Point, Instance, State, value, labels}
-use Rattle.optimum.specs.OneSided.{topWord, writeTies}
+use Rattle.optimum.specs.Strips.{Point, Instance, value, labels}
+use Rattle.optimum.specs.OneSided.{topWord}
 use Rattle.optimum.proofs.Pairs.{zeros}
 use Rattle.optimum.proofs.Reached.{reached-start}
 use Rattle.search.specs.Walk.{walkBy}
 use Rattle.rest.specs.Rest.{levelSize, LevelIn, restRows}
-use Rattle.rest.proofs.Rows.{size, Size}
-use Rattle.walk.specs.Walk.{Found, valueIn, WalkArrays, Standing, tiedFrom}
+use Rattle.walk.specs.Walk.{Found, valueIn, Standing, tiedFrom}
 use Rattle.walk.proofs.Value.{Met, met-value, walk-right}
 use Rattle.walk.proofs.Tying.{points-long}
 use Rattle.costs.specs.Costs.{headWord}
-use Rattle.answer.specs.Laid.{emptySheet, leastCost, written, laidFault, laidOut, wiped, TableFilled}
+use Rattle.answer.specs.Laid.{emptySheet, leastCost, written, laidFault, laidOut, TableFilled}
 
 module _ (q : Measures) (hs bs rs ds parts counts work xs ys cs order L out : List ℕ) (f : TableFilled q hs bs rs ds parts counts work xs ys cs order L out) where
   abbrev P : Instance
@@ -35,13 +33,6 @@ module _ (q : Measures) (hs bs rs ds parts counts work xs ys cs order L out : Li
 
   pub long : length points ≡ length order
   long = points-long xs ys cs (length order) (f .arrays .xsLong) (f .arrays .ysLong) (f .arrays .coloursLong)
-
-  -- the words that are needed
-  pub need-low : (length order + 1) * levelSize (length hs) (q .colours) (q .budgets) ≤ 427680000
-  need-low =
-      let h : length order + 1 ≤ 33 = omega (arith, f .arrays .fewSites) in
-      mul-le-mul {n₂ = 33} {m₂ = 12960000} h
-      (size (length hs) (q .colours) (q .budgets) (f .arrays .sheet .fewSlots) (f .arrays .sheet .fewColours) (f .arrays .splits .within .few) .fourth)
 
   -- the first level stands in the work area
   pub first-level : LevelIn parts counts work 0 (q .colours) (q .budgets) L
@@ -104,6 +95,3 @@ module _ (q : Measures) (hs bs rs ds parts counts work xs ys cs order L out : Li
   pub one-laid : (least : ℕ) → least ≡ leastCost P (q .budgets) points → least < topWord
       → (0 ≡ laidFault P (q .budgets) points) × (written P q points order out ≡ laidOut P q points order out)
   one-laid least e h = let l : leastCost P (q .budgets) points < topWord = omega arith in let z : ltb (leastCost P (q .budgets) points) topWord ≡ true = lt-ltb _ topWord l in rw z (refl, refl)
-
-  pub wiped-is : (work′ : List ℕ) (s : ℕ) → s ≡ levelSize (length hs) (q .colours) (q .budgets) → replicate ((length order + 1) * s) 0 ++ drop ((length order + 1) * s) work′ ≡ wiped P q points work′
-  wiped-is work′ s e = rw (e, long) refl

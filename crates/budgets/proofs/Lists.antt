@@ -1,24 +1,18 @@
 -- How the lists grow, number by number and row by row. Assumes nothing.
 use mathlib.Core.Path.{_≡_, refl, _∙_}
-use mathlib.Core.Bool.{true, false, cond, _&&_}
+use mathlib.Core.Bool.{true, false, cond}
 use mathlib.Core.List.{List}
-use Prim.Native.Nat.{ℕ, _+_, _*_, _/_, _%_, _<_, _≤_, min}
+use Prim.Native.Nat.{ℕ, _+_, _*_, _<_, _≤_, min}
 use native.Mathlib.Omega.{arith}
 use native.Mathlib.Numerals.{add-one}
-use lib.Dec.{leb}
-use lib.ListN.{length, getD, drop, set}
-use lib.Seq.{drop-cons, getD-set-same, getD-set-other}
+use lib.ListN.{length, getD, set}
+use lib.Seq.{getD-set-same, getD-set-other}
 use Rattle.lists.proofs.Tests.{by-test, by-order, clash}
 use Rattle.search.specs.Cost.{plus, least}
 use Rattle.search.proofs.Cost.{least-le-top}
 use Rattle.search.specs.Radix.{below}
 use Rattle.optimum.specs.OneSided.{topWord}
 use Rattle.budgets.specs.Budgets.{Others, Listed, Splits, partAt}
-
-pub below-step : (rs : List ℕ) (i a b : ℕ) → i < length rs
-    → below (drop i rs) a b ≡ leb (a % getD rs i 0) (b % getD rs i 0) && below (drop (i + 1) rs) (a / getD rs i 0) (b / getD rs i 0)
-unfolding below
-below-step rs i a b h = rw (add-one, drop-cons rs i 0)
 
 pub listed-none : (rs : List ℕ) (v : ℕ) (at : ℕ → ℕ) → Listed rs v 0 0 at
 listed-none rs v at =

@@ -1,19 +1,19 @@
 -- Sharing by the lists is sharing. Assumes nothing.
-use mathlib.Core.Path.{_≡_, refl, sym, ap, ap₂, _∙_}
-use mathlib.Core.Bool.{Bool, true, false}
-use mathlib.Core.List.{List, [], _∷_}
-use Prim.Native.Nat.{ℕ, zero, suc, _+_, _*_, _-_, _<_, _≤_}
+use mathlib.Core.Path.{_≡_}
+use mathlib.Core.Bool.{true}
+use mathlib.Core.List.{List}
+use Prim.Native.Nat.{ℕ, _-_, _<_, _≤_}
 use native.Mathlib.Nat.{le-antisymm}
 use native.Mathlib.Omega.{arith}
-use lib.ListN.{length, getD}
-use Rattle.search.specs.Cost.{plus, least}
+use lib.ListN.{getD}
+use Rattle.search.specs.Cost.{plus}
 use Rattle.search.proofs.Cost.{least-le, least-le-top, least-most}
 use Rattle.search.specs.Share.{conv}
 use Rattle.search.proofs.Share.{conv-le-top, conv-low, conv-most}
 use Rattle.search.specs.Radix.{below}
 use Rattle.search.proofs.Radix.{sharing}
 use Rattle.optimum.specs.OneSided.{topWord}
-use Rattle.budgets.specs.Budgets.{Listed, Within, Splits, partAt, shareBy}
+use Rattle.budgets.specs.Budgets.{Splits, partAt, shareBy}
 
 pub share-by : (rs : List ℕ) (P : ℕ) (parts counts : List ℕ) → Splits rs P parts counts → (f g : ℕ → ℕ) (u : ℕ) → u < P
     → shareBy parts counts f g u ≡ conv topWord (below rs) f g u

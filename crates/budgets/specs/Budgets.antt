@@ -8,10 +8,6 @@ use Rattle.search.specs.Cost.{plus, least}
 use Rattle.search.specs.Radix.{below}
 use Rattle.optimum.specs.OneSided.{topWord}
 
--- no radix is 0
-abbrev pub Divides : List ℕ → Type 0
-Divides rs = (k : ℕ) → k < length rs → 0 < getD rs k 0
-
 -- outside of a row of an area nothing changed
 pub record Others (old new : List ℕ) (from count : ℕ) : Type 0 where
   pub before : (i : ℕ) → i < from → getD new i 0 ≡ getD old i 0

@@ -1,54 +1,11 @@
-// Budgets: which may be taken from which, listed once so that no loop over budgets divides, and the least cost of sharing one.
+// Budgets: what may be taken from each, listed once so that no loop over budgets divides, and the least cost of sharing one.
 ghost use mathlib.Core.Path.{_≡_};
 ghost use mathlib.Core.Bool.{cond};
 ghost use Prim.Native.Nat.{ℕ, _+_, _-_, _*_, _<_, _≤_, min};
 ghost use lib.ListN.{length, getD};
-ghost use Rattle.search.specs.Radix.{below, maskOf};
-ghost use Rattle.budgets.specs.Budgets.{Divides, Listed, Others, Splits, Within, shareBy, leftBy};
-
-// w may be taken from the budget v.
-pub fn is_below(radices: &[u32], w: u32, v: u32) -> bool
-    requires { ⌜ Divides (now radices) ⌝ }
-    ensures { λ r. ⌜ r ≡ below (now (radices .entry)) w v ⌝ }
-{
-    let mut a = w;
-    let mut b = v;
-    let mut i: usize = 0;
-    while i < radices.len() {
-        let d = radices[i];
-        if a % d > b % d {
-            return false;
-        }
-        a = a / d;
-        b = b / d;
-        i += 1;
-    }
-    a <= b
-}
-
-fn bit_of(t: bool) -> u64
-    ensures { λ r. ⌜ r ≡ cond t 1 0 ⌝ }
-{
-    if t {
-        return 1;
-    }
-    0
-}
-
-// The budgets that may be taken from v, as bits.
-fn mask_below(radices: &[u32], v: u32) -> u64
-    requires { ⌜ Divides (now radices) ⌝ }
-    requires { ⌜ v < 64 ⌝ }
-    ensures { λ r. ⌜ r ≡ maskOf (now (radices .entry)) v ⌝ }
-{
-    let mut mask: u64 = 0;
-    let mut w = v + 1;
-    while 0 < w {
-        w -= 1;
-        mask = mask * 2 + bit_of(is_below(radices, w, v));
-    }
-    mask
-}
+ghost use Rattle.search.specs.Radix.{below};
+ghost use Rattle.masks.specs.Masks.{Divides};
+ghost use Rattle.budgets.specs.Budgets.{Listed, Others, Splits, Within, shareBy, leftBy};
 
 fn counted(n: u8, one_more: bool) -> u8
     requires { ⌜ n < 64 ⌝ }
@@ -68,7 +25,7 @@ fn list_below(radices: &[u32], v: usize, parts: &mut [u8]) -> u8
     ensures { λ r. ⌜ Others (now (parts .entry)) (now (parts .exit)) (v * 64) 64 ⌝ }
 {
     let base = v * 64;
-    let mut mask = mask_below(radices, v as u32);
+    let mut mask = masks::mask_below(radices, v as u32);
     let mut count: u8 = 0;
     let mut w: u8 = 0;
     while (w as usize) <= v {
@@ -136,7 +93,7 @@ fn left_of(radices: &[u32], draw: u32, v: u8) -> u8
     requires { ⌜ Divides (now radices) ⌝ }
     ensures { λ r. ⌜ r ≡ leftBy (now (radices .entry)) draw v ⌝ }
 {
-    if is_below(radices, draw, v as u32) {
+    if masks::is_below(radices, draw, v as u32) {
         return v - draw as u8;
     }
     255

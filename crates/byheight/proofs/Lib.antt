@@ -1,1 +1,1 @@
-pub mod Sites
+mod Sites

@@ -3,7 +3,7 @@ ghost use Prim.Native.Nat.{_≤_};
 ghost use lib.ListN.{length};
 
 // The value of a hexadecimal digit, 0 of another byte.
-fn digit(b: u8) -> u32
+pub fn digit(b: u8) -> u32
     ensures { λ r. ⌜ r ≤ 15 ⌝ }
 {
     if b < b'0' {
@@ -22,7 +22,7 @@ fn digit(b: u8) -> u32
 }
 
 // Takes a byte: a blank begins a word, another byte goes on with it. So many words are begun.
-fn take_byte(words: &mut [u32], begun: usize, b: u8) -> usize
+pub fn take_byte(words: &mut [u32], begun: usize, b: u8) -> usize
     requires { ⌜ begun ≤ length (now words) ⌝ }
     ensures { λ r. ⌜ r ≤ length (now (words .entry)) ⌝ }
 {

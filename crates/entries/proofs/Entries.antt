@@ -20,13 +20,14 @@ use Rattle.optimum.specs.Cells.{cellOf, shareCells, stepCell}
 use Rattle.optimum.proofs.Loops.{at-drop}
 use Rattle.arrays.specs.declared.Measures.{Measures}
 use Rattle.arrays.specs.Arrays.{instanceBy}
-use Rattle.strips.specs.Strips.{instanceOn, gapLeft, siteOpens, openCost, joinCost}
+use Rattle.strips.specs.Strips.{instanceOn, gapLeft, siteOpens, openCost, joinCost, joinLeast}
 use Rattle.strips.proofs.Decisions.{inside-on, opens-on, joins-up-on, joins-down-on}
 use Rattle.budgets.specs.Budgets.{Within, Splits, partAt, shareBy, leftBy}
 use Rattle.budgets.proofs.Sharing.{share-by}
-use Rattle.entries.proofs.Places.{upper-is, lower-is}
-use Rattle.entries.proofs.Joins.{opening, opens-of, shut, up-at, down-at, up-least, down-least}
-use Rattle.entries.specs.Rows.{rowOf, rowIn, Lies, openBy, upperPart, lowerPart, joinLeast, noPart, slotTerm, slotsLeast, insideEntry, entryBy, entryIn}
+use Rattle.rows.proofs.Places.{upper-is, lower-is}
+use Rattle.strips.proofs.Joining.{opening, opens-of, shut, up-at, down-at, up-least, down-least}
+use Rattle.entries.specs.Rows.{openBy, noPart, slotTerm, slotsLeast, insideEntry, entryBy, entryIn}
+use Rattle.rows.specs.Rows.{rowOf, rowIn, Lies, upperPart, lowerPart}
 
 -- the place of a cell, by its row
 pub cell-row : (P : Instance) (C R : ℕ) (p : Strip) (v : ℕ) → P .kinds ≡ 1 → p .d ≡ 0 → cellOf P C R p v ≡ rowOf (P .slots .m) C p * R + v

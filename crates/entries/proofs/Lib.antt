@@ -3,5 +3,4 @@ mod Written
 mod Lesser
 mod Terms
 mod Single
-pub mod Joins
 pub mod Entries

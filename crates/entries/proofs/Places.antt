@@ -1,69 +1,19 @@
--- Where rows stand: bounds on the products, and rows as digits. Assumes nothing.
-use mathlib.Core.Path.{_≡_, refl, ap, ap₂, fun-ext}
+-- The rows that a row is filled from: they stand in the level below, and do not change. Assumes nothing.
+use mathlib.Core.Path.{_≡_, fun-ext}
 use mathlib.Core.List.{List}
-use Prim.Native.Nat.{ℕ, suc, _+_, _*_, _-_, _<_, _≤_}
-use native.Mathlib.Nat.{mul-le-mul}
-use native.Mathlib.Numerals.{add-one}
+use Prim.Native.Nat.{ℕ, _+_, _*_, _-_, _<_, _≤_}
 use native.Mathlib.Omega.{arith}
 use lib.ListN.{length}
 use Rattle.optimum.specs.Strips.{Point, Strip}
-use Rattle.optimum.proofs.Levels.{pack-lt}
 use Rattle.arrays.specs.declared.Measures.{Measures}
 use Rattle.budgets.specs.Budgets.{Others}
-use Rattle.entries.specs.Rows.{rowOf, rowIn, rowsOf, Lies, Ready, upperPart, lowerPart}
-
-pub row-low : (m C : ℕ) (p : Strip) → Lies m C p → rowOf m C p < rowsOf m C
-row-low m C p r =
-    pack-lt _ (p .cb) _ (C + 1) (pack-lt _ (p .b) _ (m + 2) (pack-lt (p .a) (p .ca) (m + 2) (C + 1) (r .aLow) (r .caLow)) (r .bLow)) (r .cbLow)
-
--- the products stay small
-bounded : (x y X B : ℕ) → x ≤ X → y ≤ B → x * y ≤ X * B
-bounded x y X B h k = mul-le-mul {n₂ = X} {m₂ = B} h k
-
-pub record Sized (m C n : ℕ) (p : Strip) : Type 0 where
-  pub first : p .a * (C + 1) ≤ 450
-  pub second : (p .a * (C + 1) + p .ca) * (m + 2) ≤ 22500
-  pub third : ((p .a * (C + 1) + p .ca) * (m + 2) + p .b) * (C + 1) ≤ 202500
-  pub place : rowOf m C p * n ≤ 12960000
-
-pub sized : (m C n : ℕ) (p : Strip) → m ≤ 48 → C ≤ 8 → n ≤ 64 → Lies m C p → Sized m C n p
-sized m C n p hm hc hn r =
-    let one : p .a * (C + 1) + p .ca < (m + 2) * (C + 1) = pack-lt (p .a) (p .ca) (m + 2) (C + 1) (r .aLow) (r .caLow) in
-    let a : (m + 2) * (C + 1) ≤ 50 * 9 = bounded (m + 2) (C + 1) 50 9 (omega arith) (omega arith) in
-    let two : (p .a * (C + 1) + p .ca) * (m + 2) + p .b < (m + 2) * (C + 1) * (m + 2) = pack-lt _ (p .b) _ (m + 2) one (r .bLow) in
-    let b : (m + 2) * (C + 1) * (m + 2) ≤ 450 * 50 = bounded _ (m + 2) 450 50 a (omega arith) in
-    let three : rowOf m C p < (m + 2) * (C + 1) * (m + 2) * (C + 1) = pack-lt _ (p .cb) _ (C + 1) two (r .cbLow) in
-    let c : (m + 2) * (C + 1) * (m + 2) * (C + 1) ≤ 22500 * 9 = bounded _ (C + 1) 22500 9 b (omega arith) in
-    record { first = omega arith; second = omega arith; third = omega arith; place = bounded (rowOf m C p) n 202500 64 (omega arith) hn }
-
-pub rows-few : (m C : ℕ) → m ≤ 48 → C ≤ 8 → rowsOf m C ≤ 202500
-rows-few m C hm hc =
-    let a : (m + 2) * (C + 1) ≤ 50 * 9 = bounded (m + 2) (C + 1) 50 9 (omega arith) (omega arith) in
-    let b : (m + 2) * (C + 1) * (m + 2) ≤ 450 * 50 = bounded _ (m + 2) 450 50 a (omega arith) in
-    bounded _ (C + 1) 22500 9 b (omega arith)
-
--- a row's words stand in its level
-pub row-fits : (m C n : ℕ) (p : Strip) → Lies m C p → rowOf m C p * n + n ≤ rowsOf m C * n
-row-fits m C n p r =
-    let e : rowsOf m C ≡ suc (rowOf m C p) + (rowsOf m C - suc (rowOf m C p)) = omega (arith, row-low m C p r) in
-    omega (arith, ap (λ (z : ℕ). z * n) e)
+use Rattle.rows.specs.Rows.{rowOf, rowIn, Lies, upperPart, lowerPart}
+use Rattle.rows.proofs.Places.{row-fits, upper-lies, lower-lies}
+use Rattle.entries.specs.Rows.{Ready}
 
 -- rows past the words that changed are the same
 pub same-rows : (old new : List ℕ) (base count low m C n : ℕ) → base + count ≤ low → Others old new base count → rowIn new low m C n ≡ rowIn old low m C n
 same-rows old new base count low m C n h o = fun-ext (λ p. fun-ext (λ v. o .after _ (omega arith)))
-
--- the parts that a label at slot k leaves of a strip
-pub upper-is : (p : Strip) (s : Point) (k : ℕ) → upperPart p s k ≡ record { a = p .a; ca = p .ca; b = suc k; cb = suc (s .c); d = 0 }
-upper-is p s k = ap₂ (λ (b cb : ℕ). record { a = p .a; ca = p .ca; b = b; cb = cb; d = 0 }) (add-one k) (add-one (s .c))
-
-pub lower-is : (p : Strip) (s : Point) (k : ℕ) → lowerPart p s k ≡ record { a = suc k; ca = suc (s .c); b = p .b; cb = p .cb; d = 0 }
-lower-is p s k = ap₂ (λ (a ca : ℕ). record { a = a; ca = ca; b = p .b; cb = p .cb; d = 0 }) (add-one k) (add-one (s .c))
-
-pub upper-lies : (m C : ℕ) (p : Strip) (s : Point) (k : ℕ) → Lies m C p → s .c < C → k + 1 < p .b → Lies m C (upperPart p s k)
-upper-lies m C p s k r c h = record { aLow = r .aLow; caLow = r .caLow; bLow = omega (arith, r .bLow); cbLow = omega arith; dLow = refl }
-
-pub lower-lies : (m C : ℕ) (p : Strip) (s : Point) (k : ℕ) → Lies m C p → s .c < C → k + 1 < p .b → Lies m C (lowerPart p s k)
-lower-lies m C p s k r c h = record { aLow = omega (arith, r .bLow); caLow = omega arith; bLow = r .bLow; cbLow = r .cbLow; dLow = refl }
 
 -- the rows of both parts stand in the level below, and that of the strip itself
 module _ {q : Measures} {hs bs parts counts left : List ℕ} {size base low : ℕ} {s : Point} (r : Ready q hs bs parts counts left size base low s) where

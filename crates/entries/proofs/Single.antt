@@ -1,9 +1,9 @@
 -- Where there is but one budget, opening a label is one sum. Assumes nothing.
-use mathlib.Core.Path.{_≡_, sym, ap, ap₂, _∙_}
+use mathlib.Core.Path.{_≡_, sym, ap, _∙_}
 use mathlib.Core.Logic.{inl, inr}
 use mathlib.Core.Bool.{true, false}
 use mathlib.Core.List.{List}
-use Prim.Native.Nat.{ℕ, _+_, _*_, _-_, _<_, _≤_, min}
+use Prim.Native.Nat.{ℕ, _+_, _-_, _<_, _≤_, min}
 use native.Mathlib.Nat.{le-antisymm}
 use native.Mathlib.Omega.{arith}
 use native.Mathlib.Numerals.{add-one}
@@ -20,7 +20,8 @@ use Rattle.arrays.specs.declared.Measures.{Measures}
 use Rattle.strips.specs.declared.Window.{Window}
 use Rattle.strips.specs.Strips.{instanceOn, WindowOf, gapLeft, openCost}
 use Rattle.budgets.specs.Budgets.{Others, partAt, shareBy}
-use Rattle.entries.specs.Rows.{rowOf, rowIn, openBy, upperPart, lowerPart, noPart, slotTerm, slotsLeast, singleTerm, Single, isSingle}
+use Rattle.entries.specs.Rows.{openBy, noPart, slotTerm, slotsLeast, singleTerm, Single, isSingle}
+use Rattle.rows.specs.Rows.{rowIn, upperPart, lowerPart}
 use Rattle.entries.proofs.Terms.{window-gap, window-shut}
 
 -- by its test
@@ -30,14 +31,6 @@ single-of n parts counts left h =
     let b = and-both (eqb (getD parts 0 0) 0) _ (a .1) in
     let c = and-both (eqb (getD counts 0 0) 1) _ (b .1) in
     record { one = eqb-true _ _ (a .0); own = eqb-true _ _ (b .0); counted = eqb-true _ _ (c .0); drawn = eqb-true _ _ (c .1) }
-
--- the sum, as code works it out
-pub single-term : (q : Measures) (hs work : List ℕ) (low : ℕ) (p : Strip) (s : Point) (k upper lower parts cost t : ℕ)
-    → upper ≡ low + rowOf (length hs) (q .colours) (upperPart p s k) * q .budgets → lower ≡ low + rowOf (length hs) (q .colours) (lowerPart p s k) * q .budgets
-    → parts ≡ plus topWord (getD work upper 0) (getD work lower 0) → cost ≡ openCost q hs s k → t ≡ plus topWord cost parts
-    → t ≡ singleTerm q hs (rowIn work low (length hs) (q .colours) (q .budgets)) p s k
-single-term q hs work low p s k upper lower parts cost t u l e c f =
-    f ∙ ap₂ (plus topWord) c (e ∙ ap₂ (plus topWord) (ap (λ (z : ℕ). getD work z 0) (u ∙ omega arith)) (ap (λ (z : ℕ). getD work z 0) (l ∙ omega arith)))
 
 -- the least of one slot more
 pub single-more : (old best t n : ℕ) (f : ℕ → ℕ) → best ≡ min old (least topWord n f) → t ≡ f n → min best t ≡ min old (least topWord (n + 1) f)

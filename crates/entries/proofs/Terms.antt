@@ -16,10 +16,11 @@ use Rattle.optimum.specs.Strips.{Point, Strip, inside}
 use Rattle.optimum.specs.OneSided.{topWord}
 use Rattle.arrays.specs.declared.Measures.{Measures}
 use Rattle.strips.specs.declared.Window.{Window}
-use Rattle.strips.specs.Strips.{instanceOn, WindowOf, gapLeft, siteOpens, openCost}
+use Rattle.strips.specs.Strips.{instanceOn, WindowOf, gapLeft, siteOpens, openCost, joinLeast}
 use Rattle.budgets.specs.Budgets.{Others}
 use Rattle.entries.proofs.Places.{same-rows}
-use Rattle.entries.specs.Rows.{rowOf, rowIn, openBy, upperPart, lowerPart, joinLeast, noPart, slotTerm, slotsLeast, insideEntry, entryBy}
+use Rattle.entries.specs.Rows.{openBy, noPart, slotTerm, slotsLeast, insideEntry, entryBy}
+use Rattle.rows.specs.Rows.{rowOf, rowIn, upperPart, lowerPart}
 
 -- slots in a window, and out of it
 pub window-gap : (q : Measures) (hs bs : List ℕ) (p : Strip) (s : Point) {w : Window} → WindowOf (instanceOn q hs bs) p s w → (k : ℕ) → w .from ≤ k → k < w .to → gapLeft (instanceOn q hs bs) p s k ≡ true

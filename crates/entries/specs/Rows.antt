@@ -3,55 +3,20 @@
 use mathlib.Core.Path.{_≡_}
 use mathlib.Core.Bool.{Bool, cond, _&&_, _||_}
 use mathlib.Core.List.{List}
-use Prim.Native.Nat.{ℕ, _+_, _*_, _-_, _<_, _≤_, min}
+use Prim.Native.Nat.{ℕ, _+_, _*_, _-_, _≤_, min}
 use lib.Dec.{eqb, ltb}
 use lib.ListN.{length, getD, drop}
 use Rattle.search.specs.Cost.{plus, least}
-use Rattle.optimum.specs.Strips.{Point, Strip, Instance, inside, joinsUp, joinsDown}
+use Rattle.optimum.specs.Strips.{Point, Strip, Instance, inside}
 use Rattle.optimum.specs.OneSided.{topWord}
 use Rattle.optimum.specs.Cells.{cellOf, stepCell}
 use Rattle.arrays.specs.declared.Measures.{Measures}
-use Rattle.strips.specs.Strips.{instanceOn, gapLeft, siteOpens, openCost, joinCost}
+use Rattle.rows.specs.Rows.{rowsOf, upperPart, lowerPart}
+use Rattle.parts.specs.Parts.{partsCost}
+use Rattle.strips.specs.Strips.{Framed, Stands, joinLeast, instanceOn, gapLeft, siteOpens, openCost}
 use Rattle.budgets.specs.Budgets.{Within, shareBy}
 
--- ---- where rows stand: m slots, C colours
-
--- the number of a strip's row in its level; how many rows a level has
-abbrev pub rowOf : (m C : ℕ) → Strip → ℕ
-rowOf m C p = ((p .a * (C + 1) + p .ca) * (m + 2) + p .b) * (C + 1) + p .cb
-
-abbrev pub rowsOf : (m C : ℕ) → ℕ
-rowsOf m C = (m + 2) * (C + 1) * (m + 2) * (C + 1)
-
--- the words of a level
-abbrev pub levelSize : Measures → (heights : List ℕ) → ℕ
-levelSize q hs = rowsOf (length hs) (q .colours) * q .budgets
-
 -- ---- what is asked of the numbers
-
--- the measures, slots' heights and colours' bounds of a sheet
-pub record Framed (q : Measures) (heights bounds : List ℕ) : Type 0 where
-  pub slotsFew : length heights ≤ 48
-  pub coloursFew : q .colours ≤ 8
-  pub bounded : length bounds ≡ q .colours
-  pub budgetsFew : q .budgets ≤ 64
-  pub budgetsSome : 0 < q .budgets
-  pub narrow : q .width < 16384
-  pub heightLow : (k : ℕ) → getD heights k 0 < 16384
-  pub rising : (j k : ℕ) → j < k → k < length heights → getD heights j 0 < getD heights k 0
-
--- a strip between edges or labels of the sheet
-pub record Lies (m C : ℕ) (p : Strip) : Type 0 where
-  pub aLow : p .a < m + 2
-  pub caLow : p .ca < C + 1
-  pub bLow : p .b < m + 2
-  pub cbLow : p .cb < C + 1
-  pub dLow : p .d ≡ 0
-
--- a site of the sheet
-pub record Stands (C : ℕ) (s : Point) : Type 0 where
-  pub colourLow : s .c < C
-  pub yLow : s .y < 16384
 
 -- a row at the word `base` of an area of `size` words may be filled from the level that begins at the word `low`; lists of budgets
 pub record Ready (q : Measures) (heights bounds parts counts left : List ℕ) (size base low : ℕ) (s : Point) : Type 0 where
@@ -64,30 +29,13 @@ pub record Ready (q : Measures) (heights bounds parts counts left : List ℕ) (s
 
 -- ---- an entry
 
--- the words of a strip's row, in the level that begins at the word `low`; rows of n words
-abbrev pub rowIn : (work : List ℕ) → (low m C n : ℕ) → Strip → (v : ℕ) → ℕ
-rowIn work low m C n p v = getD work (low + rowOf m C p * n + v) 0
-
--- the parts that a label at slot k leaves of a strip
-abbrev pub upperPart : Strip → Point → (k : ℕ) → Strip
-upperPart p s k = record { a = p .a; ca = p .ca; b = k + 1; cb = s .c + 1; d = 0 }
-
-abbrev pub lowerPart : Strip → Point → (k : ℕ) → Strip
-lowerPart p s k = record { a = k + 1; ca = s .c + 1; b = p .b; cb = p .cb; d = 0 }
-
 -- a label that costs c and leaves u of the budget, the rest shared between the rows f and g; none if u is no budget below n
 abbrev pub openBy : (parts counts : List ℕ) → (n c u : ℕ) → (f g : ℕ → ℕ) → ℕ
 openBy parts counts n c u f g = cond (ltb u n) (plus topWord c (shareBy parts counts f g u)) topWord
 
--- the least that joining a label costs
-unfoldable pub joinLeast : Measures → (heights bounds : List ℕ) → Strip → Point → ℕ
-joinLeast q hs bs p s =
-    min (cond (ltb (p .a - 1) (length hs) && joinsUp (instanceOn q hs bs) p s (p .a - 1)) (joinCost q hs s (p .a - 1)) topWord)
-    (cond (joinsDown (instanceOn q hs bs) p s (p .b - 1)) (joinCost q hs s (p .b - 1)) topWord)
-
--- the same where there is but one budget: the whole of it goes to both parts
+-- opening a label at slot k where there is but one budget: the whole of it goes to both parts
 abbrev pub singleTerm : Measures → (heights : List ℕ) → (row : Strip → ℕ → ℕ) → Strip → Point → (k : ℕ) → ℕ
-singleTerm q hs row p s k = plus topWord (openCost q hs s k) (plus topWord (row (upperPart p s k) 0) (row (lowerPart p s k) 0))
+singleTerm q hs row p s k = plus topWord (openCost q hs s k) (partsCost row p s k)
 
 module _ (q : Measures) (heights bounds parts counts left : List ℕ) (row : Strip → ℕ → ℕ) where
   -- a part of the strip, once a label is open at slot k, is none at the full budget, so at every budget

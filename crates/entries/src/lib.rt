@@ -1,16 +1,18 @@
 // Fills one row of the one-sided table, a strip's entries by budget, from the rows of the level below.
 ghost use mathlib.Core.Path.{_≡_};
 ghost use mathlib.Core.Bool.{true};
-ghost use Prim.Native.Nat.{ℕ, _+_, _-_, _*_, _<_, _≤_, min};
-ghost use lib.ListN.{length, getD, drop};
+ghost use Prim.Native.Nat.{ℕ, _+_, _-_, _<_, _≤_, min};
+ghost use lib.ListN.{length, getD};
 ghost use Rattle.search.specs.Cost.{plus, least};
 ghost use Rattle.optimum.specs.OneSided.{topWord};
-ghost use Rattle.strips.specs.Strips.{instanceOn, stripOf, pointOf, gapLeft, Measured, WindowOf};
+ghost use Rattle.strips.specs.Strips.{instanceOn, gapLeft, Measured, WindowOf};
+ghost use Rattle.rows.specs.Rows.{stripOf, pointOf, Lies, rowIn};
 ghost use Rattle.budgets.specs.Budgets.{Others, Within};
-ghost use Rattle.entries.specs.Rows.{rowOf, rowsOf, Framed, Lies, Stands, Ready, rowIn, upperPart, lowerPart, openBy, joinLeast, slotTerm, singleTerm, slotsLeast, isSingle, entryBy};
+ghost use Rattle.parts.specs.Parts.{Room};
+ghost use Rattle.entries.specs.Rows.{Ready, openBy, slotTerm, singleTerm, slotsLeast, isSingle, entryBy};
 use arrays::Measures;
-use strips::Site;
-use strips::Strip;
+use rows::Site;
+use rows::Strip;
 use strips::Window;
 use words::NONE;
 use words::both;
@@ -19,25 +21,6 @@ use words::either;
 use words::lesser;
 use words::monus;
 use words::same;
-
-// Where the rows of a strip's two parts begin.
-pub struct PartRows {
-    pub upper: usize,
-    pub lower: usize,
-}
-
-// The place of a strip's row in its level.
-pub fn row_place(q: Measures, m: usize, p: Strip) -> usize
-    requires { ⌜ (m ≤ 48) × (q .colours ≤ 8) × (q .budgets ≤ 64) ⌝ }
-    requires { ⌜ Lies m (q .colours) (stripOf p) ⌝ }
-    ensures { λ r. ⌜ r ≡ rowOf m (q .colours) (stripOf p) * q .budgets ⌝ }
-{
-    let colours = (q.colours as usize) + 1;
-    let ends = m + 2;
-    let upper = (p.a as usize) * colours + (p.ca as usize);
-    let strip = (upper * ends + (p.b as usize)) * colours + (p.cb as usize);
-    strip * (q.budgets as usize)
-}
 
 // A row's n words are those of the row at `from`.
 fn copy_row(work: &mut [u32], base: usize, from: usize, n: usize)
@@ -130,31 +113,6 @@ fn open_row(
     }
 }
 
-// The places of the rows of the two parts that a label at slot k leaves of a strip.
-fn part_places(q: Measures, m: usize, p: Strip, s: Site, low: usize, k: u32) -> PartRows
-    requires { ⌜ (m ≤ 48) × (q .colours ≤ 8) × (q .budgets ≤ 64) × (low + rowsOf m (q .colours) * q .budgets ≤ 18446744073709551615) ⌝ }
-    requires { ⌜ Lies m (q .colours) (stripOf p) × (s .c < q .colours) × (k + 1 < p .b) ⌝ }
-    ensures { λ r. ⌜ (r .upper ≡ low + rowOf m (q .colours) (upperPart (stripOf p) (pointOf s) k) * q .budgets) × (r .lower ≡ low + rowOf m (q .colours) (lowerPart (stripOf p) (pointOf s) k) * q .budgets) ⌝ }
-{
-    let c = s.c + 1;
-    let upper = Strip {
-        a: p.a,
-        ca: p.ca,
-        b: k + 1,
-        cb: c,
-    };
-    let lower = Strip {
-        a: k + 1,
-        ca: c,
-        b: p.b,
-        cb: p.cb,
-    };
-    PartRows {
-        upper: low + row_place(q, m, upper),
-        lower: low + row_place(q, m, lower),
-    }
-}
-
 // Opens a label at slot k, unless one of the parts is none at the full budget.
 fn open_slot(
     work: &mut [u32],
@@ -176,7 +134,7 @@ fn open_slot(
     ensures { λ _. ⌜ Others (now (work .entry)) (now (work .exit)) base (q .budgets) ⌝ }
     ensures { λ _. ⌜ ((v : ℕ) → v < q .budgets → getD (now (work .exit)) (base + v) 0 ≡ min (getD (now (work .entry)) (base + v) 0) (slotTerm q (now (heights .entry)) (now (bounds .entry)) (now (parts .entry)) (now (counts .entry)) (now (left .entry)) (rowIn (now (work .entry)) low (length (now (heights .entry))) (q .colours) (q .budgets)) (stripOf p) (pointOf s) k v)) ⌝ }
 {
-    let at = part_places(q, heights.len(), p, s, low, k);
+    let at = rows::part_places(q, heights.len(), p, s, low, k);
     let upper = at.upper;
     let lower = at.lower;
     let n = q.budgets as usize;
@@ -263,8 +221,8 @@ fn least_open(
     window: Window,
     old: u32,
 ) -> u32
-    requires { ⌜ Measured q (now heights) (s .y) × (length (now heights) ≤ 48) × (q .colours ≤ 8) × (s .c < q .colours) × (q .budgets ≡ 1) ⌝ }
-    requires { ⌜ Lies (length (now heights)) (q .colours) (stripOf p) × (low + rowsOf (length (now heights)) (q .colours) * q .budgets ≤ length (now work)) ⌝ }
+    requires { ⌜ Measured q (now heights) (s .y) × (s .c < q .colours) × Room q (length (now heights)) low (length (now work)) ⌝ }
+    requires { ⌜ Lies (length (now heights)) (q .colours) (stripOf p) ⌝ }
     requires { ⌜ (window .from < window .to) × (window .to < p .b) ⌝ }
     ensures { λ r. ⌜ r ≡ min old (least topWord (window .to - window .from) (λ i. singleTerm q (now (heights .entry)) (rowIn (now (work .entry)) low (length (now (heights .entry))) (q .colours) (q .budgets)) (stripOf p) (pointOf s) (window .from + i))) ⌝ }
 {
@@ -272,14 +230,9 @@ fn least_open(
     let mut best = old;
     let mut k = window.from;
     while k < window.to {
-        let at = part_places(q, m, p, s, low, k);
-        let upper = at.upper;
-        let lower = at.lower;
-        let parts = words::plus_of(work[upper], work[lower]);
-        best = lesser(
-            best,
-            words::plus_of(strips::open_cost(q, heights, s, k), parts),
-        );
+        let cost = strips::open_cost(q, heights, s, k);
+        let parts = parts::parts_cost(work, q, m, p, s, low, k);
+        best = lesser(best, words::plus_of(cost, parts));
         k += 1;
     }
     best
@@ -329,24 +282,6 @@ fn open_slots(
     );
 }
 
-// The least that joining a label costs.
-pub fn join_least(q: Measures, heights: &[u32], bounds: &[u32], p: Strip, s: Site) -> u32
-    requires { ⌜ Framed q (now heights) (now bounds) ⌝ }
-    requires { ⌜ Lies (length (now heights)) (q .colours) (stripOf p) × Stands (q .colours) (pointOf s) ⌝ }
-    ensures { λ r. ⌜ r ≡ joinLeast q (now (heights .entry)) (now (bounds .entry)) (stripOf p) (pointOf s) ⌝ }
-{
-    let up = monus(p.a, 1);
-    let down = monus(p.b, 1);
-    let slot = (up as usize) < heights.len();
-    let above = both(slot, strips::joins_up(q, heights, bounds, p, s, up));
-    let below = strips::joins_down(q, heights, bounds, p, s, down);
-    let rise = choose(above, strips::join_cost(q, heights, s, up), NONE);
-    lesser(
-        rise,
-        choose(below, strips::join_cost(q, heights, s, down), NONE),
-    )
-}
-
 // Fills the row of a strip from the level below.
 pub fn fill_row(
     work: &mut [u32],
@@ -367,12 +302,18 @@ pub fn fill_row(
     ensures { λ _. ⌜ ((v : ℕ) → v < q .budgets → getD (now (work .exit)) (base + v) 0 ≡ entryBy q (now (heights .entry)) (now (bounds .entry)) (now (parts .entry)) (now (counts .entry)) (now (left .entry)) (rowIn (now (work .entry)) low (length (now (heights .entry))) (q .colours) (q .budgets)) (stripOf p) (pointOf s) v) ⌝ }
 {
     let n = q.budgets as usize;
-    let same = low + row_place(q, heights.len(), p);
+    let same = low + rows::row_place(q, heights.len(), p);
     if !strips::is_inside(q, heights, bounds, p, s) {
         copy_row(work, base, same, n);
         return;
     }
-    start_row(work, base, same, n, join_least(q, heights, bounds, p, s));
+    start_row(
+        work,
+        base,
+        same,
+        n,
+        strips::join_least(q, heights, bounds, p, s),
+    );
     if strips::site_opens(q, heights, bounds, p, s) {
         open_slots(
             work,

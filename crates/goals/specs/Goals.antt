@@ -2,13 +2,10 @@
 use mathlib.Core.Path.{_≡_}
 use mathlib.Core.List.{List}
 use Prim.Native.Nat.{ℕ, suc, _≤_}
-use lib.ListN.{length, getD, set}
+use lib.ListN.{length, set}
 use Rattle.optimum.specs.UsedSlots.{Instance, value}
 use Rattle.usedslots.specs.Table.{capsIn}
-
--- a site that has a cap has one among the goals too, as tight or tighter
-abbrev pub Within : (caps goals : List ℕ) → Type 0
-Within caps goals = (i : ℕ) → 1 ≤ getD caps i 0 → (1 ≤ getD goals i 0) × (getD goals i 0 ≤ getD caps i 0)
+use Rattle.aims.specs.Aims.{Within}
 
 -- goals within the caps, with which the cost is still so much at most
 pub record Goals (G : Instance) (caps goals : List ℕ) (least : ℕ) : Type 0 where

@@ -1,26 +1,25 @@
 -- One label more: no layout that goes on costs less than the least. Assumes nothing.
-use mathlib.Core.Path.{_≡_, sym, ap, _∙_}
+use mathlib.Core.Path.{_≡_, refl, sym, ap, _∙_}
 use mathlib.Core.Bool.{true}
 use mathlib.Core.List.{List, []}
-use Prim.Native.Nat.{ℕ, suc, _+_, _-_, _%_, _≤_, _<_}
+use Prim.Native.Nat.{ℕ, suc, _+_, _-_, _≤_, _<_}
 use native.Mathlib.Nat.{le-trans, le-of-eq}
 use native.Mathlib.Omega.{arith}
 use native.Mathlib.Numerals.{add-one}
-use lib.Dec.{leb}
 use lib.ListN.{length, getD}
-use Rattle.search.specs.Cost.{plus, least}
+use Rattle.search.specs.Cost.{plus}
 use Rattle.search.proofs.Cost.{plus-le, plus-past, plus-mono, plus-assoc, plus-zero, least-le}
 use Rattle.optimum.specs.Slots.{Slots, farFrom}
 use Rattle.optimum.specs.UsedSlots.{Instance, may, draw, strip, below, T, value}
 use Rattle.optimum.specs.Rows.{link}
 use Rattle.optimum.proofs.Rows.{below-le, below-end, below-step, link-is}
 use Rattle.arrays.specs.declared.Measures.{Measures}
-use Rattle.arrays.specs.Arrays.{slotsBy, labelCost}
+use Rattle.arrays.specs.Arrays.{labelCost}
 use Rattle.stripcosts.specs.Costs.{upperAt, lowerAt, stripOf}
-use Rattle.links.specs.Rows.{sizeOf}
 use Rattle.usedslots.specs.Table.{none, tableBy, capsIn, Fits}
 use Rattle.usedslots.proofs.Strips.{strip-is}
-use Rattle.usedslots.proofs.Links.{may-is, draw-is}
+use Rattle.usedslots.proofs.Links.{may-is, draw-is, product-low, blocks-of}
+use Rattle.allowed.specs.Allowed.{Parted, Stands}
 use Rattle.labels.specs.declared.Chosen.{Chosen}
 use Rattle.labels.specs.Labels.{leastAfter}
 
@@ -74,21 +73,25 @@ module _ (q : Measures) (hs bs rs ds ys cs caps : List ℕ) (f : Fits q hs bs rs
   abbrev H : Instance
   H = tableBy q hs bs rs ys cs
 
-  pub label-chosen : (s t : Chosen) (k d skip size cost : ℕ) → k < length hs → d < q .colours →
-      farFrom (slotsBy q hs) (s .place) (s .code) k (d + 1) ≡ true → skip ≡ getD ds d 0 → size ≡ sizeOf (q .budgets) (getD bs d 0) skip (getD rs d 0) →
-      leb skip (s .budget % size) ≡ true → cost ≡ stripOf q (upperAt hs (s .place) (s .code)) (lowerAt hs k (d + 1)) ys cs caps →
-      t .place ≡ k + 1 → t .code ≡ d + 1 → t .budget ≡ s .budget - skip → t .cost ≡ plus none (s .cost) (plus none (labelCost q) cost) →
+  pub parted : (d : ℕ) → d < q .colours → Parted q bs rs ds d
+  parted d l =
+      record {
+        low = product-low q hs bs rs ds ys cs caps f d l;
+        some = blocks-of q hs bs rs ds ys cs caps f d l (q .budgets) (0 + q .budgets) 0 _ _ refl refl (omega arith) (omega arith) .some;
+      }
+
+  pub label-chosen : (s t : Chosen) (k d cost : ℕ) → k < length hs → d < q .colours → Stands q hs bs rs ds (s .place) (s .code) (s .budget) k d →
+      cost ≡ stripOf q (upperAt hs (s .place) (s .code)) (lowerAt hs k (d + 1)) ys cs caps →
+      t .place ≡ k + 1 → t .code ≡ d + 1 → t .budget ≡ s .budget - getD ds d 0 → t .cost ≡ plus none (s .cost) (plus none (labelCost q) cost) →
       leastAfter H (capsIn caps) s k ≤ leastAfter H (capsIn caps) t (suc k)
-  label-chosen s t k d skip size cost h l far e₁ e₂ left e₃ e₄ e₅ e₆ e₇ =
-      let z₂ : size ≡ sizeOf (q .budgets) (getD bs d 0) (getD ds d 0) (getD rs d 0) = rw e₁ at e₂ in
-      let z : leb (getD ds d 0) (s .budget % sizeOf (q .budgets) (getD bs d 0) (getD ds d 0) (getD rs d 0)) ≡ true = rw (e₁, z₂) at left in
-      let c : cost ≡ stripOf q (upperAt hs (s .place) (s .code)) (lowerAt hs k (suc d)) ys cs caps = rw add-one at e₃ in
+  label-chosen s t k d cost h l st e₁ e₂ e₃ e₄ e₅ =
+      let c : cost ≡ stripOf q (upperAt hs (s .place) (s .code)) (lowerAt hs k (suc d)) ys cs caps = rw add-one at e₁ in
       least-label H (capsIn caps) s t k d h l
-      (rw add-one at far)
-      (may-is q hs bs rs ds ys cs caps f d l (s .budget) ∙ z)
-      (e₄ ∙ omega arith) (e₅ ∙ omega arith)
-      (e₆ ∙ rw (e₁, draw-is q hs bs rs ds ys cs caps f d l))
-      (e₇ ∙ ap (λ (z : ℕ). plus none (s .cost) (plus none (labelCost q) z)) (c ∙ strip-is q hs bs rs ys cs [] caps (s .place) (s .code) k (suc d)))
+      (rw add-one at (st .far))
+      (may-is q hs bs rs ds ys cs caps f d l (s .budget) ∙ st .left)
+      (e₂ ∙ omega arith) (e₃ ∙ omega arith)
+      (e₄ ∙ rw (draw-is q hs bs rs ds ys cs caps f d l))
+      (e₅ ∙ ap (λ (z : ℕ). plus none (s .cost) (plus none (labelCost q) z)) (c ∙ strip-is q hs bs rs ys cs [] caps (s .place) (s .code) k (suc d)))
 
   -- all slots done
   pub cost-above : (w cost : ℕ) (s : Chosen) (k m : ℕ) → m ≡ length hs → k ≤ m → m ≤ k → w ≤ leastAfter H (capsIn caps) s k →

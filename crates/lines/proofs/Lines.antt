@@ -1,7 +1,7 @@
 -- The sites' lines word by word. Assumes nothing.
 use mathlib.Core.Path.{_≡_, refl}
 use mathlib.Core.Bool.{false}
-use mathlib.Core.List.{List, _∷_, _++_}
+use mathlib.Core.List.{List, _∷_, _++_, append-assoc}
 use Prim.Native.Nat.{ℕ, suc, _+_, _<_, _≤_}
 use native.Mathlib.Numerals.{add-one}
 use native.Mathlib.Omega.{arith}
@@ -10,6 +10,7 @@ use lib.ListN.{length, getD, drop}
 use lib.Seq.{drop-cons}
 use borrow.Author.Tests.{eqb-true, ne-eqb}
 use Rattle.lists.proofs.Tests.{by-test}
+use Rattle.text.proofs.Written.{Put, put-more}
 use Rattle.sheet.specs.Sheet.{kindOf, sitesIn}
 use Rattle.lines.specs.Lines.{siteLines, lineOf, countWith}
 
@@ -28,3 +29,9 @@ lines-at ls i c s j h = rw (drop-cons s j 0 h, add-one j) (lines-of ls i c (getD
 
 pub count-le : (n k w : ℕ) → countWith n k w ≤ n + 1
 count-le n k w = by-test (eqb (kindOf w) k) (λ e. rw e (omega arith)) λ e. rw e (omega arith)
+
+-- a name and a number put after what was put
+pub named-more : {m o : List ℕ} {p q : ℕ} (l : List ℕ) (i : ℕ) (s name t : List ℕ) → Put l m i p s → Put m o p q (name ++ t) → Put l o i q ((s ++ name) ++ t)
+named-more l i s name t a b =
+    let e : (s ++ name) ++ t ≡ s ++ (name ++ t) = append-assoc s name t in
+    rw e (put-more l i s (name ++ t) a b)

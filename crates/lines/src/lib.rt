@@ -1,10 +1,10 @@
 // The words of an input, and the lines of a report.
 ghost use mathlib.Core.Path.{_≡_};
-ghost use mathlib.Core.List.{[], _∷_};
+ghost use mathlib.Core.List.{[], _∷_, _++_};
 ghost use Prim.Native.Nat.{_+_, _*_, _<_, _≤_};
 ghost use lib.ListN.{length, getD, drop};
 ghost use Rattle.sheet.specs.Sheet.{bits, sitesIn, sheetIn};
-ghost use Rattle.text.specs.Text.{written, pastOf};
+ghost use Rattle.text.specs.Text.{decimal, written, pastOf};
 ghost use Rattle.lines.specs.Lines.{wordsIn, refusedLine, layoutLine, siteLine, siteLines, lineOf, countWith, layoutText};
 use text::put_byte;
 use text::put_bytes;
@@ -54,23 +54,29 @@ pub fn put_words(words: &mut [u32], bytes: &[u8]) -> usize
     past
 }
 
+// A name and a number.
+fn put_named(text: &mut [u8], at: usize, name: &[u8], number: u32) -> usize
+    ensures { λ r. ⌜ r ≡ pastOf (now (text .entry)) at (now (name .entry) ++ decimal number) ⌝ }
+    ensures { λ r. ⌜ now (text .exit) ≡ written (now (text .entry)) at (now (name .entry) ++ decimal number) ⌝ }
+{
+    let past = put_bytes(text, at, name);
+    put_decimal(text, past, number)
+}
+
 pub fn put_refused(text: &mut [u8], at: usize, number: u32) -> usize
     ensures { λ r. ⌜ r ≡ pastOf (now (text .entry)) at (refusedLine number) ⌝ }
     ensures { λ r. ⌜ now (text .exit) ≡ written (now (text .entry)) at (refusedLine number) ⌝ }
 {
-    let word = put_bytes(text, at, b"refused ");
-    let digits = put_decimal(text, word, number);
-    put_byte(text, digits, b'\n')
+    let past = put_named(text, at, b"refused ", number);
+    put_byte(text, past, b'\n')
 }
 
 fn put_layout_line(text: &mut [u8], at: usize, labels: u32, size: u32) -> usize
     ensures { λ r. ⌜ r ≡ pastOf (now (text .entry)) at (layoutLine labels size) ⌝ }
     ensures { λ r. ⌜ now (text .exit) ≡ written (now (text .entry)) at (layoutLine labels size) ⌝ }
 {
-    let mut past = put_bytes(text, at, b"labels ");
-    past = put_decimal(text, past, labels);
-    past = put_bytes(text, past, b" length ");
-    past = put_decimal(text, past, size);
+    let mut past = put_named(text, at, b"labels ", labels);
+    past = put_named(text, past, b" length ", size);
     put_byte(text, past, b'\n')
 }
 
@@ -78,12 +84,9 @@ fn put_site_line(text: &mut [u8], at: usize, site: u32, colour: u32, slot: u32) 
     ensures { λ r. ⌜ r ≡ pastOf (now (text .entry)) at (siteLine site colour slot) ⌝ }
     ensures { λ r. ⌜ now (text .exit) ≡ written (now (text .entry)) at (siteLine site colour slot) ⌝ }
 {
-    let mut past = put_bytes(text, at, b"site ");
-    past = put_decimal(text, past, site);
-    past = put_bytes(text, past, b" colour ");
-    past = put_decimal(text, past, colour);
-    past = put_bytes(text, past, b" slot ");
-    past = put_decimal(text, past, slot);
+    let mut past = put_named(text, at, b"site ", site);
+    past = put_named(text, past, b" colour ", colour);
+    past = put_named(text, past, b" slot ", slot);
     put_byte(text, past, b'\n')
 }
 

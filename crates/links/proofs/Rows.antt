@@ -150,10 +150,3 @@ start-low C P a ca h i j k =
     let x : a * (C + 1) ≤ 49 * 9 = mul-le-mul {n₂ = 49} {m₂ = 9} h (omega arith) in
     let y : (a * (C + 1) + ca) * P ≤ 449 * 64 = mul-le-mul {n₂ = 449} {m₂ = 64} (omega arith) k in
     (omega arith, omega arith)
-
--- the table's number of words stays small
-pub words-low : (m C P : ℕ) → m ≤ 48 → C ≤ 8 → P ≤ 64 → ((m + 2) * (C + 1) ≤ 450) × ((m + 2) * (C + 1) * P ≤ 28800)
-words-low m C P h i k =
-    let x : (m + 2) * (C + 1) ≤ 50 * 9 = mul-le-mul {n₂ = 50} {m₂ = 9} (omega arith) (omega arith) in
-    let y : (m + 2) * (C + 1) * P ≤ 450 * 64 = mul-le-mul {n₂ = 450} {m₂ = 64} x k in
-    (x, y)

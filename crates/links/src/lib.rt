@@ -35,7 +35,7 @@ pub fn link_cost(q: Measures, strip: u32) -> u32
 }
 
 // The numbers of a row, each lowered to cost and the number at a shifted place where that is less.
-fn relax(row: &mut [u32], work: &[u32], to: usize, from: usize, count: usize, cost: u32)
+pub fn relax(row: &mut [u32], work: &[u32], to: usize, from: usize, count: usize, cost: u32)
     requires { ⌜ (to + count ≤ length (now row)) × (from + count ≤ length (now work)) ⌝ }
     ensures { λ _. ⌜ ((v : ℕ) → getD (now (row .exit)) v 0 ≡ relaxed (now (row .entry)) (now (work .entry)) to from count cost v) ⌝ }
 {
@@ -49,7 +49,7 @@ fn relax(row: &mut [u32], work: &[u32], to: usize, from: usize, count: usize, co
 }
 
 // The same at the budgets that have a label of one colour left, block by block: in each, the first `skip` have none.
-fn link_blocks(
+pub fn link_blocks(
     row: &mut [u32],
     work: &[u32],
     from: usize,
@@ -69,28 +69,6 @@ fn link_blocks(
     }
 }
 
-// The same, a single budget by itself.
-pub fn link(
-    row: &mut [u32],
-    work: &[u32],
-    from: usize,
-    budgets: usize,
-    skip: usize,
-    size: usize,
-    cost: u32,
-)
-    requires { ⌜ Blocks (length (now row)) (length (now work)) from budgets skip size ⌝ }
-    ensures { λ _. ⌜ ((v : ℕ) → v < budgets → getD (now (row .exit)) v 0 ≡ linked (now (row .entry)) (now (work .entry)) from skip size cost v) ⌝ }
-{
-    if budgets != 1 {
-        link_blocks(row, work, from, budgets, skip, size, cost);
-        return;
-    }
-    if skip == 0 {
-        relax(row, work, 0, from, 1, cost);
-    }
-}
-
 // Where the row of a place and a code begins.
 pub fn row_start(q: Measures, a: u32, code: u32) -> usize
     requires { ⌜ (a ≤ 49) × (code ≤ 8) × (q .colours ≤ 8) × (q .budgets ≤ 64) ⌝ }
@@ -98,15 +76,6 @@ pub fn row_start(q: Measures, a: u32, code: u32) -> usize
 {
     let codes = q.colours as usize + 1;
     ((a as usize) * codes + code as usize) * (q.budgets as usize)
-}
-
-// The words of the table.
-pub fn table_words(q: Measures, slots: usize) -> usize
-    requires { ⌜ (slots ≤ 48) × (q .colours ≤ 8) × (q .budgets ≤ 64) ⌝ }
-    ensures { λ r. ⌜ r ≡ (slots + 2) * (q .colours + 1) * q .budgets ⌝ }
-{
-    let codes = q.colours as usize + 1;
-    (slots + 2) * codes * (q.budgets as usize)
 }
 
 // The block of budgets in which a colour's digit takes each value once.

@@ -14,6 +14,8 @@ use Rattle.labelling.specs.Promise.{areWords, takesSheet}
 use Rattle.labelling.proofs.Maker.{Result, Serves, refused-sheet, refused-work, refused-out}
 use Rattle.labelling.proofs.Kept.{areas-kept}
 use Rattle.labelling.proofs.Loosened.{work-less, fault-loose, area-loose, work-zeroed, takes-loose}
+use Rattle.room.specs.Room.{roomFault}
+use Rattle.room.proofs.Room.{room-sheet, room-work, room-out, room-enough, by-room, room}
 use Rattle.reader.specs.declared.Sizes.{Sizes}
 use Rattle.reader.specs.Read.{readPost}
 use Rattle.reader.proofs.Reading.{reading, refusal-is}
@@ -29,22 +31,35 @@ pub call : (ws k o : List ℕ) (f r : ℕ) → r ≡ f → Result ws k o f o k �
 call ws k o f r e q = (e ∙ sym (q .fault-is), (sym (q .work-is), sym (q .out-is)))
 
 module _ (ws k o : List ℕ) (r : Sizes) (e : r ≡ readPost ws) where
-  pub refused : (r .refusal ≡ 0 → ⊥) → (r .refusal ≡ makeFault ws k o) × ((k ≡ makeWork ws k o) × (o ≡ makeAnswer ws k o))
-  refused n =
-      let f = refusal-is ws r e in
-      call ws k o (sheetFault ws) (r .refusal) f (refused-sheet ws k o (positive (r .refusal) (sheetFault ws) n f))
+  unread : (r .refusal ≡ 0 → ⊥) → Result ws k o (r .refusal) o k
+  unread n =
+      let f = refusal-is ws r e in subst (λ (a : ℕ). Result ws k o a o k) (sym f) (refused-sheet ws k o (positive (r .refusal) (sheetFault ws) n f))
     where
       positive : (a b : ℕ) → (a ≡ 0 → ⊥) → a ≡ b → 0 < b
       positive a b n e = omega arith
 
-  pub short : r .refusal ≡ 0 → length k < r .work → (8 ≡ makeFault ws k o) × ((k ≡ makeWork ws k o) × (o ≡ makeAnswer ws k o))
-  short z h = let g = reading ws r e z in call ws k o 8 8 refl (refused-work ws k o (g .accepted) (omega (arith, g .work)))
+  short : r .refusal ≡ 0 → length k < r .work → Result ws k o 8 o k
+  short z h = let g = reading ws r e z in refused-work ws k o (g .accepted) (omega (arith, g .work))
 
-  pub narrow : r .refusal ≡ 0 → r .work ≤ length k → length o < r .n + 1 → (9 ≡ makeFault ws k o) × ((k ≡ makeWork ws k o) × (o ≡ makeAnswer ws k o))
-  narrow z w h = let g = reading ws r e z in call ws k o 9 9 refl (refused-out ws k o (g .accepted) (omega (arith, g .work)) (omega (arith, g .sites)))
+  narrow : r .refusal ≡ 0 → r .work ≤ length k → length o < r .n + 1 → Result ws k o 9 o k
+  narrow z w h = let g = reading ws r e z in refused-out ws k o (g .accepted) (omega (arith, g .work)) (omega (arith, g .sites))
 
-  pub takes : ((i : ℕ) → getD ws i 0 < 4294967296) → r .refusal ≡ 0 → r .work ≤ length k → r .n + 1 ≤ length o → takesSheet ws k o
-  takes u z w h = let g = reading ws r e z in (are-words ws u, g .accepted, omega (arith, g .work), omega (arith, g .sites))
+  module _ (f : ℕ) (q : f ≡ roomFault (r .refusal) (r .work) (r .n) (length k) (length o)) where
+    -- refused before it is laid out
+    pub refused : (f ≡ 0 → ⊥) → (f ≡ makeFault ws k o) × ((k ≡ makeWork ws k o) × (o ≡ makeAnswer ws k o))
+    refused n =
+        by-room (r .refusal) (r .work) (r .n) (length k) (length o)
+        (λ z. call ws k o (r .refusal) f (q ∙ room-sheet (r .refusal) (r .work) (r .n) (length k) (length o) z) (unread z))
+        (λ z w. call ws k o 8 f (q ∙ room-work (r .refusal) (r .work) (r .n) (length k) (length o) z w) (short z w))
+        (λ z w h. call ws k o 9 f (q ∙ room-out (r .refusal) (r .work) (r .n) (length k) (length o) z w h) (narrow z w h))
+        (λ z w h. absurd (n (q ∙ room-enough (r .refusal) (r .work) (r .n) (length k) (length o) z w h)))
+
+    -- or taken, with so many work words needed
+    pub taken : ((i : ℕ) → getD ws i 0 < 4294967296) → f ≡ 0 → takesSheet ws k o × (r .work ≡ workFor (sheetIn ws))
+    taken u v =
+        let t = room (r .refusal) (r .work) (r .n) (length k) (length o) (sym q ∙ v) in
+        let g = reading ws r e (t .0) in
+        ((are-words ws u, g .accepted, omega (arith, g .work, t .1), omega (arith, g .sites, t .2)), g .work)
 
   pub sizes : r .refusal ≡ 0 → (r .m ≡ length (sheetIn ws .slots)) × (r .c ≡ length (sheetIn ws .colours)) × (r .n ≡ length (sheetIn ws .sites)) × (r .p ≡ productOf (sheetIn ws .colours))
   sizes z = let g = reading ws r e z in (g .slots, g .colours, g .sites, g .product)

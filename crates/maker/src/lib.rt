@@ -5,6 +5,7 @@ ghost use lib.ListN.{length};
 ghost use Rattle.sheet.specs.Sheet.{sheetIn, productOf, workFor};
 ghost use Rattle.labelling.specs.Entry.{makeFault, makeAnswer, makeWork, zeroed};
 ghost use Rattle.labelling.specs.Promise.{takesSheet};
+use room::room_fault;
 
 // Zeros the words from a place up to another.
 fn clear_from(work: &mut [u32], from: usize, to: usize)
@@ -68,17 +69,16 @@ pub fn make_layout(sheet: &[u32], work: &mut [u32], out: &mut [u32]) -> u8
     ensures { λ _. ⌜ now (out .exit) ≡ makeAnswer (now (sheet .entry)) (now (work .entry)) (now (out .entry)) ⌝ }
 {
     let sizes = reader::read_sheet(sheet);
-    let refusal = sizes.refusal;
-    if refusal != 0 {
-        return refusal;
-    }
     let needed = sizes.work as usize;
-    if work.len() < needed {
-        return 8;
-    }
-    let sites = sizes.n as usize;
-    if out.len() < sites + 1 {
-        return 9;
+    let fault = room_fault(
+        sizes.refusal,
+        needed,
+        sizes.n as usize,
+        work.len(),
+        out.len(),
+    );
+    if fault != 0 {
+        return fault;
     }
     lay_loosened(sheet, needed, work, out)
 }

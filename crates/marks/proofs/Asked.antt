@@ -12,12 +12,12 @@ use Rattle.optimum.specs.Strips.{Point, Strip, Instance, inside, opens, joinsUp
 use Rattle.optimum.specs.OneSided.{topWord}
 use Rattle.optimum.specs.Reached.{In, Asks}
 use Rattle.arrays.specs.declared.Measures.{Measures}
-use Rattle.strips.specs.Strips.{instanceOn, siteOpens, WindowOf}
+use Rattle.strips.specs.Strips.{instanceOn, siteOpens, WindowOf, Framed, Stands, joinLeast}
 use Rattle.strips.specs.declared.Window.{Window}
-use Rattle.entries.specs.Rows.{Framed, Lies, Stands, joinLeast, upperPart, lowerPart}
-use Rattle.entries.proofs.Places.{upper-is, lower-is}
-use Rattle.entries.proofs.Joins.{Opening, opening, up-least, down-least, join-low}
-use Rattle.marks.specs.Marks.{Marked, PartsMarked}
+use Rattle.rows.specs.Rows.{Lies, upperPart, lowerPart}
+use Rattle.rows.proofs.Places.{upper-is, lower-is}
+use Rattle.strips.proofs.Joining.{Opening, opening, up-least, down-least, join-low}
+use Rattle.parts.specs.Parts.{Marked, PartsMarked}
 
 module _ (q : Measures) (hs bs : List ℕ) (p : Strip) (s : Point) where
   abbrev P : Instance

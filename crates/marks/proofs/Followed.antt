@@ -11,10 +11,11 @@ use Rattle.optimum.specs.Strips.{Point, Strip, Instance}
 use Rattle.optimum.specs.Reached.{Asks}
 use Rattle.arrays.specs.declared.Measures.{Measures}
 use Rattle.strips.specs.Strips.{instanceOn}
-use Rattle.entries.specs.Rows.{rowOf, levelSize, Lies}
-use Rattle.entries.proofs.Places.{row-fits}
-use Rattle.marks.specs.Marks.{Marked, Marking, Room, Ready, endPlace, upperEnd, Shaped, Led}
-use Rattle.marks.proofs.Marking.{marking-none, marking-join}
+use Rattle.rows.specs.Rows.{rowOf, levelSize, Lies, endPlace, upperEnd}
+use Rattle.rows.proofs.Places.{row-fits}
+use Rattle.marks.specs.Marks.{Ready, Shaped, Led}
+use Rattle.parts.specs.Parts.{Marked, Marking, Room}
+use Rattle.parts.proofs.Marking.{marking-none, marking-join}
 
 -- ---- ends by their places
 

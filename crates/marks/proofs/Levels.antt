@@ -6,8 +6,9 @@ use native.Mathlib.Nat.{mul-le-mul}
 use native.Mathlib.Omega.{arith}
 use lib.ListN.{length}
 use Rattle.arrays.specs.declared.Measures.{Measures}
-use Rattle.entries.specs.Rows.{Framed, levelSize}
-use Rattle.entries.proofs.Places.{rows-few}
+use Rattle.strips.specs.Strips.{Framed}
+use Rattle.rows.specs.Rows.{levelSize}
+use Rattle.rows.proofs.Places.{rows-few}
 
 pub next-level : (j size : ℕ) → (j + 1) * size ≡ j * size + size
 next-level j size = omega arith

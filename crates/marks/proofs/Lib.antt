@@ -1,4 +1,3 @@
-mod Marking
 pub mod Asked
 pub mod Followed
 pub mod Levels

@@ -13,10 +13,11 @@ use Rattle.optimum.specs.Strips.{Point, Strip, Instance, inside, opens, joinsUp
 use Rattle.optimum.specs.Reached.{Asks, Reached, noPoint, wholeSheet}
 use Rattle.arrays.specs.declared.Measures.{Measures}
 use Rattle.arrays.specs.Arrays.{instanceBy, pointsBy}
-use Rattle.strips.specs.Strips.{instanceOn}
-use Rattle.entries.specs.Rows.{rowOf, levelSize, Framed, Stands, upperPart, lowerPart}
-use Rattle.entries.proofs.Places.{upper-lies, lower-lies}
-use Rattle.marks.specs.Marks.{Marked, Marking, upperEnd, Shaped, Led, Sites, ReachMarked}
+use Rattle.strips.specs.Strips.{instanceOn, Framed, Stands}
+use Rattle.rows.specs.Rows.{rowOf, levelSize, upperPart, lowerPart, upperEnd}
+use Rattle.rows.proofs.Places.{upper-lies, lower-lies}
+use Rattle.marks.specs.Marks.{Shaped, Led, Sites, ReachMarked}
+use Rattle.parts.specs.Parts.{Marked, Marking}
 use Rattle.marks.proofs.Asked.{asked-out, asked-in}
 use Rattle.marks.proofs.Points.{point-at}
 

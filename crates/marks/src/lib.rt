@@ -1,72 +1,22 @@
 // Marks, in the first word of its row, each strip that the whole sheet leads to, level by level from the first down.
 ghost use mathlib.Core.Path.{_≡_};
 ghost use mathlib.Core.Bool.{true};
-ghost use Prim.Native.Nat.{ℕ, _+_, _-_, _*_, _<_, _≤_};
+ghost use Prim.Native.Nat.{ℕ, _+_, _*_, _<_, _≤_};
 ghost use lib.ListN.{length, getD};
 ghost use Rattle.optimum.specs.Strips as model;
 ghost use Rattle.optimum.specs.Reached.{Asks, noPoint};
 ghost use Rattle.arrays.specs.Arrays.{pointsBy};
-ghost use Rattle.strips.specs.Strips.{instanceOn, stripOf, pointOf};
-ghost use Rattle.entries.specs.Rows.{rowsOf, levelSize, Framed, Lies, Stands};
-ghost use Rattle.marks.specs.Marks.{Marked, Marking, endPlace, upperEnd, Shaped, Room, Ready, Led, PartsMarked, Sites, ReachMarked};
+ghost use Rattle.strips.specs.Strips.{instanceOn, Framed, Stands};
+ghost use Rattle.rows.specs.Rows.{stripOf, pointOf, rowsOf, levelSize, Lies, endPlace};
+ghost use Rattle.marks.specs.Marks.{Shaped, Ready, Led, Sites, ReachMarked};
+ghost use Rattle.parts.specs.Parts.{Marked, Marking, Room, PartsMarked};
 use arrays::Measures;
-use strips::Site;
-use strips::Strip;
+use rows::End;
+use rows::Site;
+use rows::Strip;
 use strips::Window;
 use words::NONE;
 use words::less;
-
-// An end of a strip: an edge or a label, by its slot (0 the top edge, k + 1 slot k, m + 1 the bottom edge) and its colour (0 none, c + 1 colour c).
-pub struct End {
-    pub slot: u32,
-    pub colour: u32,
-}
-
-// The end that comes next: of the same slot, or the first of the next.
-pub fn next_end(colours: u32, e: End) -> End
-    requires { ⌜ (colours ≤ 8) × (e .slot ≤ 64) × (e .colour ≤ colours) ⌝ }
-    ensures { λ r. ⌜ (r .colour ≤ colours) × (endPlace colours (r .slot) (r .colour) ≡ endPlace colours (e .slot) (e .colour) + 1) ⌝ }
-{
-    if e.colour < colours {
-        return End {
-            slot: e.slot,
-            colour: e.colour + 1,
-        };
-    }
-    End {
-        slot: e.slot + 1,
-        colour: 0,
-    }
-}
-
-// The strip below the same upper end whose lower end comes next.
-pub fn next_below(colours: u32, p: Strip) -> Strip
-    requires { ⌜ (colours ≤ 8) × (p .b ≤ 64) × (p .cb ≤ colours) ⌝ }
-    ensures { λ r. ⌜ (r .a ≡ p .a) × (r .ca ≡ p .ca) × (r .cb ≤ colours) × (endPlace colours (r .b) (r .cb) ≡ endPlace colours (p .b) (p .cb) + 1) ⌝ }
-{
-    let e = next_end(
-        colours,
-        End {
-            slot: p.b,
-            colour: p.cb,
-        },
-    );
-    Strip {
-        a: p.a,
-        ca: p.ca,
-        b: e.slot,
-        cb: e.colour,
-    }
-}
-
-pub fn is_upper_end(e: End) -> bool
-    ensures { λ r. ⌜ r ≡ upperEnd (e .slot) (e .colour) ⌝ }
-{
-    if e.slot == 0 {
-        return e.colour == 0;
-    }
-    0 < e.colour
-}
 
 // Marks a strip, if it is to be.
 fn mark_own(work: &mut [u32], q: Measures, m: usize, p: Strip, low: usize, stays: bool)
@@ -77,31 +27,8 @@ fn mark_own(work: &mut [u32], q: Measures, m: usize, p: Strip, low: usize, stays
     if !stays {
         return;
     }
-    let at = low + entries::row_place(q, m, p);
+    let at = low + rows::row_place(q, m, p);
     work[at] = 1;
-}
-
-// Marks the two parts that a label at slot k leaves of a strip.
-fn mark_parts(work: &mut [u32], q: Measures, m: usize, p: Strip, s: Site, low: usize, k: u32)
-    requires { ⌜ Room q m low (length (now work)) × Lies m (q .colours) (stripOf p) ⌝ }
-    requires { ⌜ (s .c < q .colours) × (k + 1 < p .b) ⌝ }
-    ensures { λ _. ⌜ Marking (now (work .entry)) (now (work .exit)) low (rowsOf m (q .colours) * q .budgets) ⌝ }
-    ensures { λ _. ⌜ PartsMarked q (now (work .exit)) low m (stripOf p) (pointOf s) k ⌝ }
-{
-    let upper = Strip {
-        a: p.a,
-        ca: p.ca,
-        b: k + 1,
-        cb: s.c + 1,
-    };
-    let lower = Strip {
-        a: k + 1,
-        ca: s.c + 1,
-        b: p.b,
-        cb: p.cb,
-    };
-    mark_own(work, q, m, upper, low, true);
-    mark_own(work, q, m, lower, low, true);
 }
 
 // Marks the parts that a label leaves of a strip, at each slot of a window.
@@ -121,7 +48,7 @@ fn mark_window(
 {
     let mut k = window.from;
     while k < window.to {
-        mark_parts(work, q, m, p, s, low, k);
+        parts::mark_parts(work, q, m, p, s, low, k);
         k += 1;
     }
 }
@@ -146,7 +73,7 @@ fn mark_row(
         mark_own(work, q, m, p, low, true);
         return;
     }
-    let joins = less(entries::join_least(q, heights, bounds, p, s), NONE);
+    let joins = less(strips::join_least(q, heights, bounds, p, s), NONE);
     mark_own(work, q, m, p, low, joins);
     if strips::site_opens(q, heights, bounds, p, s) {
         mark_window(
@@ -208,11 +135,11 @@ fn follow_below(
         b: above.slot + 1,
         cb: 0,
     };
-    let mut at = base + entries::row_place(q, heights.len(), p);
+    let mut at = base + rows::row_place(q, heights.len(), p);
     while p.b < ends {
         follow(work, q, heights, bounds, p, s, at, low);
         at += n;
-        p = next_below(q.colours, p);
+        p = rows::next_below(q.colours, p);
     }
 }
 
@@ -232,7 +159,7 @@ fn follow_end(
     ensures { λ _. ⌜ Marking (now (work .entry)) (now (work .exit)) low (levelSize q (now (heights .entry))) ⌝ }
     ensures { λ _. ⌜ ((p : model.Strip) → Shaped (length (now (heights .entry))) (q .colours) p → endPlace (q .colours) (p .a) (p .ca) ≡ endPlace (q .colours) (above .slot) (above .colour) → Led (instanceOn q (now (heights .entry)) (now (bounds .entry))) q (now (work .entry)) (now (work .exit)) base low (pointOf s) p) ⌝ }
 {
-    if is_upper_end(above) {
+    if rows::is_upper_end(above) {
         follow_below(work, q, heights, bounds, above, s, base, low);
     }
 }
@@ -255,7 +182,7 @@ fn follow_level(
     let mut above = End { slot: 0, colour: 0 };
     while above.slot < ends {
         follow_end(work, q, heights, bounds, above, s, base, low);
-        above = next_end(q.colours, above);
+        above = rows::next_end(q.colours, above);
     }
 }
 

@@ -3,6 +3,7 @@ use mathlib.Core.Path.{_≡_, refl, sym, ap, ap₂, _∙_}
 use mathlib.Core.Bool.{false, cond}
 use mathlib.Core.List.{List, [], _∷_, _++_}
 use Prim.Native.Nat.{ℕ, zero, suc, _+_, _-_, _*_, _≤_, _<_}
+use native.Mathlib.Nat.{mul-le-mul}
 use native.Mathlib.Omega.{arith}
 use lib.Dec.{eqb}
 use lib.ListN.{length, getD, take, drop, replicate}
@@ -24,7 +25,8 @@ use Rattle.arrays.specs.Arrays.{measuresOf, boundsOf, drawsList, xsOf, ysOf, co
 use Rattle.arrays.proofs.Instances.{ys-at, colours-at}
 use Rattle.arrays.proofs.Fields.{bounds-long}
 use Rattle.arrays.proofs.Ordered.{gathered-long, radix-pos}
-use Rattle.entries.specs.Rows.{levelSize}
+use Rattle.rest.proofs.Rows.{size}
+use Rattle.rows.specs.Rows.{levelSize}
 use Rattle.table.specs.Rows.{Given}
 use Rattle.budgets.specs.Budgets.{Splits}
 use Rattle.optimum.specs.Reached.{TableOf}
@@ -176,3 +178,20 @@ pub wiped-same : (q : Measures) (hs bs rs ds xs ys cs old new : List ℕ) (area 
 wiped-same q hs bs rs ds xs ys cs old new area g e =
     let n : length (pointsBy xs ys cs) ≡ length xs = points-long xs ys cs (length xs) refl (g .sites .ysLong) (g .sites .csLong) in
     rw n (ap (λ (l : List ℕ). replicate ((length xs + 1) * levelSize q hs) 0 ++ l) e)
+
+-- the words of all levels, of s words each, are what is wiped
+pub record Wipes (q : Measures) (hs bs rs ds xs ys cs os : List ℕ) (area s : ℕ) : Type 0 where
+  pub small : (length os + 1) * s ≤ 427680000
+  pub fits : (length os + 1) * s ≤ area
+  pub wipes : (work : List ℕ) → replicate ((length os + 1) * s) 0 ++ drop ((length os + 1) * s) work ≡ wiped (instanceBy q hs bs rs ds) q (pointsBy xs ys cs) work
+
+pub wipes-is : (q : Measures) (hs bs rs ds xs ys cs os out : List ℕ) (area s : ℕ) → Given q hs bs rs ds xs ys cs area → Ranked q xs os out → s ≡ levelSize q hs → Wipes q hs bs rs ds xs ys cs os area s
+wipes-is q hs bs rs ds xs ys cs os out area s g r e =
+    let few : length os + 1 ≤ 33 = omega (arith, r .long, g .sites .sitesFew) in
+    let within : (length os + 1) * levelSize q hs ≤ area = omega (arith, g .within, ap (λ (n : ℕ). (n + 1) * levelSize q hs) (r .long)) in
+    let long : length (pointsBy xs ys cs) ≡ length os = points-long xs ys cs (length os) (sym (r .long)) (g .sites .ysLong ∙ sym (r .long)) (g .sites .csLong ∙ sym (r .long)) in
+    record {
+      small = rw e (mul-le-mul {n₂ = 33} {m₂ = 12960000} few (size (length hs) (q .colours) (q .budgets) (g .framed .slotsFew) (g .framed .coloursFew) (g .framed .budgetsFew) .fourth));
+      fits = rw e within;
+      wipes = λ work. rw (e, long) refl;
+    }

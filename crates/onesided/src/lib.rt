@@ -9,7 +9,7 @@ ghost use Rattle.labelling.specs.Promise.{takesSheet};
 ghost use Rattle.table.specs.Rows.{Given};
 ghost use Rattle.answer.specs.Laid.{laidFault, laidOut, wiped};
 ghost use Rattle.onesided.specs.Ranked.{Ranked};
-use answer::finish;
+use areas::clear;
 use arrays::Measures;
 use arrays::bounds_of;
 use arrays::colours_of;
@@ -48,7 +48,7 @@ fn lay_ranked(
     budgets::list_splits(radices, q.budgets as usize, &mut parts, &mut counts);
     let mut labels = [0u32; 48];
     let m = heights.len();
-    finish(
+    let fault = answer::lay_least(
         &parts,
         &counts,
         q,
@@ -63,7 +63,10 @@ fn lay_ranked(
         &mut labels[..m],
         work,
         out,
-    )
+    );
+    let size = rest::level_size(q, m);
+    clear(work, (order.len() + 1) * size);
+    fault
 }
 
 // What the layout maker does with an accepted one-sided sheet of these sizes, its areas long enough.

@@ -1,137 +1,70 @@
-// The rules of a lawful layout, each as its sentence says. A layout here is the slot of each site.
-use small_sheet::numbers::apart;
-use small_sheet::numbers::at;
-use small_sheet::numbers::lesser;
-use small_sheet::numbers::sum;
-use small_sheet::parts::bound;
-use small_sheet::parts::colours;
-use small_sheet::parts::gap;
-use small_sheet::parts::height;
-use small_sheet::parts::is_two_sided;
-use small_sheet::parts::site_colour;
-use small_sheet::parts::sites;
-use small_sheet::parts::slots;
-use small_sheet::parts::width;
-use small_sheet::parts::x;
-use small_sheet::parts::y;
+// The rules of a lawful layout, each as its sentence says. A layout here is a row: the slot of each site.
+use small_sheet::Sheet;
+use small_sheet::apart;
+use small_sheet::at;
+use small_sheet::joined;
+use small_sheet::lesser;
+use small_sheet::sum;
 
-// A slot is used if some site has it.
-pub fn is_used(sheet: &[u32], layout: &[u32], slot: u32) -> bool {
-    let n = sites(sheet);
-    let mut i: u32 = 0;
-    while i < n {
-        if at(layout, i) == slot {
-            return true;
-        }
-        i += 1;
-    }
-    false
-}
+// Right of every site: the left end of a slot that no site has.
+const NOWHERE: u32 = 256;
 
-// The left end: 0, or the least x among the slot's sites.
-fn left_end(sheet: &[u32], layout: &[u32], slot: u32) -> u32 {
-    if is_two_sided(sheet) {
+// Where a label's backbone may begin, for each site: at 0, or at the site's x.
+fn starts(sheet: Sheet) -> u64 {
+    if 2 <= sheet.flags {
         return 0;
     }
-    let n = sites(sheet);
-    let mut end = width(sheet);
+    sheet.xs
+}
+
+// The left end of a slot's backbone: the least start among the slot's sites.
+fn left_end(sheet: Sheet, layout: u64, slot: u32) -> u32 {
+    let places = starts(sheet);
+    let n = sheet.sites;
+    let mut end = NOWHERE;
     let mut i: u32 = 0;
     while i < n {
         if at(layout, i) == slot {
-            end = lesser(end, x(sheet, i));
+            end = lesser(end, at(places, i));
         }
         i += 1;
     }
     end
 }
 
-// Rule 1 for one site and all others.
-fn shares_colour(sheet: &[u32], layout: &[u32], site: u32) -> bool {
-    let n = sites(sheet);
+// The set of slots that a colour uses.
+fn slots_of(sheet: Sheet, layout: u64, colour: u32) -> u32 {
+    let n = sheet.sites;
+    let mut set: u32 = 0;
     let mut i: u32 = 0;
     while i < n {
-        if at(layout, i) == at(layout, site) {
-            if site_colour(sheet, i) != site_colour(sheet, site) {
-                return false;
-            }
+        if at(sheet.site_colours, i) == colour {
+            set = joined(set, at(layout, i));
         }
         i += 1;
     }
-    true
+    set
 }
 
-// Does a site of this colour have this slot?
-fn has_slot(sheet: &[u32], layout: &[u32], colour: u32, slot: u32) -> bool {
-    let n = sites(sheet);
-    let mut i: u32 = 0;
-    while i < n {
-        if site_colour(sheet, i) == colour {
-            if at(layout, i) == slot {
-                return true;
-            }
-        }
-        i += 1;
-    }
-    false
+pub fn labels_of(sheet: Sheet, layout: u64, colour: u32) -> u32 {
+    u32::count_ones(slots_of(sheet, layout, colour))
 }
 
-// How many slots a colour uses.
-pub fn labels_of(sheet: &[u32], layout: &[u32], colour: u32) -> u32 {
-    let m = slots(sheet);
-    let mut labels: u32 = 0;
-    let mut k: u32 = 0;
-    while k < m {
-        if has_slot(sheet, layout, colour, k) {
-            labels = sum(labels, 1);
-        }
-        k += 1;
-    }
-    labels
-}
-
-// Rule 2.
-fn keeps_bounds(sheet: &[u32], layout: &[u32]) -> bool {
-    let n = colours(sheet);
+// Rule 1: no slot has sites of two colours. Rule 2: no colour has more labels than its bound; 255, for no bound, is more than there are.
+fn keeps_colours(sheet: Sheet, layout: u64) -> bool {
+    let n = sheet.colours;
+    let mut used: u32 = 0;
     let mut c: u32 = 0;
     while c < n {
-        let most = bound(sheet, c);
-        if most != 255 {
-            if most < labels_of(sheet, layout, c) {
-                return false;
-            }
+        let own = slots_of(sheet, layout, c);
+        if used & own != 0 {
+            return false;
         }
+        if at(sheet.bounds, c) < u32::count_ones(own) {
+            return false;
+        }
+        used = used | own;
         c += 1;
-    }
-    true
-}
-
-// Rule 3 for one used slot and all others.
-fn keeps_gap(sheet: &[u32], layout: &[u32], slot: u32) -> bool {
-    let m = slots(sheet);
-    let mut k: u32 = 0;
-    while k < m {
-        if k != slot {
-            if is_used(sheet, layout, k) {
-                if apart(height(sheet, k), height(sheet, slot)) < gap(sheet) {
-                    return false;
-                }
-            }
-        }
-        k += 1;
-    }
-    true
-}
-
-fn keeps_gaps(sheet: &[u32], layout: &[u32]) -> bool {
-    let m = slots(sheet);
-    let mut k: u32 = 0;
-    while k < m {
-        if is_used(sheet, layout, k) {
-            if !keeps_gap(sheet, layout, k) {
-                return false;
-            }
-        }
-        k += 1;
     }
     true
 }
@@ -149,44 +82,47 @@ fn is_between(a: u32, b: u32, h: u32) -> bool {
     h <= a
 }
 
-// Rules 4 and 5 for a site and the backbone of another label. A backbone reaches from its left end to the width, and no site lies right of that.
-fn is_clear(sheet: &[u32], layout: &[u32], site: u32, slot: u32) -> bool {
-    if x(sheet, site) < left_end(sheet, layout, slot) {
-        return true;
-    }
-    let h = height(sheet, slot);
-    let row = y(sheet, site);
-    if is_between(row, height(sheet, at(layout, site)), h) {
+// Rule 3 for a site's label and another one at height h; rules 4 and 5 for the site and the other's backbone.
+// A backbone reaches from its left end to the width, and no site lies right of that.
+fn is_clear(sheet: Sheet, site: u32, own: u32, h: u32, end: u32) -> bool {
+    if apart(own, h) < sheet.gap {
         return false;
     }
-    gap(sheet) <= apart(h, row)
-}
-
-fn is_clear_of_all(sheet: &[u32], layout: &[u32], site: u32) -> bool {
-    let m = slots(sheet);
-    let mut k: u32 = 0;
-    while k < m {
-        if k != at(layout, site) {
-            if is_used(sheet, layout, k) {
-                if !is_clear(sheet, layout, site, k) {
-                    return false;
-                }
-            }
-        }
-        k += 1;
+    if at(sheet.xs, site) < end {
+        return true;
     }
-    true
+    let y = at(sheet.ys, site);
+    if is_between(y, own, h) {
+        return false;
+    }
+    sheet.gap <= apart(h, y)
 }
 
-// Rules 1, 4 and 5 for each site.
-fn keeps_sites(sheet: &[u32], layout: &[u32]) -> bool {
-    let n = sites(sheet);
+// The same for a site and any slot: its own, one that is not used, or another label's.
+fn is_clear_of(sheet: Sheet, layout: u64, site: u32, slot: u32) -> bool {
+    let own = at(layout, site);
+    if own == slot {
+        return true;
+    }
+    let end = left_end(sheet, layout, slot);
+    if end == NOWHERE {
+        return true;
+    }
+    is_clear(
+        sheet,
+        site,
+        at(sheet.heights, own),
+        at(sheet.heights, slot),
+        end,
+    )
+}
+
+// Rules 3 to 5: each site and each slot.
+fn keeps_distances(sheet: Sheet, layout: u64) -> bool {
+    let n = sheet.sites % 8 * 8;
     let mut i: u32 = 0;
     while i < n {
-        if !shares_colour(sheet, layout, i) {
-            return false;
-        }
-        if !is_clear_of_all(sheet, layout, i) {
+        if !is_clear_of(sheet, layout, i / 8, i % 8) {
             return false;
         }
         i += 1;
@@ -195,52 +131,37 @@ fn keeps_sites(sheet: &[u32], layout: &[u32]) -> bool {
 }
 
 // Rules 1 to 5.
-pub fn is_lawful(sheet: &[u32], layout: &[u32]) -> bool {
-    if !keeps_sites(sheet, layout) {
+pub fn is_lawful(sheet: Sheet, layout: u64) -> bool {
+    if !keeps_colours(sheet, layout) {
         return false;
     }
-    if !keeps_bounds(sheet, layout) {
-        return false;
-    }
-    keeps_gaps(sheet, layout)
+    keeps_distances(sheet, layout)
 }
 
-// Rule 6: the number of used slots.
-pub fn label_count(sheet: &[u32], layout: &[u32]) -> u32 {
-    let m = slots(sheet);
-    let mut count: u32 = 0;
-    let mut k: u32 = 0;
-    while k < m {
-        if is_used(sheet, layout, k) {
-            count = sum(count, 1);
-        }
-        k += 1;
+// A label counts 65536, its backbone its length; a slot that is not used counts nothing.
+fn label_size(sheet: Sheet, layout: u64, slot: u32) -> u32 {
+    let end = left_end(sheet, layout, slot);
+    if end == NOWHERE {
+        return 0;
     }
-    count
+    sum(65536, apart(sheet.width, end))
 }
 
-fn backbones_length(sheet: &[u32], layout: &[u32]) -> u32 {
-    let m = slots(sheet);
-    let mut length: u32 = 0;
-    let mut k: u32 = 0;
-    while k < m {
-        if is_used(sheet, layout, k) {
-            length = sum(length, apart(width(sheet), left_end(sheet, layout, k)));
-        }
-        k += 1;
+fn drop_size(sheet: Sheet, layout: u64, site: u32) -> u32 {
+    if sheet.sites <= site {
+        return 0;
     }
-    length
+    apart(at(sheet.heights, at(layout, site)), at(sheet.ys, site))
 }
 
-// The backbones' lengths and the drops.
-pub fn layout_length(sheet: &[u32], layout: &[u32]) -> u32 {
-    let n = sites(sheet);
-    let mut length = backbones_length(sheet, layout);
+// Rule 6: the number of labels times 65536, and the length of backbones and drops.
+pub fn layout_size(sheet: Sheet, layout: u64) -> u32 {
+    let mut size: u32 = 0;
     let mut i: u32 = 0;
-    while i < n {
-        let h = height(sheet, at(layout, i));
-        length = sum(length, apart(h, y(sheet, i)));
+    while i < 8 {
+        size = sum(size, label_size(sheet, layout, i));
+        size = sum(size, drop_size(sheet, layout, i));
         i += 1;
     }
-    length
+    size
 }

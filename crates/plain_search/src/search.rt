@@ -1,156 +1,113 @@
 // The best lawful layout of a sheet: all layouts are tried, in the order in which equals come.
 use crate::rules::is_lawful;
-use crate::rules::label_count;
-use crate::rules::layout_length;
-use small_sheet::numbers::at;
-use small_sheet::numbers::last_of;
-use small_sheet::numbers::put;
-use small_sheet::numbers::sum;
-use small_sheet::parts::is_shortest;
-use small_sheet::parts::sites;
-use small_sheet::parts::slots;
-use small_sheet::parts::x;
+use crate::rules::layout_size;
+use small_sheet::Sheet;
+use small_sheet::at;
+use small_sheet::product;
+use small_sheet::remainder;
+use small_sheet::sum;
+use small_sheet::with;
+
+// More than any layout's size.
+pub const NONE: u32 = 16777215;
 
 pub struct Found {
-    pub some: bool,
-    pub labels: u32,
-    pub length: u32,
+    // of the best layout: its labels times 65536, and its length
+    pub size: u32,
     // layouts tried so far with the same count and length as the best
     pub equals: u32,
+    pub layout: u64,
 }
 
-// How many sites lie left of this one.
-fn rank_of(sheet: &[u32], site: u32) -> u32 {
-    let n = sites(sheet);
-    let mut rank: u32 = 0;
+// In how many ways the sites from a column on can have slots: one if there is none.
+fn ways(sheet: Sheet, from: u32) -> u32 {
+    let n = sheet.sites;
+    let mut count: u32 = 1;
     let mut i: u32 = 0;
     while i < n {
-        if x(sheet, i) < x(sheet, site) {
-            rank = sum(rank, 1);
+        if from <= at(sheet.xs, i) {
+            count = product(count, sheet.slots);
         }
         i += 1;
     }
-    rank
+    count
 }
 
-// The site with a rank.
-fn site_at(sheet: &[u32], rank: u32) -> u32 {
-    let n = sites(sheet);
+fn quotient(a: u32, n: u32) -> u32 {
+    if n == 0 {
+        return 0;
+    }
+    a / n
+}
+
+// A site's slot in a layout, by the layout's number: the rightmost site's slot counts up first.
+fn slot_in(sheet: Sheet, number: u32, site: u32) -> u32 {
+    let right = ways(sheet, sum(at(sheet.xs, site), 1));
+    remainder(quotient(number, right), sheet.slots)
+}
+
+fn layout_at(sheet: Sheet, number: u32) -> u64 {
+    let n = sheet.sites;
+    let mut layout: u64 = 0;
     let mut i: u32 = 0;
     while i < n {
-        if rank_of(sheet, i) == rank {
-            return i;
-        }
+        layout = with(layout, i, slot_in(sheet, number, i));
         i += 1;
     }
-    0
+    layout
 }
 
-// The next layout: the rightmost site's slot counts up first. False after the last.
-fn next_layout(sheet: &[u32], layout: &mut [u32]) -> bool {
-    let m = slots(sheet);
-    let mut left = sites(sheet);
-    while 0 < left {
-        left -= 1;
-        let site = site_at(sheet, left);
-        let slot = sum(at(layout, site), 1);
-        if slot < m {
-            put(layout, site, slot);
-            return true;
-        }
-        put(layout, site, 0);
+// A size in the order of the aim: the number of labels first, or the length.
+fn in_order(sheet: Sheet, size: u32) -> u32 {
+    if sheet.flags % 2 == 1 {
+        return size % 65536 * 256 + size / 65536 % 256;
     }
-    false
-}
-
-fn is_less(a: u32, b: u32, c: u32, d: u32) -> bool {
-    if a == c {
-        return b < d;
-    }
-    a < c
-}
-
-fn is_better(sheet: &[u32], labels: u32, length: u32, best: Found) -> bool {
-    if !best.some {
-        return true;
-    }
-    if is_shortest(sheet) {
-        return is_less(length, labels, best.length, best.labels);
-    }
-    is_less(labels, length, best.labels, best.length)
-}
-
-fn is_equal(labels: u32, length: u32, best: Found) -> bool {
-    if labels != best.labels {
-        return false;
-    }
-    length == best.length
-}
-
-fn copy(from: &[u32], to: &mut [u32]) {
-    let mut i: u32 = 0;
-    while i < 8 {
-        put(to, i, at(from, i));
-        i += 1;
-    }
+    size
 }
 
 // The best so far, after one more layout.
-fn after(sheet: &[u32], layout: &[u32], best: Found, answer: &mut [u32]) -> Found {
+fn after(sheet: Sheet, layout: u64, best: Found) -> Found {
     if !is_lawful(sheet, layout) {
         return best;
     }
-    let labels = label_count(sheet, layout);
-    let length = layout_length(sheet, layout);
-    if is_better(sheet, labels, length, best) {
-        copy(layout, answer);
+    let size = layout_size(sheet, layout);
+    if in_order(sheet, size) < in_order(sheet, best.size) {
         return Found {
-            some: true,
-            labels: labels,
-            length: length,
+            size: size,
             equals: 1,
+            layout: layout,
         };
     }
-    if is_equal(labels, length, best) {
+    if size == best.size {
         return Found {
-            some: true,
-            labels: labels,
-            length: length,
+            size: size,
             equals: sum(best.equals, 1),
+            layout: best.layout,
         };
     }
     best
 }
 
 // With no site there is one layout, and with no slot and some site there is none.
-pub fn search(sheet: &[u32], answer: &mut [u32]) -> Found {
+pub fn search(sheet: Sheet) -> Found {
+    let n = ways(sheet, 0);
     let mut best = Found {
-        some: false,
-        labels: 0,
-        length: 0,
+        size: NONE,
         equals: 0,
+        layout: 0,
     };
-    let mut layout = [0u32; 8];
-    if slots(sheet) == 0 {
-        if 0 < sites(sheet) {
-            return best;
-        }
-    }
-    let mut tried: u32 = 0;
-    while tried < 4096 {
-        best = after(sheet, &layout, best, answer);
-        if !next_layout(sheet, &mut layout) {
-            return best;
-        }
-        tried += 1;
+    let mut i: u32 = 0;
+    while i < n {
+        best = after(sheet, layout_at(sheet, i), best);
+        i += 1;
     }
     best
 }
 
 // The answer's words: count and length, then a word for each site.
-pub fn answer_word(layout: &[u32], best: Found, i: u32) -> u32 {
+pub fn answer_word(best: Found, i: u32) -> u32 {
     if i == 0 {
-        return 2147483648 + best.labels % 128 * 2097152 + best.length % 2097152;
+        return 2147483648 + best.size / 65536 % 128 * 2097152 + best.size % 65536;
     }
-    2415919104 + at(layout, i - 1) % 256
+    2415919104 + at(best.layout, i - 1) % 256
 }

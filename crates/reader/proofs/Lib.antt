@@ -1,4 +1,3 @@
 mod Filled
-mod Bounds
 mod Fits
 pub mod Reading

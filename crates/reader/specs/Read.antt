@@ -1,7 +1,7 @@
 -- What the reader gives: document 01, "Reader". Assumes nothing: these are definitions.
-use mathlib.Core.Bool.{Bool, cond}
+use mathlib.Core.Bool.{cond}
 use mathlib.Core.List.{List, [], _∷_, _++_}
-use Prim.Native.Nat.{ℕ, _+_, _*_, _-_, _^_}
+use Prim.Native.Nat.{ℕ, _-_}
 use lib.Dec.{eqb}
 use lib.ListN.{length, replicate}
 use Rattle.sheet.specs.Sheet.{Colour, productOf, Sheet, sheetIn, sheetFault, workFor}
@@ -41,7 +41,3 @@ refusedOf f = record { refusal = f; n = 0; m = 0; c = 0; p = 0; work = 0; colour
 -- the reader's answer for every list of words
 abbrev pub readPost : (words : List ℕ) → Sizes
 readPost ws = cond (eqb (sheetFault ws) 0) (readOf (sheetIn ws)) (refusedOf (sheetFault ws))
-
--- the work words by side, m, C, n and P: `workFor` of the sheet that has them
-abbrev pub workOf : (isTwoSided : Bool) → (m c n p : ℕ) → ℕ
-workOf t m c n p = cond t ((m + 2) * (c + 1) * p) ((m + 2) ^ 2 * (c + 1) ^ 2 * (n + 1) * p)

@@ -4,22 +4,17 @@ ghost use Prim.Native.Nat.{ℕ, _<_, _≤_};
 ghost use lib.ListN.{length, drop};
 ghost use Rattle.sheet.specs.Sheet.{coloursIn, sitesRun, sheetIn, sheetFault};
 ghost use Rattle.sheet.specs.Words.{countKind};
-ghost use Rattle.reader.specs.Read.{absent, eightOf, workOf, readOf, refusedOf, readPost};
-use refusals::all_inside;
+ghost use Rattle.reader.specs.Read.{absent, eightOf, readOf, refusedOf, readPost};
+use counts::count_kind;
+use faults::sheet_fault;
+use products::product;
 use refusals::body_of;
-use refusals::count_kind;
-use refusals::counts_fit;
-use refusals::in_order;
-use refusals::product;
-use refusals::ranks_differ;
-use refusals::rises;
-use words::byte_field;
+use sizes::bound_of;
+use sizes::work_for;
 use words::get;
 use words::kind_of;
-use words::low_field;
 use words::same;
 use words::side_bit;
-use wordwise::is_head;
 
 #[repr(C)]
 pub struct ColourSize {
@@ -36,35 +31,6 @@ pub struct Sizes {
     pub p: u8,
     pub work: u32,
     pub colours: [ColourSize; 8],
-}
-
-// The number of the first refusal that applies, 0 if none does.
-pub fn sheet_fault(sheet: &[u32]) -> u32
-    ensures { λ r. ⌜ r ≡ sheetFault (now (sheet .entry)) ⌝ }
-{
-    let body = body_of(sheet);
-    if !is_head(sheet) {
-        return 1;
-    }
-    if !in_order(body) {
-        return 2;
-    }
-    if !counts_fit(body) {
-        return 3;
-    }
-    if !rises(body) {
-        return 4;
-    }
-    if !all_inside(body, low_field(get(sheet, 0))) {
-        return 5;
-    }
-    if !ranks_differ(body) {
-        return 6;
-    }
-    if 64 < product(body) {
-        return 7;
-    }
-    0
 }
 
 // How many sites follow at once.
@@ -100,7 +66,7 @@ fn colour_sizes(body: &[u32]) -> [ColourSize; 8]
         let w = body[i];
         if kind_of(w) == 3 {
             let sites = sites_run(body, i + 1) as u8;
-            let bound = (w % 256) as u8;
+            let bound = bound_of(w);
             colours[c] = ColourSize {
                 bound: bound,
                 sites: sites,
@@ -110,18 +76,6 @@ fn colour_sizes(body: &[u32]) -> [ColourSize; 8]
         i += 1;
     }
     colours
-}
-
-fn work_for(two: bool, m: u32, c: u32, n: u32, p: u32) -> u32
-    requires { ⌜ (m ≤ 48) × (c ≤ 8) × (n ≤ 32) × (p ≤ 64) ⌝ }
-    ensures { λ r. ⌜ r ≡ workOf two m c n p ⌝ }
-{
-    let strips = (m + 2) * (c + 1);
-    if two {
-        return strips * p;
-    }
-    let levels = strips * strips * (n + 1);
-    levels * p
 }
 
 fn refused(number: u32) -> Sizes

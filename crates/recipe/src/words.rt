@@ -1,68 +1,60 @@
 // A small sheet as words.
-use small_sheet::numbers::put;
-use small_sheet::numbers::sum;
-use small_sheet::parts::aim;
-use small_sheet::parts::bound;
-use small_sheet::parts::colours;
-use small_sheet::parts::gap;
-use small_sheet::parts::height;
-use small_sheet::parts::side;
-use small_sheet::parts::site_colour;
-use small_sheet::parts::sites;
-use small_sheet::parts::slots;
-use small_sheet::parts::width;
-use small_sheet::parts::x;
-use small_sheet::parts::y;
+use small_sheet::Sheet;
+use small_sheet::apart;
+use small_sheet::at;
+use small_sheet::sum;
 
-fn head_word(sheet: &[u32]) -> u32 {
-    let flags = side(sheet) % 2 * 2 + aim(sheet) % 2;
-    268435456 + flags * 67108864 + gap(sheet) % 4096 * 16384 + width(sheet) % 16384
+// How many words there are.
+pub fn word_count(sheet: Sheet) -> u32 {
+    sum(sum(sheet.slots, 1), sum(sheet.colours, sheet.sites))
 }
 
-fn put_slots(sheet: &[u32], words: &mut [u32]) {
-    let m = slots(sheet);
-    let mut k: u32 = 0;
-    while k < m {
-        put(words, sum(k, 1), 536870912 + height(sheet, k) % 16384);
-        k += 1;
+fn head_word(sheet: Sheet) -> u32 {
+    268435456 + sheet.flags % 4 * 67108864 + sheet.gap % 4096 * 16384 + sheet.width % 16384
+}
+
+fn site_word(sheet: Sheet, site: u32) -> u32 {
+    1073741824 + at(sheet.xs, site) % 16384 * 16384 + at(sheet.ys, site) % 16384
+}
+
+// Does a site of one of the first colours stand here?
+fn is_site(sheet: Sheet, site: u32, colours: u32) -> bool {
+    if sheet.sites <= site {
+        return false;
     }
+    at(sheet.site_colours, site) < colours
 }
 
-// A site's word at a place, if it has the colour; the place past it.
-fn put_site(sheet: &[u32], words: &mut [u32], colour: u32, site: u32, at: u32) -> u32 {
-    if site_colour(sheet, site) != colour {
-        return at;
+// The word at a place with so many colours before it.
+fn word_at(sheet: Sheet, place: u32, colours: u32) -> u32 {
+    if place == 0 {
+        return head_word(sheet);
     }
-    put(
-        words,
-        at,
-        1073741824 + x(sheet, site) % 16384 * 16384 + y(sheet, site) % 16384,
-    );
-    sum(at, 1)
+    if place <= sheet.slots {
+        return 536870912 + at(sheet.heights, place - 1) % 16384;
+    }
+    let site = apart(place, sum(sum(sheet.slots, 1), colours));
+    if is_site(sheet, site, colours) {
+        return site_word(sheet, site);
+    }
+    805306368 + at(sheet.bounds, colours) % 256
 }
 
-fn put_sites(sheet: &[u32], words: &mut [u32], colour: u32, from: u32) -> u32 {
-    let n = sites(sheet);
-    let mut past = from;
-    let mut i: u32 = 0;
-    while i < n {
-        past = put_site(sheet, words, colour, i, past);
+fn colours_after(colours: u32, word: u32) -> u32 {
+    if word / 268435456 == 3 {
+        return sum(colours, 1);
+    }
+    colours
+}
+
+// The sheet's words from the front of an area.
+pub fn put_sheet(sheet: Sheet, words: &mut [u32]) {
+    let mut colours: u32 = 0;
+    let mut i: usize = 0;
+    while i < words.len() {
+        let word = word_at(sheet, (i % 256) as u32, colours);
+        words[i] = word;
+        colours = colours_after(colours, word);
         i += 1;
     }
-    past
-}
-
-// The sheet as words; how many there are.
-pub fn put_sheet(sheet: &[u32], words: &mut [u32]) -> u32 {
-    put(words, 0, head_word(sheet));
-    put_slots(sheet, words);
-    let n = colours(sheet);
-    let mut past = sum(slots(sheet), 1);
-    let mut c: u32 = 0;
-    while c < n {
-        put(words, past, 805306368 + bound(sheet, c) % 256);
-        past = put_sites(sheet, words, c, sum(past, 1));
-        c += 1;
-    }
-    past
 }

@@ -1,4 +1,3 @@
 mod Order
 mod Wordwise
 mod Steps
-pub mod Factors

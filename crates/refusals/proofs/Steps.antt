@@ -1,6 +1,6 @@
--- Refusals 4, 5 and 6: one step of each word-by-word test, at a place of a list. Assumes nothing.
+-- Refusals 4 and 5: one step of each word-by-word test, at a place of a list. Assumes nothing.
 use mathlib.Core.Path.{_≡_}
-use mathlib.Core.Bool.{_&&_, _||_}
+use mathlib.Core.Bool.{_&&_}
 use mathlib.Core.List.{List}
 use Prim.Native.Nat.{ℕ, _+_, _<_, _≤_}
 use native.Mathlib.Omega.{arith}
@@ -9,7 +9,7 @@ use lib.ListN.{length, getD, drop}
 use Rattle.lists.proofs.Places.{at}
 use Rattle.lists.proofs.Tests.{by-test}
 use Rattle.sheet.specs.Sheet.{kindOf}
-use Rattle.wordwise.specs.Wordwise.{lowOk, lowNext, risesFrom, widthOk, allInside, isRanked, someRanked, rankNew, allNew}
+use Rattle.wordwise.specs.Wordwise.{lowOk, lowNext, risesFrom, widthOk, allInside}
 
 -- the least height that may come stays a number that fits
 pub low-le : (l w : ℕ) → l ≤ 16384 → lowNext l w ≤ 16384
@@ -23,11 +23,3 @@ module _ (s : List ℕ) (i : ℕ) (h : i < length s) where
   pub inside-at : (x : ℕ) → allInside x (drop i s) ≡ (widthOk x (getD s i 0) && allInside x (drop (i + 1) s))
   unfolding allInside
   inside-at x = rw (at s i h)
-
-  pub some-at : (r : ℕ) → someRanked r (drop i s) ≡ (isRanked r (getD s i 0) || someRanked r (drop (i + 1) s))
-  unfolding someRanked
-  some-at r = rw (at s i h)
-
-  pub new-at : allNew (drop i s) ≡ (rankNew (getD s i 0) (drop (i + 1) s) && allNew (drop (i + 1) s))
-  unfolding allNew
-  new-at = rw (at s i h)

@@ -10,7 +10,8 @@ use Rattle.lists.proofs.Tests.{by-test, clash}
 use Rattle.sheet.specs.Sheet.{all, kindOf, bits, Site, siteIn, slotsIn, sitesIn, rising, insideBy, rankOf, hasRank, ranksDiffer}
 use Rattle.sheet.specs.Words.{rankIn}
 use Rattle.sheet.proofs.Counts.{colour-no-site}
-use Rattle.wordwise.specs.Wordwise.{risesFrom, allInside, someRanked, allNew}
+use Rattle.ranks.specs.Ranks.{someRanked, allNew}
+use Rattle.wordwise.specs.Wordwise.{risesFrom, allInside}
 
 -- rising: over heights first, with the least height that may come
 risesIn : (low : ℕ) → List ℕ → Bool

@@ -1,20 +1,17 @@
 -- Marks of the table's entries in a list, 0 for none, as the loops over rows set them and read them. Definitions.
 use mathlib.Core.Path.{_≡_}
-use mathlib.Core.Bool.{Bool, true, false, cond, _&&_}
+use mathlib.Core.Bool.{Bool, true, false}
 use mathlib.Core.List.{List}
 use mathlib.Core.Logic.{_⊎_}
 use Prim.Native.Nat.{ℕ, _+_, _-_, _%_, _<_, _≤_}
-use lib.Dec.{ltb, leb, eqb}
+use lib.Dec.{leb}
 use lib.ListN.{getD}
 use Rattle.search.specs.Cost.{plus}
 use Rattle.optimum.specs.CostWord.{topWord}
+pub use Rattle.onemark.specs.Mark.{markAfter}
 
 abbrev pub Marked : (marks : List ℕ) → (i : ℕ) → Type 0
 Marked p i = 0 < getD p i 0
-
--- the mark of an entry, set where that of another is and their costs agree
-abbrev pub markAfter : (old other cost sum : ℕ) → ℕ
-markAfter old other cost sum = cond (ltb 0 other && eqb cost sum) 1 old
 
 -- a row of so many marks, from `to` on, set from the row at `own`
 pub record Run (old new work : List ℕ) (own to count cost : ℕ) : Type 0 where

@@ -4,20 +4,11 @@ ghost use mathlib.Core.Bool.{false};
 ghost use Prim.Native.Nat.{ℕ, _+_, _<_, _≤_};
 ghost use lib.ListN.{length, getD};
 ghost use Rattle.links.specs.Rows.{Blocks};
-ghost use Rattle.rowmarks.specs.Marks.{markAfter, Run, Linked, Ended};
+ghost use Rattle.rowmarks.specs.Marks.{Run, Linked, Ended};
+use onemark::mark_after;
 use words::both;
 use words::either;
 use words::plus_of;
-
-// The mark of an entry, set where that of another is and their costs agree.
-fn mark_after(old: u8, other: u8, cost: u32, sum: u32) -> u8
-    ensures { λ r. ⌜ r ≡ markAfter old other cost sum ⌝ }
-{
-    if both(0 < other, cost == sum) {
-        return 1;
-    }
-    old
-}
 
 // A row of marks set from another.
 fn mark_run(marks: &mut [u8], work: &[u32], own: usize, to: usize, count: usize, cost: u32)

@@ -18,8 +18,8 @@ use Rattle.labelling.proofs.Counted.{all-before, before-all, taken-at, at-taken
 use Rattle.labelling.proofs.Pairs.{rule-four-pairs, rule-five-pairs}
 use Rattle.labelling.proofs.Members.{noTied, length-tied, tied-at}
 use Rattle.labelling.proofs.Rules.{least-min}
-use Rattle.pairs.specs.declared.TiedSite.{TiedSite}
-use Rattle.pairs.specs.declared.Head.{Head}
+use Rattle.tied.specs.declared.TiedSite.{TiedSite}
+use Rattle.tied.specs.declared.Head.{Head}
 use Rattle.pairs.specs.declared.Test.the-variants.{Colours, Gaps, Misses, Clears, First, FirstIn}
 use Rattle.pairs.specs.Pairs.{passes}
 use Rattle.rules.specs.Words.{oneIf, isColour, headOf, tiedIn, passesAll, pairsPass, passOne, passing, boundKept, boundsFrom, labelsIn, leastIn, leftIn, lengthAt, lengthIn}

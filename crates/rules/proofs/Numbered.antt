@@ -18,8 +18,8 @@ use Rattle.labelling.proofs.Counted.{all-is, tied-is, sum-front}
 use Rattle.labelling.proofs.Members.{all-at}
 use Rattle.labelling.proofs.Best.{below}
 use Rattle.labelling.proofs.Words.{formed, length-tiesIn, ties-low}
-use Rattle.pairs.specs.declared.TiedSite.{TiedSite}
-use Rattle.pairs.specs.declared.Head.{Head}
+use Rattle.tied.specs.declared.TiedSite.{TiedSite}
+use Rattle.tied.specs.declared.Head.{Head}
 use Rattle.pairs.specs.declared.Test.{Test}
 use Rattle.pairs.specs.Pairs.{passes}
 use Rattle.rules.specs.declared.Place.{Place}

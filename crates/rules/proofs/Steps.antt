@@ -11,9 +11,9 @@ use Rattle.lists.proofs.Places.{at}
 use Rattle.lists.proofs.Tests.{by-test}
 use Rattle.sheet.specs.Sheet.{all, kindOf, Sheet}
 use Rattle.labelling.proofs.Words.{share-le}
-use Rattle.pairs.specs.declared.Head.{Head}
+use Rattle.tied.specs.declared.Head.{Head}
 use Rattle.pairs.specs.declared.Test.the-variants.{First}
-use Rattle.pairs.specs.declared.TiedSite.{TiedSite}
+use Rattle.tied.specs.declared.TiedSite.{TiedSite}
 use Rattle.rules.specs.declared.Place.{Place}
 use Rattle.rules.specs.Words.{oneIf, isColour, isSite, slotsRun, begin, placeAfter, tiedAt, tiedFrom, sumOver, boundKept, boundsFrom, leastIn, leftIn, passesAll, lengthAt}
 

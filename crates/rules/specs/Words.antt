@@ -7,8 +7,8 @@ use lib.Dec.{eqb, leb}
 use lib.ListN.{getD, drop}
 use Rattle.sheet.specs.Sheet.{all, kindOf, bits, headIn, bodyOf, Sheet}
 use Rattle.labelling.specs.Layout.{siteShare}
-use Rattle.pairs.specs.declared.TiedSite.{TiedSite}
-use Rattle.pairs.specs.declared.Head.{Head}
+use Rattle.tied.specs.declared.TiedSite.{TiedSite}
+use Rattle.tied.specs.declared.Head.{Head}
 use Rattle.pairs.specs.declared.Test.{Test}
 use Rattle.pairs.specs.declared.Test.the-variants.{First, FirstIn}
 use Rattle.pairs.specs.Pairs.{passes}

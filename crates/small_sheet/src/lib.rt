@@ -1,3 +1,77 @@
-// A small sheet as numbers in one area: its parts stand at fixed places. Nothing here is shared with the layout maker or the judge.
-pub mod numbers;
-pub mod parts;
+// A small sheet as numbers by value. Nothing here is shared with the layout maker or the judge.
+// A row is eight numbers below 256 in one word: a number for each slot, each colour or each site.
+pub struct Sheet {
+    // the last number drawn, from which the next is
+    pub seed: u32,
+    // 2 if it is two-sided, and 1 more if the aim is the shortest
+    pub flags: u32,
+    pub gap: u32,
+    pub width: u32,
+    pub slots: u32,
+    pub colours: u32,
+    pub sites: u32,
+    pub heights: u64,
+    pub bounds: u64,
+    pub xs: u64,
+    pub ys: u64,
+    pub site_colours: u64,
+}
+
+// The number at a place of a row.
+pub fn at(row: u64, i: u32) -> u32 {
+    ((row >> ((i % 8 * 8) as u64)) % 256) as u32
+}
+
+// The row with another number at a place.
+pub fn with(row: u64, i: u32, value: u32) -> u64 {
+    row ^ ((at(row, i) as u64 ^ (value % 256) as u64) << ((i % 8 * 8) as u64))
+}
+
+// The numbers of a set have their bits.
+pub fn joined(set: u32, number: u32) -> u32 {
+    set | (1u32 << (number % 32))
+}
+
+pub fn has(set: u32, number: u32) -> bool {
+    (set >> (number % 32)) % 2 == 1
+}
+
+// Numbers here stay far below 2^24 and 2^16.
+pub fn sum(a: u32, b: u32) -> u32 {
+    a % 16777216 + b % 16777216
+}
+
+pub fn product(a: u32, b: u32) -> u32 {
+    let x = (a % 65536) as u64;
+    let y = (b % 16777216) as u64;
+    (x * y % 4294967296) as u32
+}
+
+pub fn apart(a: u32, b: u32) -> u32 {
+    if a < b {
+        return b - a;
+    }
+    a - b
+}
+
+pub fn remainder(a: u32, n: u32) -> u32 {
+    if n == 0 {
+        return 0;
+    }
+    a % n
+}
+
+pub fn lesser(a: u32, b: u32) -> u32 {
+    if a < b {
+        return a;
+    }
+    b
+}
+
+// The place of the last of n things.
+pub fn last_of(n: u32) -> u32 {
+    if n == 0 {
+        return 0;
+    }
+    n - 1
+}

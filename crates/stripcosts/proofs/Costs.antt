@@ -16,8 +16,9 @@ use Rattle.search.proofs.CappedSums.{sum-le, sum-top}
 use Rattle.optimum.specs.CostWord.{topWord}
 use Rattle.arrays.specs.declared.Measures.{Measures}
 use Rattle.bands.specs.Bands.{Between, Lost, Starts, Ends}
-use Rattle.stripcosts.specs.Costs.{upperAt, lowerAt, insideOf, upFits, downFits, siteOf, stripOf, Among}
-use Rattle.stripcosts.specs.declared.Label.{Label}
+use Rattle.stripcosts.specs.Costs.{upperAt, lowerAt, insideOf, siteOf, stripOf, Among}
+use Rattle.tiefits.specs.declared.Label.{Label}
+use Rattle.tiefits.specs.Fits.{upFits, downFits}
 
 -- ---- labels
 

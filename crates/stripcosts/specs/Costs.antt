@@ -3,14 +3,15 @@ use mathlib.Core.Path.{_≡_}
 use mathlib.Core.Bool.{Bool, true, false, cond, _&&_, _||_}
 use mathlib.Core.List.{List}
 use Prim.Native.Nat.{ℕ, zero, suc, _+_, _*_, _≤_, _<_, min}
-use lib.Dec.{ltb, leb, eqb}
+use lib.Dec.{ltb, leb}
 use lib.ListN.{length, getD}
 use Rattle.search.specs.Sums.{sumTo}
 use Rattle.labelling.specs.Layout.{apart}
 use Rattle.optimum.specs.CostWord.{topWord}
 use Rattle.arrays.specs.declared.Measures.{Measures}
 use Rattle.arrays.specs.Arrays.{unitOf}
-use Rattle.stripcosts.specs.declared.Label.{Label}
+use Rattle.tiefits.specs.declared.Label.{Label}
+use Rattle.tiefits.specs.Fits.{upFits, downFits}
 
 -- the label or edge at a place, as a strip's upper end; slot k or the bottom edge, as its lower end
 abbrev pub upperAt : (heights : List ℕ) → (a code : ℕ) → Label
@@ -24,20 +25,13 @@ lowerAt hs k cb = record { edge = leb (length hs) k; place = suc k; code = cb; h
 unfoldable pub insideOf : Label → Label → (y : ℕ) → Bool
 insideOf a b y = (a .edge || leb (a .height) y) && (b .edge || ltb y (b .height))
 
--- it may be tied to the upper one, to the lower one; it lies between them, so that a label is clear of it if it is far enough above or below
-unfoldable pub upFits : Measures → Label → Label → (y colour cap : ℕ) → Bool
-upFits q a b y c cap = eqb (a .code) (suc c) && ((b .edge || leb (y + q .gap) (b .height)) && (eqb cap 0 || leb (a .place) cap))
-
-unfoldable pub downFits : Measures → Label → Label → (y colour cap : ℕ) → Bool
-downFits q a b y c cap = eqb (b .code) (suc c) && ((a .edge || leb (a .height + q .gap) y) && (eqb cap 0 || leb (b .place) cap))
-
 -- its cost tied to one of them, to the better of the two, or 0 outside
 abbrev pub tieCost : Measures → (fits : Bool) → (height y : ℕ) → ℕ
 tieCost q fits h y = cond fits (apart h y * unitOf q) topWord
 
 unfoldable pub siteOf : Measures → Label → Label → (y colour cap : ℕ) → ℕ
 siteOf q a b y c cap =
-    cond (insideOf a b y) (min (tieCost q (upFits q a b y c cap) (a .height) y) (tieCost q (downFits q a b y c cap) (b .height) y)) 0
+    cond (insideOf a b y) (min (tieCost q (upFits (q .gap) a b y c cap) (a .height) y) (tieCost q (downFits (q .gap) a b y c cap) (b .height) y)) 0
 
 -- all sites
 unfoldable pub stripOf : Measures → Label → Label → (ys colours caps : List ℕ) → ℕ

@@ -1,51 +1,20 @@
 // The cost of a strip's sites: each is tied to the label above or to the one below.
 ghost use mathlib.Core.Path.{_≡_};
-ghost use mathlib.Core.Bool.{_||_};
-ghost use Prim.Native.Nat.{suc, _+_, _<_, _≤_, min};
-ghost use lib.Dec.{eqb, leb};
+ghost use Prim.Native.Nat.{_+_, _<_, _≤_, min};
 ghost use lib.ListN.{length};
 ghost use Rattle.bands.specs.Bands.{Starts, Ends};
-ghost use Rattle.stripcosts.specs.Costs.{upperAt, lowerAt, insideOf, upFits, downFits, tieCost, siteOf, stripOf, Among};
+ghost use Rattle.stripcosts.specs.Costs.{upperAt, lowerAt, insideOf, tieCost, siteOf, stripOf, Among};
 use arrays::Measures;
 use drops::apart_of;
+use tiefits::Label;
+use tiefits::fits_down;
+use tiefits::fits_up;
 use words::NONE;
 use words::at_most;
 use words::both;
 use words::either;
 use words::get;
 use words::less;
-use words::same;
-
-// A label or an edge, as an end of a strip: its place (0 the top edge, k + 1 slot k, m + 1 the bottom edge), its code (0 none, c + 1 colour c), its height.
-pub struct Label {
-    pub edge: bool,
-    pub place: u32,
-    pub code: u32,
-    pub height: u32,
-}
-
-// A label is clear of a site, the lower of the two far enough below the upper.
-fn is_clear(q: Measures, upper: u32, lower: u32) -> bool
-    ensures { λ r. ⌜ r ≡ leb (upper + q .gap) lower ⌝ }
-{
-    let end = (upper as u64) + (q.gap as u64);
-    end <= lower as u64
-}
-
-// A code that stands for a colour.
-fn is_code(code: u32, colour: u32) -> bool
-    ensures { λ r. ⌜ r ≡ eqb code (suc colour) ⌝ }
-{
-    let c = (colour as u64) + 1;
-    code as u64 == c
-}
-
-// A cap lets a site go to a place.
-fn is_capped(cap: u32, place: u32) -> bool
-    ensures { λ r. ⌜ r ≡ eqb cap 0 || leb place cap ⌝ }
-{
-    either(same(cap, 0), at_most(place, cap))
-}
 
 // The cost of a tie that fits.
 fn tie_cost(q: Measures, fits: bool, height: u32, y: u32) -> u64
@@ -70,30 +39,6 @@ fn is_inside(above: Label, below: Label, y: u32) -> bool
     )
 }
 
-fn fits_up(q: Measures, above: Label, below: Label, y: u32, colour: u32, cap: u32) -> bool
-    ensures { λ r. ⌜ r ≡ upFits q above below y colour cap ⌝ }
-{
-    if !is_code(above.code, colour) {
-        return false;
-    }
-    both(
-        either(below.edge, is_clear(q, y, below.height)),
-        is_capped(cap, above.place),
-    )
-}
-
-fn fits_down(q: Measures, above: Label, below: Label, y: u32, colour: u32, cap: u32) -> bool
-    ensures { λ r. ⌜ r ≡ downFits q above below y colour cap ⌝ }
-{
-    if !is_code(below.code, colour) {
-        return false;
-    }
-    both(
-        either(above.edge, is_clear(q, above.height, y)),
-        is_capped(cap, below.place),
-    )
-}
-
 fn least_of(a: u64, b: u64) -> u64
     ensures { λ r. ⌜ r ≡ min a b ⌝ }
 {
@@ -107,10 +52,15 @@ fn site_cost(q: Measures, above: Label, below: Label, y: u32, colour: u32, cap: 
     ensures { λ r. ⌜ r ≡ siteOf q above below y colour cap ⌝ }
 {
     if is_inside(above, below, y) {
-        let up = tie_cost(q, fits_up(q, above, below, y, colour, cap), above.height, y);
+        let up = tie_cost(
+            q,
+            fits_up(q.gap, above, below, y, colour, cap),
+            above.height,
+            y,
+        );
         let down = tie_cost(
             q,
-            fits_down(q, above, below, y, colour, cap),
+            fits_down(q.gap, above, below, y, colour, cap),
             below.height,
             y,
         );

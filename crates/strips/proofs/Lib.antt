@@ -1,2 +1,4 @@
 pub mod Decisions
 pub mod Windows
+pub mod Joining
+mod Steps

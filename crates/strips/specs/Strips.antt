@@ -1,26 +1,18 @@
--- A strip and a site as the code holds them, and the part of an instance that decides what may be done in one strip. Definitions.
+-- The part of an instance that decides what may be done in one strip. Definitions.
 use mathlib.Core.Path.{_≡_}
 use mathlib.Core.Bool.{Bool, true, false, cond, _&&_}
 use mathlib.Core.List.{List, []}
-use Prim.Native.Nat.{ℕ, suc, _+_, _*_, _-_, _<_, _≤_}
+use Prim.Native.Nat.{ℕ, suc, _+_, _-_, _<_, _≤_, min}
 use lib.Dec.{leb, ltb}
 use lib.ListN.{length, getD}
 use Rattle.labelling.specs.Layout.{apart}
 use Rattle.optimum.specs.Slots.{farFrom, clearFrom}
-use Rattle.optimum.specs.Strips.{Point, Strip, Instance}
+use Rattle.optimum.specs.Strips.{Point, Strip, Instance, joinsUp, joinsDown}
+use Rattle.optimum.specs.OneSided.{topWord}
 use Rattle.arrays.specs.declared.Measures.{Measures}
 use Rattle.arrays.specs.Arrays.{instanceBy}
-use Rattle.strips.specs.declared.Strip as held
-use Rattle.strips.specs.declared.Site as tied
 use Rattle.strips.specs.declared.Window.{Window}
 use Rattle.costs.specs.Costs.{wordBy}
-
--- the strip and the site of the model; a strip carries no mark yet
-abbrev pub stripOf : held.Strip → Strip
-stripOf p = record { a = p .a; ca = p .ca; b = p .b; cb = p .cb; d = 0 }
-
-abbrev pub pointOf : tied.Site → Point
-pointOf s = record { x = s .x; y = s .y; c = s .c }
 
 -- radices and draws have no part in what is decided on one strip
 abbrev pub instanceOn : Measures → (heights bounds : List ℕ) → Instance
@@ -72,3 +64,27 @@ openCost q hs s k = wordBy q 1 (q .width - s .x + apart (getD hs k 0) (s .y))
 
 abbrev pub joinCost : Measures → (heights : List ℕ) → Point → (slot : ℕ) → ℕ
 joinCost q hs s k = wordBy q 0 (apart (getD hs k 0) (s .y))
+
+-- the least that joining a label costs
+unfoldable pub joinLeast : Measures → (heights bounds : List ℕ) → Strip → Point → ℕ
+joinLeast q hs bs p s =
+    min (cond (ltb (p .a - 1) (length hs) && joinsUp (instanceOn q hs bs) p s (p .a - 1)) (joinCost q hs s (p .a - 1)) topWord)
+    (cond (joinsDown (instanceOn q hs bs) p s (p .b - 1)) (joinCost q hs s (p .b - 1)) topWord)
+
+-- ---- what is asked of the numbers of a sheet
+
+-- the measures, slots' heights and colours' bounds of a sheet
+pub record Framed (q : Measures) (heights bounds : List ℕ) : Type 0 where
+  pub slotsFew : length heights ≤ 48
+  pub coloursFew : q .colours ≤ 8
+  pub bounded : length bounds ≡ q .colours
+  pub budgetsFew : q .budgets ≤ 64
+  pub budgetsSome : 0 < q .budgets
+  pub narrow : q .width < 16384
+  pub heightLow : (k : ℕ) → getD heights k 0 < 16384
+  pub rising : (j k : ℕ) → j < k → k < length heights → getD heights j 0 < getD heights k 0
+
+-- a site of the sheet
+pub record Stands (C : ℕ) (s : Point) : Type 0 where
+  pub colourLow : s .c < C
+  pub yLow : s .y < 16384

@@ -6,7 +6,10 @@ ghost use Prim.Native.Nat.{ℕ, _+_, _-_, _<_};
 ghost use lib.Dec.{ltb};
 ghost use lib.ListN.{length, getD};
 ghost use Rattle.optimum.specs.Strips as model;
-ghost use Rattle.strips.specs.Strips.{instanceOn, stripOf, pointOf, Measured, Small, gapLeft, FirstFar, FarEnd, WindowOf, siteOpens, openCost, joinCost};
+ghost use Rattle.strips.specs.Strips.{Framed, Stands, joinLeast, instanceOn, Measured, Small, gapLeft, FirstFar, FarEnd, WindowOf, siteOpens, openCost, joinCost};
+ghost use Rattle.rows.specs.Rows.{stripOf, pointOf, Lies};
+ghost use Rattle.arrays.specs.Arrays.{instanceBy};
+ghost use Rattle.strips.specs.Steps.{priceIn, budgetLeft, SheetArrays, SiteIn};
 use arrays::Measures;
 use costs::word_of;
 use drops::apart_of;
@@ -14,34 +17,30 @@ use places::is_clear;
 use places::is_far;
 use places::is_over;
 use places::is_under;
+use rows::Site;
+use rows::Strip;
 use words::NONE;
 use words::at_most;
 use words::both;
+use words::choose;
 use words::either;
 use words::get;
 use words::is_not;
 use words::less;
+use words::lesser;
 use words::monus;
 use words::same;
-
-// A strip: the labels above and below it (0: the top edge, k + 1: slot k, m + 1: the bottom edge) and their colours (0: none, c + 1: colour c).
-pub struct Strip {
-    pub a: u32,
-    pub ca: u32,
-    pub b: u32,
-    pub cb: u32,
-}
-
-pub struct Site {
-    pub x: u32,
-    pub y: u32,
-    pub c: u32,
-}
 
 // The slots from `from` up to, not with, `to`.
 pub struct Window {
     pub from: u32,
     pub to: u32,
+}
+
+// A step: what it leaves of the budget, and its price, NONE if it is not lawful or not to be had.
+pub struct Step {
+    pub left: u32,
+    pub price: u32,
 }
 
 pub fn is_inside(q: Measures, heights: &[u32], bounds: &[u32], p: Strip, s: Site) -> bool
@@ -199,4 +198,67 @@ pub fn step_cost(q: Measures, heights: &[u32], bounds: &[u32], p: Strip, s: Site
         return join_cost(q, heights, s, k);
     }
     NONE
+}
+
+// The least that joining a label costs.
+pub fn join_least(q: Measures, heights: &[u32], bounds: &[u32], p: Strip, s: Site) -> u32
+    requires { ⌜ Framed q (now heights) (now bounds) ⌝ }
+    requires { ⌜ Lies (length (now heights)) (q .colours) (stripOf p) × Stands (q .colours) (pointOf s) ⌝ }
+    ensures { λ r. ⌜ r ≡ joinLeast q (now (heights .entry)) (now (bounds .entry)) (stripOf p) (pointOf s) ⌝ }
+{
+    let up = monus(p.a, 1);
+    let down = monus(p.b, 1);
+    let slot = (up as usize) < heights.len();
+    let above = both(slot, joins_up(q, heights, bounds, p, s, up));
+    let below = joins_down(q, heights, bounds, p, s, down);
+    let rise = choose(above, join_cost(q, heights, s, up), NONE);
+    lesser(rise, choose(below, join_cost(q, heights, s, down), NONE))
+}
+
+// What it takes from the budget to tie the site to slot k.
+fn draw_of(
+    q: Measures,
+    heights: &[u32],
+    bounds: &[u32],
+    radices: &[u32],
+    draws: &[u32],
+    p: Strip,
+    s: Site,
+    k: u32,
+) -> u32
+    requires { ⌜ Small (now bounds) (s .c) k ⌝ }
+    requires { ⌜ s .c < length (now draws) ⌝ }
+    ensures { λ r. ⌜ r ≡ model.draw (instanceBy q (now (heights .entry)) (now (bounds .entry)) (now (radices .entry)) (now (draws .entry))) (stripOf p) (pointOf s) k ⌝ }
+{
+    if opens(q, heights, bounds, p, s, k) {
+        let c = s.c as usize;
+        return draws[c];
+    }
+    0
+}
+
+// The step that ties the site to slot k with the budget v.
+pub fn step_of(
+    q: Measures,
+    heights: &[u32],
+    bounds: &[u32],
+    radices: &[u32],
+    draws: &[u32],
+    p: Strip,
+    s: Site,
+    v: u32,
+    k: u32,
+) -> Step
+    requires { ⌜ SheetArrays q (now heights) (now bounds) (now radices) (now draws) ⌝ }
+    requires { ⌜ SiteIn q (pointOf s) × (k < 48) ⌝ }
+    ensures { λ r. ⌜ r .left ≡ budgetLeft (instanceBy q (now (heights .entry)) (now (bounds .entry)) (now (radices .entry)) (now (draws .entry))) (stripOf p) (pointOf s) v k ⌝ }
+    ensures { λ r. ⌜ r .price ≡ priceIn (instanceBy q (now (heights .entry)) (now (bounds .entry)) (now (radices .entry)) (now (draws .entry))) (stripOf p) (pointOf s) v k ⌝ }
+{
+    let d = draw_of(q, heights, bounds, radices, draws, p, s, k);
+    let left = monus(v, d);
+    if masks::is_below(radices, d, v) {
+        let price = step_cost(q, heights, bounds, p, s, k);
+        return Step { left, price };
+    }
+    Step { left, price: NONE }
 }

@@ -10,9 +10,11 @@ use Rattle.lists.proofs.Tests.{by-order}
 use Rattle.optimum.specs.Strips.{Point, Strip}
 use Rattle.arrays.specs.declared.Measures.{Measures}
 use Rattle.budgets.specs.Budgets.{Others}
-use Rattle.entries.specs.Rows.{rowOf, rowIn, levelSize, Lies, entryBy}
-use Rattle.entries.proofs.Places.{row-fits, same-rows}
-use Rattle.marks.specs.Marks.{endPlace, endWords, Shaped}
+use Rattle.entries.specs.Rows.{entryBy}
+use Rattle.rows.specs.Rows.{rowOf, rowIn, levelSize, Lies, endPlace, endWords}
+use Rattle.entries.proofs.Places.{same-rows}
+use Rattle.rows.proofs.Places.{row-fits}
+use Rattle.marks.specs.Marks.{Shaped}
 use Rattle.marks.proofs.Followed.{same-end, later-end, slot-high, slot-low, row-ends, same-strip}
 use Rattle.marks.proofs.Levels.{row-room}
 use Rattle.table.specs.Rows.{RowFilled}

@@ -23,10 +23,11 @@ use Rattle.arrays.specs.declared.Measures.{Measures}
 use Rattle.arrays.specs.Arrays.{instanceBy, pointsBy}
 use Rattle.strips.specs.Strips.{instanceOn}
 use Rattle.budgets.specs.Budgets.{Others, Splits, leftBy}
-use Rattle.entries.specs.Rows.{rowOf, rowsOf, rowIn, levelSize, upperPart, lowerPart}
-use Rattle.entries.proofs.Places.{row-low, row-fits}
+use Rattle.rows.specs.Rows.{rowOf, rowsOf, rowIn, levelSize, upperPart, lowerPart}
+use Rattle.rows.proofs.Places.{row-low, row-fits}
 use Rattle.entries.proofs.Entries.{Falls, cell-row, entry-by}
-use Rattle.marks.specs.Marks.{Marked, Shaped, ReachMarked}
+use Rattle.marks.specs.Marks.{Shaped, ReachMarked}
+use Rattle.parts.specs.Parts.{Marked}
 use Rattle.marks.proofs.Levels.{next-level, level-room, row-room}
 use Rattle.marks.proofs.Points.{points-long, point-at, drop-point}
 use Rattle.marks.proofs.Asked.{asks-parts}

@@ -9,9 +9,13 @@ use Rattle.search.specs.Radix.{below}
 use Rattle.optimum.specs.Strips.{Point, Strip, Instance, rulesOf}
 use Rattle.optimum.specs.Reached.{Reached}
 use Rattle.arrays.specs.declared.Measures.{Measures}
-use Rattle.budgets.specs.Budgets.{Divides, Within}
-use Rattle.entries.specs.Rows.{rowOf, levelSize, rowIn, Framed, Stands, entryBy}
-use Rattle.marks.specs.Marks.{Marked, Sites}
+use Rattle.budgets.specs.Budgets.{Within}
+use Rattle.masks.specs.Masks.{Divides}
+use Rattle.entries.specs.Rows.{entryBy}
+use Rattle.strips.specs.Strips.{Framed, Stands}
+use Rattle.rows.specs.Rows.{rowOf, levelSize, rowIn}
+use Rattle.marks.specs.Marks.{Sites}
+use Rattle.parts.specs.Parts.{Marked}
 
 -- a level at the word `base` may be filled from the one at the word `low`
 pub record Ready (q : Measures) (heights bounds parts counts left : List ℕ) (size base low : ℕ) (s : Point) : Type 0 where

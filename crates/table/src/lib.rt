@@ -2,29 +2,19 @@
 ghost use mathlib.Core.Path.{_≡_};
 ghost use Prim.Native.Nat.{ℕ, _+_, _-_, _*_, _<_, _≤_};
 ghost use lib.ListN.{length, getD, drop};
-ghost use Rattle.strips.specs.Strips.{stripOf, pointOf};
+ghost use Rattle.rows.specs.Rows.{stripOf, pointOf, levelSize, rowIn, Lies, endPlace, endWords};
 ghost use Rattle.optimum.specs.Strips as model;
 ghost use Rattle.entries.specs.Rows as entries;
-ghost use Rattle.entries.specs.Rows.{rowsOf, levelSize, rowIn, Lies, entryBy};
-ghost use Rattle.marks.specs.Marks.{endPlace, endWords, Shaped};
+ghost use Rattle.entries.specs.Rows.{entryBy};
+ghost use Rattle.marks.specs.Marks.{Shaped};
 ghost use Rattle.budgets.specs.Budgets.{Others, Splits};
 ghost use Rattle.arrays.specs.Arrays.{instanceBy, pointsBy};
 ghost use Rattle.optimum.specs.Reached.{TableOf};
 ghost use Rattle.table.specs.Rows.{Ready, RowFilled, Given, LevelRight, LevelMarked};
 use arrays::Measures;
-use marks::End;
-use strips::Site;
-use strips::Strip;
-
-// How many rows a level has.
-fn rows_of(q: Measures, m: usize) -> usize
-    requires { ⌜ (m ≤ 48) × (q .colours ≤ 8) ⌝ }
-    ensures { λ r. ⌜ r ≡ rowsOf m (q .colours) ⌝ }
-{
-    let colours = (q.colours as usize) + 1;
-    let ends = m + 2;
-    ends * colours * ends * colours
-}
+use rows::End;
+use rows::Site;
+use rows::Strip;
 
 // Fills the row of a strip, which begins at the word `at`, if it is marked.
 fn fill_marked(
@@ -78,11 +68,11 @@ fn fill_below(
         b: above.slot + 1,
         cb: 0,
     };
-    let mut at = base + entries::row_place(q, heights.len(), p);
+    let mut at = base + rows::row_place(q, heights.len(), p);
     while p.b < ends {
         fill_marked(work, q, heights, bounds, parts, counts, left, p, s, at, low);
         at += n;
-        p = marks::next_below(q.colours, p);
+        p = rows::next_below(q.colours, p);
     }
 }
 
@@ -105,7 +95,7 @@ fn fill_end(
     ensures { λ _. ⌜ Others (now (work .entry)) (now (work .exit)) (base + endPlace (q .colours) (above .slot) (above .colour) * endWords q (now (heights .entry))) (endWords q (now (heights .entry))) ⌝ }
     ensures { λ _. ⌜ ((p : model.Strip) → Shaped (length (now (heights .entry))) (q .colours) p → endPlace (q .colours) (p .a) (p .ca) ≡ endPlace (q .colours) (above .slot) (above .colour) → RowFilled q (now (heights .entry)) (now (bounds .entry)) (now (parts .entry)) (now (counts .entry)) (now (left .entry)) (now (work .entry)) (now (work .exit)) base low (pointOf s) p) ⌝ }
 {
-    if marks::is_upper_end(above) {
+    if rows::is_upper_end(above) {
         fill_below(
             work,
             q,
@@ -155,7 +145,7 @@ fn fill_level(
             base,
             low,
         );
-        above = marks::next_end(q.colours, above);
+        above = rows::next_end(q.colours, above);
     }
 }
 
@@ -236,7 +226,7 @@ pub fn fill_table(
     let mut parts = [0u8; 4096];
     let mut counts = [0u8; 64];
     budgets::list_splits(radices, q.budgets as usize, &mut parts, &mut counts);
-    let rows = rows_of(q, heights.len());
+    let rows = rows::rows_of(q, heights.len());
     let size = rows * (q.budgets as usize);
     marks::mark_table(work, q, heights, bounds, xs, ys, cs, rows);
     let mut j = xs.len();

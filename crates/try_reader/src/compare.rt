@@ -6,27 +6,12 @@ use reader::ColourSize;
 use reader::Sizes;
 use reader::read_sheet;
 
-pub struct Tally {
-    pub cases: u32,
-    pub wrong: u32,
-}
-
-pub fn none() -> Tally {
-    Tally { cases: 0, wrong: 0 }
-}
-
-pub fn sum(a: Tally, b: Tally) -> Tally {
-    Tally {
-        cases: std::num::wrapping_add_u32(a.cases, b.cases),
-        wrong: std::num::wrapping_add_u32(a.wrong, b.wrong),
-    }
-}
-
-fn tally_of(right: bool) -> Tally {
+// A tally of cases in one number: 65536 for each, and 1 for each that differs.
+fn tally_of(right: bool) -> u32 {
     if right {
-        return Tally { cases: 1, wrong: 0 };
+        return 65536;
     }
-    Tally { cases: 1, wrong: 1 }
+    65537
 }
 
 // The word at a place, 0 past the end.
@@ -46,10 +31,9 @@ fn same_colours(colours: [ColourSize; 8], wanted: &[u32]) -> bool {
     let mut i: usize = 0;
     while i < 8 {
         let colour = colours[i];
-        if wide(colour.bound) != word_at(wanted, 2 * i + 6) {
-            return false;
-        }
-        if wide(colour.sites) != word_at(wanted, 2 * i + 7) {
+        let bound = wide(colour.bound) ^ word_at(wanted, 2 * i + 6);
+        let sites = wide(colour.sites) ^ word_at(wanted, 2 * i + 7);
+        if bound | sites != 0 {
             return false;
         }
         i += 1;
@@ -59,22 +43,13 @@ fn same_colours(colours: [ColourSize; 8], wanted: &[u32]) -> bool {
 
 // What is wanted: a refusal's number alone, or 0, n, m, C, P, the work words and the colours.
 fn same(sizes: Sizes, wanted: &[u32]) -> bool {
-    if wide(sizes.refusal) != word_at(wanted, 0) {
-        return false;
-    }
-    if wide(sizes.n) != word_at(wanted, 1) {
-        return false;
-    }
-    if wide(sizes.m) != word_at(wanted, 2) {
-        return false;
-    }
-    if wide(sizes.c) != word_at(wanted, 3) {
-        return false;
-    }
-    if wide(sizes.p) != word_at(wanted, 4) {
-        return false;
-    }
-    if sizes.work != word_at(wanted, 5) {
+    let refusal = wide(sizes.refusal) ^ word_at(wanted, 0);
+    let n = wide(sizes.n) ^ word_at(wanted, 1);
+    let m = wide(sizes.m) ^ word_at(wanted, 2);
+    let c = wide(sizes.c) ^ word_at(wanted, 3);
+    let p = wide(sizes.p) ^ word_at(wanted, 4);
+    let work = sizes.work ^ word_at(wanted, 5);
+    if refusal | n | m | c | p | work != 0 {
         return false;
     }
     let colours = sizes.colours;
@@ -91,27 +66,27 @@ fn wanted_words(words: &[u32]) -> usize
     6 + 2 * (word_at(words, 3) % 9) as usize
 }
 
-fn compare(words: &[u32]) -> Tally {
+fn compare(words: &[u32]) -> u32 {
     let k = within(wanted_words(words), words.len());
     tally_of(same(read_sheet(&words[k..]), &words[0..k]))
 }
 
 // One case, the first n words: what is wanted, and the sheet after it; no word is no case.
-pub fn case(words: &[u32], n: usize) -> Tally {
+pub fn case(words: &[u32], n: usize) -> u32 {
     let k = within(n, words.len());
     if k == 0 {
-        return none();
+        return 0;
     }
     compare(&words[0..k])
 }
 
 // A line for a group of cases.
-pub fn say(group: &[u8], t: Tally) -> Tally {
+pub fn say(group: &[u8], t: u32) -> u32 {
     io::write_all(STDOUT_FILENO, group);
     io::write_all(STDOUT_FILENO, b": ");
-    io::print_decimal(STDOUT_FILENO, t.cases as u64);
+    io::print_decimal(STDOUT_FILENO, (t / 65536) as u64);
     io::write_all(STDOUT_FILENO, b" cases, ");
-    io::print_decimal(STDOUT_FILENO, t.wrong as u64);
+    io::print_decimal(STDOUT_FILENO, (t % 65536) as u64);
     io::write_all(STDOUT_FILENO, b" differ\n");
     t
 }

@@ -1,11 +1,10 @@
 // Sheets with any set of faults, from lines with a condition in front of the words: the lowest fault's number is given.
-use crate::compare::Tally;
+ghost use Prim.Native.Nat.{_≤_};
+ghost use lib.ListN.{length};
 use crate::compare::case;
-use crate::compare::none;
-use crate::compare::sum;
-use cases::place_of;
-use cases::take_line;
-use cases::within;
+use cases::digit;
+use cases::take_byte;
+use std::num::wrapping_add_u32;
 
 // Fault k is in a set if bit k is.
 fn has(set: u32, fault: u32) -> bool {
@@ -14,14 +13,7 @@ fn has(set: u32, fault: u32) -> bool {
 
 // The lowest fault of a set, 0 if it is empty.
 fn lowest(set: u32) -> u32 {
-    let mut fault: u32 = 1;
-    while fault < 8 {
-        if has(set, fault) {
-            return fault;
-        }
-        fault += 1;
-    }
-    0
+    u32::trailing_zeros(set | 256) % 8
 }
 
 // 0 always, 1k if fault k is in the set, 2k if it is not, 3k if k is the lowest.
@@ -40,67 +32,72 @@ fn holds(set: u32, condition: u32) -> bool {
     true
 }
 
-// Puts a word at a place and gives the next place.
-fn put(words: &mut [u32], at: usize, w: u32) -> usize {
-    if at < words.len() {
-        words[at] = w;
-        return at + 1;
+// A line goes through these: it begins; its condition is read; its words are taken, or it is passed over.
+const BEGINS: u32 = 1024;
+
+const TAKEN: u32 = 1025;
+
+const PASSED: u32 = 1026;
+
+// What comes after a condition's end.
+fn after_condition(condition: u32, set: u32) -> u32 {
+    if holds(set, condition) {
+        return TAKEN;
     }
-    at
+    PASSED
 }
 
-// The words after the first.
-fn put_words(words: &mut [u32], at: usize, part: &[u32]) -> usize {
-    let mut past = at;
-    let mut i: usize = 1;
-    while i < part.len() {
-        past = put(words, past, part[i]);
+// What a byte of a line leads to. While a condition is read it is the condition so far.
+fn after_byte(state: u32, set: u32, b: u8) -> u32 {
+    if b == b'\n' {
+        return BEGINS;
+    }
+    if BEGINS < state {
+        return state;
+    }
+    if b == b' ' {
+        if state == BEGINS {
+            return 0;
+        }
+        return after_condition(state, set);
+    }
+    if state == BEGINS {
+        return PASSED;
+    }
+    state % 16 * 16 + digit(b)
+}
+
+// The words of the lines whose conditions hold; so many.
+fn take_held(words: &mut [u32], text: &[u8], set: u32) -> usize
+    ensures { λ r. ⌜ r ≤ length (now (words .entry)) ⌝ }
+{
+    let mut begun: usize = 0;
+    let mut state = BEGINS;
+    let mut i: usize = 0;
+    while i < text.len() {
+        let b = text[i];
+        state = after_byte(state, set, b);
         i += 1;
+        if state != TAKEN {
+            continue;
+        }
+        begun = take_byte(words, begun, b);
     }
-    past
+    begun
 }
 
-// The first n words, of which the first is the condition.
-fn put_part(words: &mut [u32], at: usize, part: &[u32], n: usize, set: u32) -> usize {
-    let k = within(n, part.len());
-    if k == 0 {
-        return at;
-    }
-    if holds(set, part[0]) {
-        return put_words(words, at, &part[0..k]);
-    }
-    at
-}
-
-fn put_line(words: &mut [u32], at: usize, line: &[u8], set: u32) -> usize {
-    let mut part = [0u32; 64];
-    let n = take_line(line, &mut part);
-    put_part(words, at, &part, n, set)
-}
-
-fn put_lines(words: &mut [u32], text: &[u8], set: u32) -> usize {
-    let mut past: usize = 0;
-    let mut from: usize = 0;
-    while from < text.len() {
-        let end = place_of(text, from, b'\n');
-        past = put_line(words, past, &text[from..end], set);
-        from = end + 1;
-    }
-    past
-}
-
-fn read_set(text: &[u8], set: u32) -> Tally {
+fn read_set(text: &[u8], set: u32) -> u32 {
     let mut words = [0u32; 128];
-    let n = put_lines(&mut words, text, set);
+    let n = take_held(&mut words, text, set);
     case(&words, n)
 }
 
 // All sets of the faults 1 to 7.
-pub fn read_sets(text: &[u8]) -> Tally {
-    let mut t = none();
+pub fn read_sets(text: &[u8]) -> u32 {
+    let mut t: u32 = 0;
     let mut i: u32 = 0;
     while i < 128 {
-        t = sum(t, read_set(text, 2 * i));
+        t = wrapping_add_u32(t, read_set(text, 2 * i));
         i += 1;
     }
     t

@@ -31,7 +31,9 @@ use Rattle.arrays.proofs.Whole.{front}
 use Rattle.arrays.proofs.Ordered.{radices-long, draws-long, product-positive, product-are}
 use Rattle.usedslots.specs.Table.{none, unitOf, labelCost, instanceBy, tableBy, capsIn, Fits, tableWords, RightTo}
 use Rattle.usedslots.proofs.Strips.{value-ranks}
-use Rattle.twosided.specs.Caps.{countBy, lengthBy, wordsBy, uncapped, Filled, laidBy, Laid, Low}
+use Rattle.capwords.specs.Caps.{wordsBy}
+use Rattle.capsearch.specs.Search.{uncapped, Filled}
+use Rattle.twosided.specs.Layouts.{countBy, lengthBy, laidBy, Laid}
 
 -- ---- a call on arrays
 
@@ -63,9 +65,6 @@ module _ (q : Measures) (hs bs rs ys cs xs caps : List ℕ) (zeros : (i : ℕ) �
         some = omega (arith, z);
       }
 
-  pub low-none : Low caps
-  low-none i = rw (zeros i) (omega arith)
-
   cut : (n : ℕ) (work now : List ℕ) → drop n now ≡ drop n work → replicate n 0 ++ drop n now ≡ replicate n 0 ++ drop n work
   cut n work now e = ap (λ (l : List ℕ). replicate n 0 ++ l) e
 
@@ -77,7 +76,7 @@ module _ (q : Measures) (hs bs rs ys cs xs caps : List ℕ) (zeros : (i : ℕ) �
       record { fault-is = rw l; out-is = rw l; work-is = c ∙ cut words work now d }
 
   pub laid-some : (w head words : ℕ) (new work now zeroed out outs : List ℕ) → w ≡ value (tableBy q hs bs rs ys cs) (capsIn caps) → (w ≡ none → ⊥) → w ≤ none →
-      length new ≡ length ys → capsIn new ≡ capAll G w (length ys) (capsIn caps) → head ≡ 8 * 268435456 + countBy q w * 2097152 + lengthBy q w →
+      length new ≡ length ys → capsIn new ≡ capAll G w (length ys) uncapped → head ≡ 8 * 268435456 + countBy q w * 2097152 + lengthBy q w →
       outs ≡ wordsBy head new ++ drop (length new + 1) out →
       drop words now ≡ drop words work → zeroed ≡ replicate words 0 ++ drop words now → Laid q G words work out 0 zeroed outs
   unfolding ties
@@ -88,8 +87,7 @@ module _ (q : Measures) (hs bs rs ys cs xs caps : List ℕ) (zeros : (i : ℕ) �
     where
       is : layoutWords (countBy q w) (lengthBy q w) (listing (λ i. getD new i 0 - 1) 0 (length ys)) ++ drop (length ys + 1) out ≡
           layoutWords (countBy q w) (lengthBy q w) (ties G (capAll G w (length ys) uncapped)) ++ drop (length ys + 1) out
-      is = ap (λ (fx : ℕ → ℕ). layoutWords (countBy q w) (lengthBy q w) (listing (λ i. fx i - 1) 0 (length ys)) ++ drop (length ys + 1) out)
-          (h ∙ ap (capAll G w (length ys)) caps-none)
+      is = ap (λ (fx : ℕ → ℕ). layoutWords (countBy q w) (lengthBy q w) (listing (λ i. fx i - 1) 0 (length ys)) ++ drop (length ys + 1) out) h
 
 -- ---- the arrays of a sheet
 

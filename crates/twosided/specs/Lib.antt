@@ -1,1 +1,1 @@
-pub mod Caps
+pub mod Layouts

@@ -1,7 +1,7 @@
 -- One link of a row: the label next below, of one colour at one slot. Assumes nothing.
 use mathlib.Core.Path.{_≡_, sym, ap, _∙_}
 use mathlib.Core.Logic.{_≢_}
-use mathlib.Core.Bool.{true, false, cond}
+use mathlib.Core.Bool.{Bool, true, false, cond}
 use mathlib.Core.List.{List, []}
 use Prim.Native.Nat.{ℕ, zero, suc, _+_, _*_, _-_, _/_, _%_, _≤_, _<_, min}
 use native.Mathlib.Nat.{mul-comm, mod-lt}
@@ -42,6 +42,10 @@ part-le (suc b) s p l e = omega arith
 times-le : (a b : ℕ) → 0 < b → a ≤ a * b
 times-le a (suc b) h = omega arith
 
+-- a block's size, of the numbers that code has
+pub size-of : (P sk sz b r b₁ r₁ : ℕ) → b ≡ b₁ → r ≡ r₁ → sz ≡ sizeOf P b sk r → sz ≡ sizeOf P b₁ sk r₁
+size-of P sk sz b r b₁ r₁ e₁ e₂ h = rw (e₁, e₂) at h
+
 -- a digit is 0 just in the first part of each block
 digit-block : (p r v : ℕ) → 0 < p → 0 < r → ltb 0 (v / p % r) ≡ leb p (v % (p * r))
 digit-block p r v h l = rw (mul-comm p r, mod-mul v l h) (go (v / p % r))
@@ -72,6 +76,9 @@ module _ (q : Measures) (hs bs rs ds ys cs caps : List ℕ) (f : Fits q hs bs rs
       by-test (eqb (getD bs d 0) 255)
       (λ e. let z : skip ≡ 0 = f .draws d in-colours ∙ rw e in rw z (omega arith))
       (λ e. let z : skip ≡ place rs d = f .draws d in-colours ∙ rw e in rw z (omega (arith, radix-block .1, f .few-budgets)))
+
+  pub product-of : (sk r : ℕ) → sk ≡ skip → r ≡ getD rs d 0 → sk * r ≤ 64
+  product-of sk r e₁ e₂ = rw (e₁, e₂) product-low
 
   -- the budgets go by whole blocks
   blocks : (row work from : ℕ) → q .budgets ≤ row → from + q .budgets ≤ work → Blocks row work from (q .budgets) skip size
@@ -114,15 +121,19 @@ module _ (q : Measures) (hs bs rs ds ys cs caps : List ℕ) (f : Fits q hs bs rs
     fx = capsIn caps
 
     -- too near, or with a site that has neither neighbour: nothing changes
-    pub row-near : (row : List ℕ) → farFrom (slotsBy q hs) a ca (a + j) (suc d) ≡ false → RowTo G fx row (q .budgets) a ca j d → RowTo G fx row (q .budgets) a ca j (suc d)
-    row-near row e h v l = h v l ∙ sym (acc-same G fx a ca v j d (link-near G fx a ca v (a + j) d e))
+    pub row-near : (row : List ℕ) (t : Bool) → t ≡ farFrom (slotsBy q hs) a ca (a + j) (d + 1) → t ≡ false → RowTo G fx row (q .budgets) a ca j d → RowTo G fx row (q .budgets) a ca j (suc d)
+    row-near row t e f h v l = h v l ∙ sym (acc-same G fx a ca v j d (link-near G fx a ca v (a + j) d (rw add-one at (sym e ∙ f))))
 
-    pub row-lost : (row : List ℕ) → stripOf q (upperAt hs a ca) (lowerAt hs (a + j) (suc d)) ys cs caps ≡ none →
+    row-out : (row : List ℕ) → stripOf q (upperAt hs a ca) (lowerAt hs (a + j) (suc d)) ys cs caps ≡ none →
         RowTo G fx row (q .budgets) a ca j d → RowTo G fx row (q .budgets) a ca j (suc d)
-    row-lost row e h v l =
+    row-out row e h v l =
         h v l ∙ sym (acc-same G fx a ca v j d (link-lost G fx a ca v (a + j) d (sym (strip-is q hs bs rs ys cs [] caps a ca (a + j) (suc d)) ∙ e)))
 
-    pub row-linked : (row new work : List ℕ) → a + j < length hs → farFrom (slotsBy q hs) a ca (a + j) (suc d) ≡ true →
+    pub row-lost : (row : List ℕ) (strip : ℕ) → strip ≡ stripOf q (upperAt hs a ca) (lowerAt hs (a + j) (d + 1)) ys cs caps → strip ≡ none →
+        RowTo G fx row (q .budgets) a ca j d → RowTo G fx row (q .budgets) a ca j (suc d)
+    row-lost row strip e f h = row-out row (rw add-one at (sym e ∙ f)) h
+
+    row-linked : (row new work : List ℕ) → a + j < length hs → farFrom (slotsBy q hs) a ca (a + j) (suc d) ≡ true →
         RightFrom G fx work (q .budgets) (suc a) →
         ((v : ℕ) → v < q .budgets → getD new v 0 ≡
         linked row work (cell (q .colours) (q .budgets) (suc (a + j)) (suc d) 0) skip size
@@ -156,14 +167,14 @@ module _ (q : Measures) (hs bs rs ds ys cs caps : List ℕ) (f : Fits q hs bs rs
             rw (t, h v l) (omega arith)
 
     -- the same of the numbers that code has
-    pub row-links : (row new work : List ℕ) (from sk sz strip cost : ℕ) →
+    pub row-links : (row new work : List ℕ) (from sk sz strip cost : ℕ) (t : Bool) →
         from ≡ cell (q .colours) (q .budgets) (a + j + 1) (d + 1) 0 → sk ≡ skip → sz ≡ sizeOf (q .budgets) (getD bs d 0) sk (getD rs d 0) →
         strip ≡ stripOf q (upperAt hs a ca) (lowerAt hs (a + j) (d + 1)) ys cs caps → cost ≡ plus none (labelCost q) strip →
-        a + j < length hs → farFrom (slotsBy q hs) a ca (a + j) (d + 1) ≡ true → RightFrom G fx work (q .budgets) (suc a) →
+        a + j < length hs → t ≡ farFrom (slotsBy q hs) a ca (a + j) (d + 1) → t ≡ true → RightFrom G fx work (q .budgets) (suc a) →
         ((v : ℕ) → v < q .budgets → getD new v 0 ≡ linked row work from sk sz cost v) →
         RowTo G fx row (q .budgets) a ca j d → RowTo G fx new (q .budgets) a ca j (suc d)
-    row-links row new work from sk sz strip cost e₁ e₂ e₃ e₄ e₅ below far right e h =
-        row-linked row new work below (rw add-one at far) right
+    row-links row new work from sk sz strip cost t e₁ e₂ e₃ e₄ e₅ below far f right e h =
+        row-linked row new work below (rw add-one at (sym far ∙ f)) right
         (λ v l.
         let z₃ : sz ≡ size = rw e₂ at e₃ in
         let z₄ : cost ≡ plus none (labelCost q) (stripOf q (upperAt hs a ca) (lowerAt hs (a + j) (suc d)) ys cs caps) = rw (e₄, add-one) at e₅ in
@@ -200,7 +211,7 @@ module _ (q : Measures) (hs bs rs ds ys cs caps : List ℕ) (f : Fits q hs bs rs
   R row j d = RowTo H (capsIn caps) row (q .budgets) a ca j d
 
   skip-lost : (row : List ℕ) (j d : ℕ) → d < q .colours → Lost hs ys cs a ca (a + j) (suc d) → R row j d → R row j (suc d)
-  skip-lost row j d l lost r = row-lost q hs bs rs ds ys cs caps f d l a ca j row (lost-strip q hs ys cs caps a ca (a + j) (suc d) lost) r
+  skip-lost row j d l lost r = row-out q hs bs rs ds ys cs caps f d l a ca j row (lost-strip q hs ys cs caps a ca (a + j) (suc d) lost) r
 
   next-slot : (row : List ℕ) (j : ℕ) → R row j (q .colours) → R row (suc j) 0
   next-slot row j r v l = r v l ∙ sym (acc-next H (capsIn caps) a ca v j)

@@ -14,7 +14,8 @@ use Rattle.optimum.specs.Slots.{over, under, farFrom, clearFrom}
 use Rattle.optimum.specs.UsedSlots.{at, may, draw, allows, upCost, downCost, siteCost, inside, strip, price, next, final, below, T, value}
 use Rattle.arrays.specs.declared.Measures.{Measures}
 use Rattle.stripcosts.proofs.Costs.{past-over}
-use Rattle.stripcosts.specs.Costs.{upperAt, lowerAt, insideOf, upFits, downFits, siteOf, stripOf}
+use Rattle.stripcosts.specs.Costs.{upperAt, lowerAt, insideOf, siteOf, stripOf}
+use Rattle.tiefits.specs.Fits.{upFits, downFits}
 use Rattle.usedslots.specs.Table.{none, instanceBy, capsIn}
 
 -- where a site lies between two labels, one is clear of it if it is far enough above or below; an edge is

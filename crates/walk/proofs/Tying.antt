@@ -20,7 +20,8 @@ use Rattle.optimum.specs.Strips.{Point, Strip, Instance, State, hold, price, ne
 use Rattle.optimum.specs.OneSided.{topWord, writeTies}
 use Rattle.optimum.specs.Reached.{noPoint}
 use Rattle.rest.specs.Rest.{LevelIn, levelSize, restRows}
-use Rattle.choice.specs.Choice.{priceIn, labelled, budgetLeft, keepsCost}
+use Rattle.choice.specs.Choice.{labelled, keepsCost}
+use Rattle.strips.specs.Steps.{priceIn, budgetLeft}
 use Rattle.walk.specs.Walk.{Found, valueIn, WalkArrays, Standing, tiedFrom}
 use Rattle.rest.proofs.Rows.{size}
 use Rattle.walk.proofs.Value.{first-under, next-is}

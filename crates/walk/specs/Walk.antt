@@ -9,7 +9,7 @@ use Rattle.optimum.specs.OneSided.{topWord, writeTies}
 use Rattle.arrays.specs.declared.Measures.{Measures}
 use Rattle.budgets.specs.Budgets.{Splits}
 use Rattle.rest.specs.Rest.{levelSize, restRows}
-use Rattle.choice.specs.Choice.{SheetArrays, SiteIn}
+use Rattle.strips.specs.Steps.{SheetArrays, SiteIn}
 
 -- each step of the walk by these values finds its slot
 unfoldable pub Found : {X Site : Type 0} (G : Process X Site) → (X → List Site → ℕ) → X → List Site → Type 0

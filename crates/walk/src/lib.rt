@@ -3,14 +3,12 @@ ghost use mathlib.Core.Path.{_≡_};
 ghost use Prim.Native.Nat.{_+_, _<_};
 ghost use lib.ListN.{length, getD};
 ghost use Rattle.arrays.specs.Arrays.{instanceBy, pointsBy};
-ghost use Rattle.strips.specs.Strips.{pointOf};
+ghost use Rattle.rows.specs.Rows.{pointOf};
 ghost use Rattle.walk.specs.Walk.{WalkArrays, Standing, tiedFrom};
 use arrays::Measures;
 use choice::Left;
 use choice::choose_slot;
-use choice::hold_of;
-use choice::left_after;
-use strips::Site;
+use rows::Site;
 
 // The site of rank j.
 fn site_at(xs: &[u32], ys: &[u32], colours: &[u32], j: usize) -> Site
@@ -50,7 +48,7 @@ fn tie_site(
     ensures { λ r. ⌜ tiedFrom (instanceBy q (now (heights .entry)) (now (bounds .entry)) (now (radices .entry)) (now (draws .entry))) q (now (parts .entry)) (now (counts .entry)) (now (work .entry)) (pointsBy (now (xs .entry)) (now (ys .entry)) (now (colours .entry))) (now (order .entry)) (now (labels .entry)) (now (out .entry)) j (left .budget) ≡ tiedFrom (instanceBy q (now (heights .entry)) (now (bounds .entry)) (now (radices .entry)) (now (draws .entry))) q (now (parts .entry)) (now (counts .entry)) (now (work .entry)) (pointsBy (now (xs .entry)) (now (ys .entry)) (now (colours .entry))) (now (order .entry)) (now (labels .exit)) (now (out .exit)) (j + 1) (r .budget) ⌝ }
 {
     let s = site_at(xs, ys, colours, j);
-    let p = hold_of(heights, labels, s.y);
+    let p = rows::hold_of(heights, labels, s.y);
     let size = rest::level_size(q, heights.len());
     let base = (j + 1) * size;
     let k = choose_slot(
@@ -68,12 +66,15 @@ fn tie_site(
         s,
         left,
     );
-    let after = left_after(q, heights, bounds, radices, draws, p, s, left, k);
-    let place = order[j] as usize + 1;
-    out[place] = 2415919104 + k;
+    let step = strips::step_of(q, heights, bounds, radices, draws, p, s, left.budget, k);
+    ties::write_tie(order, out, j, k);
     let slot = k as usize;
     labels[slot] = s.c + 1;
-    after
+    let cost = words::monus(left.cost, step.price);
+    Left {
+        budget: step.left,
+        cost,
+    }
 }
 
 // THE WALK: ties the sites from rank j on, one a call, so that the number of untied sites falls.

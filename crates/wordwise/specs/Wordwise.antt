@@ -1,18 +1,10 @@
--- The tests of refusals 2 to 7 word by word, as the code makes them. Assumes nothing: these are definitions.
+-- The tests of refusals 4 and 5 word by word, as the code makes them. Assumes nothing: these are definitions.
 -- That they are the tests of `sheetFault` is shown in crate refusals, proofs/Wordwise.antt.
-use mathlib.Core.Bool.{Bool, true, false, _&&_, _||_, not, cond}
+use mathlib.Core.Bool.{Bool, true, _&&_, _||_, not, cond}
 use mathlib.Core.List.{List, [], _∷_}
 use Prim.Native.Nat.{ℕ, _+_}
-use lib.Dec.{eqb, ltb, leb}
-use Rattle.sheet.specs.Sheet.{bits, kindOf, hasSpare}
-use Rattle.sheet.specs.Words.{rankIn}
-
--- refusal 2: the stage after a word, from the tests on it: a spare bit, kind 2, stage 0, kind 3, kind 4, stage 1. Stage 2: out of order
-abbrev pub stageBy : (spare slot first colour site second : Bool) → ℕ
-stageBy p a f b d s = cond p 2 (cond a (cond f 0 2) (cond b 1 (cond d (cond s 1 2) 2)))
-
-abbrev pub stageAfter : (stage word : ℕ) → ℕ
-stageAfter z w = stageBy (hasSpare w) (eqb (kindOf w) 2) (eqb z 0) (eqb (kindOf w) 3) (eqb (kindOf w) 4) (eqb z 1)
+use lib.Dec.{eqb, leb}
+use Rattle.sheet.specs.Sheet.{bits, kindOf}
 
 -- refusal 4: a slot is no lower than the least that may come, which is then one above it
 abbrev pub lowOk : (low word : ℕ) → Bool
@@ -32,26 +24,3 @@ widthOk x w = not (eqb (kindOf w) 4) || leb (bits w 14 14) x
 unfoldable pub allInside : (width : ℕ) → List ℕ → Bool
 allInside x [] = true
 allInside x (w ∷ ws) = widthOk x w && allInside x ws
-
--- refusal 6: a word is a site of this rank; some word is; no later word is a site of this site's rank
-abbrev pub isRanked : (rank word : ℕ) → Bool
-isRanked r w = eqb (kindOf w) 4 && eqb (rankIn w) r
-
-unfoldable pub someRanked : (rank : ℕ) → List ℕ → Bool
-someRanked r [] = false
-someRanked r (w ∷ ws) = isRanked r w || someRanked r ws
-
-abbrev pub rankNew : (word : ℕ) → List ℕ → Bool
-rankNew w ws = not (eqb (kindOf w) 4) || not (someRanked (rankIn w) ws)
-
-unfoldable pub allNew : List ℕ → Bool
-allNew [] = true
-allNew (w ∷ ws) = rankNew w ws && allNew ws
-
--- refusal 7: what a word multiplies P by
-abbrev pub factorOf : (word : ℕ) → ℕ
-factorOf w = cond (eqb (kindOf w) 3) (cond (eqb (bits w 0 8) 255) 1 (bits w 0 8 + 1)) 1
-
--- P as far as it matters: 65 stands for all that is above 64
-abbrev pub capped : ℕ → ℕ
-capped n = cond (ltb 64 n) 65 n

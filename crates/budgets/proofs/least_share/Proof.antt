@@ -1,16 +1,11 @@
 use Rattle.search.specs.Cost.{plus, least}
-use Rattle.search.proofs.Cost.{least-le-top}
 use Rattle.optimum.specs.OneSided.{topWord}
 use Rattle.budgets.specs.Budgets.{partAt}
 use Rattle.budgets.proofs.Lists.{least-more, least-none}
-use mathlib.Core.Path.{_≡_, refl, ap, sym, _∙_}
-use mathlib.Core.List.{List, [], _∷_, _++_}
-use mathlib.Core.Logic.{⊎-elim}
-use Prim.Native.Nat.{ℕ, zero, suc, _+_, _-_, _*_, _<_, _≤_, min}
+use mathlib.Core.Path.{_≡_, refl, _∙_}
+use Prim.Native.Nat.{_+_, _-_, _*_, _<_, _≤_, min}
 use native.Mathlib.Omega.{arith}
-use native.Mathlib.Numerals.{add-one}
-use lib.ListN.{length, getD, take, drop, set, length-set}
-use borrow.Author.Tests.{eq-eqb, ne-eqb, lt-ltb, le-ltb, le-leb, lt-leb}
+use lib.ListN.{getD}
 use borrow.Author.Needs.{needs}
 use Rattle.budgets.proofs.least_share.Statement.{statement}
 use Rattle.budgets.proofs.least_share.Tie as tie

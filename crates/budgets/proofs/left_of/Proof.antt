@@ -1,20 +1,15 @@
-use mathlib.Core.Bool.{true, false}
+use mathlib.Core.Bool.{true}
 use Rattle.search.specs.Radix.{below}
 use Rattle.search.proofs.Radix.{sharing}
-use mathlib.Core.Path.{_≡_, refl, ap, sym, _∙_}
-use mathlib.Core.List.{List, [], _∷_, _++_}
-use mathlib.Core.Logic.{⊎-elim}
-use Prim.Native.Nat.{ℕ, zero, suc, _+_, _-_, _*_, _<_, _≤_}
+use mathlib.Core.Path.{_≡_, sym, _∙_}
+use Prim.Native.Nat.{_-_, _<_, _≤_}
 use native.Mathlib.Omega.{arith}
-use native.Mathlib.Numerals.{add-one}
-use lib.ListN.{length, getD, take, drop, set, length-set}
-use borrow.Author.Tests.{eq-eqb, ne-eqb, lt-ltb, le-ltb, le-leb, lt-leb}
 use borrow.Author.Needs.{needs}
 use Rattle.budgets.proofs.left_of.Statement.{statement}
 use Rattle.budgets.proofs.left_of.Tie as tie
 use Rattle.budgets.proofs.left_of.Reads as reads
 use Rattle.budgets.proofs.left_of.Lts as lts
-use Rattle.budgets.proofs.is_below.Reads as is-below-reads
+use Rattle.masks.proofs.is_below.Reads as is-below-reads
 
 -- the draw may be taken, so it is at most the budget
 yes : (c : tie.Then1) → below (c .before .before .before .args .radices .now) (c .before .before .before .args .draw) (c .before .before .before .args .v) ≡ true

@@ -3,21 +3,17 @@ use Rattle.search.specs.Radix.{maskFrom}
 use Rattle.search.proofs.Radix.{mask-all, mask-low, mask-half}
 use Rattle.budgets.specs.Budgets.{Listed, Others}
 use Rattle.budgets.proofs.Lists.{listed-none, listed-next, others-none, others-set}
-use mathlib.Core.Path.{_≡_, refl, ap, sym, _∙_}
-use mathlib.Core.List.{List, [], _∷_, _++_}
-use mathlib.Core.Logic.{⊎-elim}
-use Prim.Native.Nat.{ℕ, zero, suc, _+_, _-_, _*_, _/_, _<_, _≤_}
+use mathlib.Core.Path.{_≡_, ap, sym, _∙_}
+use Prim.Native.Nat.{ℕ, _+_, _-_, _*_, _/_, _<_, _≤_}
 use native.Mathlib.Omega.{arith}
-use native.Mathlib.Numerals.{add-one}
-use lib.ListN.{length, getD, take, drop, set, length-set}
-use borrow.Author.Tests.{eq-eqb, ne-eqb, lt-ltb, le-ltb, le-leb, lt-leb}
+use lib.ListN.{length, getD, length-set}
 use borrow.Author.Needs.{needs}
 use Rattle.budgets.proofs.list_below.Statement.{statement}
 use Rattle.budgets.proofs.list_below.Tie as tie
 use Rattle.budgets.proofs.list_below.Reads as reads
 use Rattle.budgets.proofs.list_below.Lts as lts
 use Rattle.budgets.proofs.counted.Reads as counted-reads
-use Rattle.budgets.proofs.mask_below.Reads as mask-below-reads
+use Rattle.masks.proofs.mask_below.Reads as mask-below-reads
 
 abbrev Inv-loop : tie.InvT-loop
 Inv-loop radices v parts₀ base mask₀ count₀ w₀ parts mask count w = (length parts ≡ 4096) × (w ≤ v + 1) × (mask ≡ maskFrom radices v w) × Listed radices v w count (λ i. getD parts (v * 64 + i) 0) × Others parts₀ parts (v * 64) 64

@@ -1,59 +1,92 @@
-use lib.ListN.{replicate, length-replicate, length}
-use lib.Seq.{length-take-le}
-use mathlib.Core.Path.{sym}
-use Prim.Native.Nat.{ℕ}
+use Rattle.byheight.proofs.Sites.{front-long, fits-front, some-front, free-right, keeps-front}
 use native.Mathlib.Omega.{arith}
+use lib.ListN.{length}
 use borrow.Author.Needs.{needs}
 use Rattle.byheight.proofs.keeps_least.Statement.{statement}
 use Rattle.byheight.proofs.keeps_least.Tie as tie
 
--- src/lib.rt:221:9
-array-borrow-prefix-sorted-ys : tie.Need-array-borrow-prefix-sorted-ys
-array-borrow-prefix-sorted-ys c = search needs
+slice-aggregate-gather-into : tie.Need-slice-aggregate-gather-into
+slice-aggregate-gather-into c =
+    search needs
 
--- src/lib.rt:221:9
-slice-aggregate-keeps-ordered : tie.Need-slice-aggregate-keeps-ordered
-slice-aggregate-keeps-ordered c =
-    sym (length-take-le (length (c .before .before .before .before .before .before .before .before .before .before .args .ys .now)) (replicate {A = ℕ} 32 0) (omega (arith, length-replicate {A = ℕ} 32 0, c .before .before .before .before .before .before .before .before .before .before .pre .0 .few-sites)))
+gather-into-requires : tie.Need-gather-into-requires
+gather-into-requires c κs =
+    let p = c .before .before .before .before .before .before .before .before .before .before .pre in omega (arith, p .0 .few-sites, p .1 .0 .0 .long)
 
--- src/lib.rt:222:9
-array-borrow-prefix-sorted-colours : tie.Need-array-borrow-prefix-sorted-colours
-array-borrow-prefix-sorted-colours c = search needs
+slice-aggregate-gather-into-2 : tie.Need-slice-aggregate-gather-into-2
+slice-aggregate-gather-into-2 c =
+    search needs
 
--- src/lib.rt:222:9
-slice-aggregate-keeps-ordered-2 : tie.Need-slice-aggregate-keeps-ordered-2
-slice-aggregate-keeps-ordered-2 c =
-    sym (length-take-le (length (c .before .before .before .before .before .before .before .before .before .before .before .args .ys .now)) (replicate {A = ℕ} 32 0) (omega (arith, length-replicate {A = ℕ} 32 0, c .before .before .before .before .before .before .before .before .before .before .before .pre .0 .few-sites)))
+gather-into-requires-2 : tie.Need-gather-into-requires-2
+gather-into-requires-2 c κs =
+    let p = c .before .before .before .before .before .before .before .before .before .before .before .before .before .pre in omega (arith, p .0 .few-sites, p .1 .0 .0 .long)
 
--- src/lib.rt:223:9
-array-borrow-prefix-sorted-caps : tie.Need-array-borrow-prefix-sorted-caps
-array-borrow-prefix-sorted-caps c = search needs
+slice-aggregate-gather-into-3 : tie.Need-slice-aggregate-gather-into-3
+slice-aggregate-gather-into-3 c =
+    search needs
 
--- src/lib.rt:223:9
-slice-aggregate-keeps-ordered-3 : tie.Need-slice-aggregate-keeps-ordered-3
-slice-aggregate-keeps-ordered-3 c =
-    sym (length-take-le (length (c .before .before .before .before .before .before .before .before .before .before .before .before .args .ys .now)) (replicate {A = ℕ} 32 0) (omega (arith, length-replicate {A = ℕ} 32 0, c .before .before .before .before .before .before .before .before .before .before .before .before .pre .0 .few-sites)))
+gather-into-requires-3 : tie.Need-gather-into-requires-3
+gather-into-requires-3 c κs =
+    let p = c .before .before .before .before .before .before .before .before .before .before .before .before .before .before .before .before .pre in omega (arith, p .0 .few-sites, p .1 .0 .0 .long)
 
--- src/lib.rt:210:5
-keeps-ordered-requires : tie.Need-keeps-ordered-requires
-keeps-ordered-requires c κs =
-    let p = c .before .before .before .before .before .before .before .before .before .before .before .before .pre in
-    (p .0, ((p .1 .0 .0, p .1 .0 .1, sym (slice-aggregate-keeps-ordered (c .before .before)), sym (slice-aggregate-keeps-ordered-2 (c .before)), sym (slice-aggregate-keeps-ordered-3 c)), p .1 .1))
+array-share-prefix-sorted-ys : tie.Need-array-share-prefix-sorted-ys
+array-share-prefix-sorted-ys c =
+    omega (arith, c .before .before .before .before .before .before .before .before .before .before .before .before .before .before .before .before .before .before .pre .0 .few-sites)
 
--- src/lib.rt:189:1
+slice-aggregate-keeps-sorted : tie.Need-slice-aggregate-keeps-sorted
+slice-aggregate-keeps-sorted c =
+    let a = c .before .before .before .before .before .before .before .before .before .before .before .before .before .before .before .before .before .before .before .args in let p = c .before .before .before .before .before .before .before .before .before .before .before .before .before .before .before .before .before .before .before .pre in
+    front-long (a .ys .now) (a .order .now) _ (length (a .ys .now)) (p .1 .0 .0) (c .before .before .before .before .before .before .before .before .gather-into .ensures)
+
+array-share-prefix-sorted-colours : tie.Need-array-share-prefix-sorted-colours
+array-share-prefix-sorted-colours c =
+    omega (arith, c .before .before .before .before .before .before .before .before .before .before .before .before .before .before .before .before .before .before .before .pre .0 .few-sites)
+
+slice-aggregate-keeps-sorted-2 : tie.Need-slice-aggregate-keeps-sorted-2
+slice-aggregate-keeps-sorted-2 c =
+    let a = c .before .before .before .before .before .before .before .before .before .before .before .before .before .before .before .before .before .before .before .before .args in let p = c .before .before .before .before .before .before .before .before .before .before .before .before .before .before .before .before .before .before .before .before .pre in
+    front-long (a .colours .now) (a .order .now) _ (length (a .ys .now)) (p .1 .0 .0) (c .before .before .before .before .before .before .gather-into2 .ensures)
+
+array-share-prefix-sorted-caps : tie.Need-array-share-prefix-sorted-caps
+array-share-prefix-sorted-caps c =
+    omega (arith, c .before .before .before .before .before .before .before .before .before .before .before .before .before .before .before .before .before .before .before .before .pre .0 .few-sites)
+
+slice-aggregate-keeps-sorted-3 : tie.Need-slice-aggregate-keeps-sorted-3
+slice-aggregate-keeps-sorted-3 c =
+    let a = c .before .before .before .before .before .before .before .before .before .before .before .before .before .before .before .before .before .before .before .before .before .args in let p = c .before .before .before .before .before .before .before .before .before .before .before .before .before .before .before .before .before .before .before .before .before .pre in
+    front-long (a .caps .now) (a .order .now) _ (length (a .ys .now)) (p .1 .0 .0) (c .before .before .before .before .gather-into3 .ensures)
+
+keeps-sorted-requires : tie.Need-keeps-sorted-requires
+keeps-sorted-requires c κs =
+    let a = c .before .before .before .before .before .before .before .before .before .before .before .before .before .before .before .before .before .before .before .before .before .args in let p = c .before .before .before .before .before .before .before .before .before .before .before .before .before .before .before .before .before .before .before .before .before .pre in (
+      fits-front (a .q) (a .heights .now) (a .bounds .now) (a .radices .now) (a .draws .now) (a .ys .now) (a .colours .now) (a .caps .now) (a .order .now) (p .1 .0 .0) _ _ _ (c .before .before .before .before .before .before .before .before .before .before .gather-into .ensures) (c .before .before .before .before .before .before .before .gather-into2 .ensures) (c .before .before .before .before .gather-into3 .ensures) (p .0),
+      (
+        free-right (a .q) (a .heights .now) (a .bounds .now) (a .radices .now) (a .draws .now) (a .ys .now) (a .colours .now) (a .caps .now) (a .order .now) (p .1 .0 .0) _ _ _ (c .before .before .before .before .before .before .before .before .before .before .gather-into .ensures) (c .before .before .before .before .before .before .before .gather-into2 .ensures) (c .before .before .before .before .gather-into3 .ensures) (a .work .now) (p .1 .1 .0),
+        p .1 .0 .1,
+        some-front (a .q) (a .heights .now) (a .bounds .now) (a .radices .now) (a .draws .now) (a .ys .now) (a .colours .now) (a .caps .now) (a .order .now) (p .1 .0 .0) _ _ _ (c .before .before .before .before .before .before .before .before .before .before .gather-into .ensures) (c .before .before .before .before .before .before .before .gather-into2 .ensures) (c .before .before .before .before .gather-into3 .ensures) (p .1 .1 .1),
+      ),
+    )
+
 returns : tie.Need-returns
 returns c =
-    c .before .before .before .keeps-ordered .ensures
+    let a = c .before .before .before .before .before .before .before .before .before .before .before .before .before .before .before .before .before .before .before .before .before .before .args in let p = c .before .before .before .before .before .before .before .before .before .before .before .before .before .before .before .before .before .before .before .before .before .before .pre in
+    keeps-front (a .q) (a .heights .now) (a .bounds .now) (a .radices .now) (a .draws .now) (a .ys .now) (a .colours .now) (a .caps .now) (a .order .now) (p .1 .0 .0) _ _ _ (c .before .before .before .before .before .before .before .before .before .before .before .gather-into .ensures) (c .before .before .before .before .before .before .before .before .gather-into2 .ensures) (c .before .before .before .before .before .gather-into3 .ensures) (c .keeps-sorted .result) (c .keeps-sorted .ensures)
 
 pub keeps-least-spec : {M : Type 1} → statement M
 keeps-least-spec =
     tie.close
     (tie.spec
-    array-borrow-prefix-sorted-ys
-    slice-aggregate-keeps-ordered
-    array-borrow-prefix-sorted-colours
-    slice-aggregate-keeps-ordered-2
-    array-borrow-prefix-sorted-caps
-    slice-aggregate-keeps-ordered-3
-    keeps-ordered-requires
+    slice-aggregate-gather-into
+    gather-into-requires
+    slice-aggregate-gather-into-2
+    gather-into-requires-2
+    slice-aggregate-gather-into-3
+    gather-into-requires-3
+    array-share-prefix-sorted-ys
+    slice-aggregate-keeps-sorted
+    array-share-prefix-sorted-colours
+    slice-aggregate-keeps-sorted-2
+    array-share-prefix-sorted-caps
+    slice-aggregate-keeps-sorted-3
+    keeps-sorted-requires
     returns)

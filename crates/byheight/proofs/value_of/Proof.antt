@@ -1,64 +1,93 @@
-use lib.ListN.{replicate, length-replicate}
-use lib.Seq.{length-take-le}
-use mathlib.Core.Path.{sym}
-use Prim.Native.Nat.{ℕ}
+use Rattle.byheight.proofs.Sites.{front-long, fits-front, value-front, right-front}
 use native.Mathlib.Omega.{arith}
 use lib.ListN.{length}
 use borrow.Author.Needs.{needs}
 use Rattle.byheight.proofs.value_of.Statement.{statement}
 use Rattle.byheight.proofs.value_of.Tie as tie
 
--- src/lib.rt:142:9
-array-borrow-prefix-sorted-ys : tie.Need-array-borrow-prefix-sorted-ys
-array-borrow-prefix-sorted-ys c = search needs
+slice-aggregate-gather-into : tie.Need-slice-aggregate-gather-into
+slice-aggregate-gather-into c =
+    search needs
 
--- src/lib.rt:142:9
-slice-aggregate-value-ordered : tie.Need-slice-aggregate-value-ordered
-slice-aggregate-value-ordered c =
-    sym (length-take-le (length (c .before .before .before .before .before .before .before .before .before .before .before .args .ys .now)) (replicate {A = ℕ} 32 0) (omega (arith, length-replicate {A = ℕ} 32 0, c .before .before .before .before .before .before .before .before .before .before .before .pre .0 .few-sites)))
+gather-into-requires : tie.Need-gather-into-requires
+gather-into-requires c κs =
+    let p = c .before .before .before .before .before .before .before .before .before .before .pre in omega (arith, p .0 .few-sites, p .1 .0 .long)
 
--- src/lib.rt:143:9
-array-borrow-prefix-sorted-colours : tie.Need-array-borrow-prefix-sorted-colours
-array-borrow-prefix-sorted-colours c = search needs
+slice-aggregate-gather-into-2 : tie.Need-slice-aggregate-gather-into-2
+slice-aggregate-gather-into-2 c =
+    search needs
 
--- src/lib.rt:143:9
-slice-aggregate-value-ordered-2 : tie.Need-slice-aggregate-value-ordered-2
-slice-aggregate-value-ordered-2 c =
-    sym (length-take-le (length (c .before .before .before .before .before .before .before .before .before .before .before .before .args .ys .now)) (replicate {A = ℕ} 32 0) (omega (arith, length-replicate {A = ℕ} 32 0, c .before .before .before .before .before .before .before .before .before .before .before .before .pre .0 .few-sites)))
+gather-into-requires-2 : tie.Need-gather-into-requires-2
+gather-into-requires-2 c κs =
+    let p = c .before .before .before .before .before .before .before .before .before .before .before .before .before .pre in omega (arith, p .0 .few-sites, p .1 .0 .long)
 
--- src/lib.rt:144:9
-array-borrow-prefix-sorted-caps : tie.Need-array-borrow-prefix-sorted-caps
-array-borrow-prefix-sorted-caps c = search needs
+slice-aggregate-gather-into-3 : tie.Need-slice-aggregate-gather-into-3
+slice-aggregate-gather-into-3 c =
+    search needs
 
--- src/lib.rt:144:9
-slice-aggregate-value-ordered-3 : tie.Need-slice-aggregate-value-ordered-3
-slice-aggregate-value-ordered-3 c =
-    sym (length-take-le (length (c .before .before .before .before .before .before .before .before .before .before .before .before .before .args .ys .now)) (replicate {A = ℕ} 32 0) (omega (arith, length-replicate {A = ℕ} 32 0, c .before .before .before .before .before .before .before .before .before .before .before .before .before .pre .0 .few-sites)))
+gather-into-requires-3 : tie.Need-gather-into-requires-3
+gather-into-requires-3 c κs =
+    let p = c .before .before .before .before .before .before .before .before .before .before .before .before .before .before .before .before .pre in omega (arith, p .0 .few-sites, p .1 .0 .long)
 
--- src/lib.rt:131:5
-value-ordered-requires : tie.Need-value-ordered-requires
-value-ordered-requires c κs =
-    let p = c .before .before .before .before .before .before .before .before .before .before .before .before .before .pre in
-    (p .0, (p .1 .0, p .1 .1, sym (slice-aggregate-value-ordered (c .before .before)), sym (slice-aggregate-value-ordered-2 (c .before)), sym (slice-aggregate-value-ordered-3 c)))
+array-share-prefix-sorted-ys : tie.Need-array-share-prefix-sorted-ys
+array-share-prefix-sorted-ys c =
+    omega (arith, c .before .before .before .before .before .before .before .before .before .before .before .before .before .before .before .before .before .before .pre .0 .few-sites)
 
--- src/lib.rt:110:1
+slice-aggregate-value-of : tie.Need-slice-aggregate-value-of
+slice-aggregate-value-of c =
+    let a = c .before .before .before .before .before .before .before .before .before .before .before .before .before .before .before .before .before .before .before .args in let p = c .before .before .before .before .before .before .before .before .before .before .before .before .before .before .before .before .before .before .before .pre in
+    front-long (a .ys .now) (a .order .now) _ (length (a .ys .now)) (p .1 .0) (c .before .before .before .before .before .before .before .before .gather-into .ensures)
+
+array-share-prefix-sorted-colours : tie.Need-array-share-prefix-sorted-colours
+array-share-prefix-sorted-colours c =
+    omega (arith, c .before .before .before .before .before .before .before .before .before .before .before .before .before .before .before .before .before .before .before .pre .0 .few-sites)
+
+slice-aggregate-value-of-2 : tie.Need-slice-aggregate-value-of-2
+slice-aggregate-value-of-2 c =
+    let a = c .before .before .before .before .before .before .before .before .before .before .before .before .before .before .before .before .before .before .before .before .args in let p = c .before .before .before .before .before .before .before .before .before .before .before .before .before .before .before .before .before .before .before .before .pre in
+    front-long (a .colours .now) (a .order .now) _ (length (a .ys .now)) (p .1 .0) (c .before .before .before .before .before .before .gather-into2 .ensures)
+
+array-share-prefix-sorted-caps : tie.Need-array-share-prefix-sorted-caps
+array-share-prefix-sorted-caps c =
+    omega (arith, c .before .before .before .before .before .before .before .before .before .before .before .before .before .before .before .before .before .before .before .before .pre .0 .few-sites)
+
+slice-aggregate-value-of-3 : tie.Need-slice-aggregate-value-of-3
+slice-aggregate-value-of-3 c =
+    let a = c .before .before .before .before .before .before .before .before .before .before .before .before .before .before .before .before .before .before .before .before .before .args in let p = c .before .before .before .before .before .before .before .before .before .before .before .before .before .before .before .before .before .before .before .before .before .pre in
+    front-long (a .caps .now) (a .order .now) _ (length (a .ys .now)) (p .1 .0) (c .before .before .before .before .gather-into3 .ensures)
+
+value-of-requires : tie.Need-value-of-requires
+value-of-requires c κs =
+    let a = c .before .before .before .before .before .before .before .before .before .before .before .before .before .before .before .before .before .before .before .before .before .before .args in let p = c .before .before .before .before .before .before .before .before .before .before .before .before .before .before .before .before .before .before .before .before .before .before .pre in
+    (fits-front (a .q) (a .heights .now) (a .bounds .now) (a .radices .now) (a .draws .now) (a .ys .now) (a .colours .now) (a .caps .now) (a .order .now) (p .1 .0) _ _ _ (c .before .before .before .before .before .before .before .before .before .before .before .gather-into .ensures) (c .before .before .before .before .before .before .before .before .gather-into2 .ensures) (c .before .before .before .before .before .gather-into3 .ensures) (p .0), p .1 .1)
+
 same-length : tie.Need-same-length
-same-length c = search needs
+same-length c =
+    search needs
 
--- src/lib.rt:110:1
 returns : tie.Need-returns
-returns c = search needs
+returns c =
+    let a = c .before .before .before .before .before .before .before .before .before .before .before .before .before .before .before .before .before .before .before .before .before .before .before .before .before .args in let p = c .before .before .before .before .before .before .before .before .before .before .before .before .before .before .before .before .before .before .before .before .before .before .before .before .before .pre in let v = c .before .before .value-of in (
+      value-front (a .q) (a .heights .now) (a .bounds .now) (a .radices .now) (a .draws .now) (a .ys .now) (a .colours .now) (a .caps .now) (a .order .now) (p .1 .0) _ _ _ (c .before .before .before .before .before .before .before .before .before .before .before .before .before .before .gather-into .ensures) (c .before .before .before .before .before .before .before .before .before .before .before .gather-into2 .ensures) (c .before .before .before .before .before .before .before .before .gather-into3 .ensures) (v .result) (v .ensures .0),
+      (right-front (a .q) (a .heights .now) (a .bounds .now) (a .radices .now) (a .draws .now) (a .ys .now) (a .colours .now) (a .caps .now) (a .order .now) (p .1 .0) _ _ _ (c .before .before .before .before .before .before .before .before .before .before .before .before .before .before .gather-into .ensures) (c .before .before .before .before .before .before .before .before .before .before .before .gather-into2 .ensures) (c .before .before .before .before .before .before .before .before .gather-into3 .ensures) _ (v .ensures .1 .0), v .ensures .1 .1),
+    )
 
 pub value-of-spec : {M : Type 1} → statement M
 value-of-spec =
     tie.close
     (tie.spec
-    array-borrow-prefix-sorted-ys
-    slice-aggregate-value-ordered
-    array-borrow-prefix-sorted-colours
-    slice-aggregate-value-ordered-2
-    array-borrow-prefix-sorted-caps
-    slice-aggregate-value-ordered-3
-    value-ordered-requires
+    slice-aggregate-gather-into
+    gather-into-requires
+    slice-aggregate-gather-into-2
+    gather-into-requires-2
+    slice-aggregate-gather-into-3
+    gather-into-requires-3
+    array-share-prefix-sorted-ys
+    slice-aggregate-value-of
+    array-share-prefix-sorted-colours
+    slice-aggregate-value-of-2
+    array-share-prefix-sorted-caps
+    slice-aggregate-value-of-3
+    value-of-requires
     same-length
     returns)

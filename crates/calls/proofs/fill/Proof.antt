@@ -6,10 +6,10 @@ use Rattle.calls.proofs.fill.Statement.{statement}
 use Rattle.calls.proofs.fill.Tie as tie
 
 abbrev Inv-loop : tie.InvT-loop
-Inv-loop area₀ salt i₀ area i = (i ≤ length area₀) × (length area ≡ length area₀)
+Inv-loop area₀ seed i₀ area i = (i ≤ length area₀) × (length area ≡ length area₀)
 
 abbrev μ-loop : tie.MeasureT-loop
-μ-loop area₀ salt i₀ area i = length area₀ - i
+μ-loop area₀ seed i₀ area i = length area₀ - i
 
 loop-holds : tie.Need-loop-holds Inv-loop μ-loop
 loop-holds c = search needs

@@ -5,10 +5,10 @@ use Rattle.calls.proofs.is_answer_right.Statement.{statement}
 use Rattle.calls.proofs.is_answer_right.Tie as tie
 
 abbrev Inv-loop : tie.InvT-loop
-Inv-loop out layout e i₀ i = (i ≤ length out)
+Inv-loop out e i₀ i = i ≤ length out
 
 abbrev μ-loop : tie.MeasureT-loop
-μ-loop out layout e i₀ i = length out - i
+μ-loop out e i₀ i = length out - i
 
 loop-holds : tie.Need-loop-holds Inv-loop μ-loop
 loop-holds c = search needs

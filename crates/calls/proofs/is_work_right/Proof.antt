@@ -5,7 +5,7 @@ use Rattle.calls.proofs.is_work_right.Statement.{statement}
 use Rattle.calls.proofs.is_work_right.Tie as tie
 
 abbrev Inv-loop : tie.InvT-loop
-Inv-loop work e i₀ i = (i ≤ length work)
+Inv-loop work e i₀ i = i ≤ length work
 
 abbrev μ-loop : tie.MeasureT-loop
 μ-loop work e i₀ i = length work - i

@@ -1,5 +1,5 @@
 use Rattle.lists.proofs.Tests.{not-e, not-f}
-use Rattle.strips.specs.Strips.{stripOf, pointOf}
+use Rattle.rows.specs.Rows.{stripOf, pointOf}
 use Rattle.entries.proofs.Places.{own-fits}
 use Rattle.entries.proofs.Terms.{row-copied, row-joined, row-opened}
 use mathlib.Core.Path.{ap, sym, _∙_}
@@ -13,9 +13,9 @@ use Rattle.entries.proofs.fill_row.Lts as lts
 use Rattle.strips.proofs.is_inside.Reads as is-inside-reads
 use Rattle.strips.proofs.site_opens.Reads as site-opens-reads
 use Rattle.entries.proofs.copy_row.Reads as copy-row-reads
-use Rattle.entries.proofs.join_least.Reads as join-least-reads
+use Rattle.strips.proofs.join_least.Reads as join-least-reads
 use Rattle.entries.proofs.open_slots.Reads as open-slots-reads
-use Rattle.entries.proofs.row_place.Reads as row-place-reads
+use Rattle.rows.proofs.row_place.Reads as row-place-reads
 use Rattle.entries.proofs.start_row.Reads as start-row-reads
 
 -- src/lib.rt:160:13

@@ -1,4 +1,4 @@
-use Rattle.strips.specs.Strips.{stripOf, pointOf}
+use Rattle.rows.specs.Rows.{stripOf, pointOf}
 use Rattle.entries.proofs.Terms.{Tried, tried-more, tried-start, tried-end, window-gap}
 use mathlib.Core.Path.{_≡_}
 use Prim.Native.Nat.{_+_, _-_, _≤_}

@@ -1,9 +1,8 @@
-use Prim.Native.Nat.{min}
-use Rattle.strips.specs.Strips.{stripOf, pointOf}
+use Prim.Native.Nat.{min, _+_, _-_}
+use Rattle.rows.specs.Rows.{stripOf, pointOf}
 use Rattle.entries.proofs.Places.{upper-fits, lower-fits}
 use Rattle.entries.proofs.Terms.{slot-none, slot-open}
 use mathlib.Core.Path.{refl, ap, sym, _∙_}
-use Prim.Native.Nat.{_+_, _-_}
 use native.Mathlib.Omega.{arith}
 use lib.ListN.{getD}
 use borrow.Author.Needs.{needs}
@@ -12,7 +11,7 @@ use Rattle.entries.proofs.open_slot.Tie as tie
 use Rattle.entries.proofs.open_slot.Reads as reads
 use Rattle.entries.proofs.open_slot.Lts as lts
 use Rattle.entries.proofs.open_row.Reads as open-row-reads
-use Rattle.entries.proofs.part_places.Reads as part-places-reads
+use Rattle.rows.proofs.part_places.Reads as part-places-reads
 use Rattle.strips.proofs.open_cost.Reads as open-cost-reads
 use Rattle.words.proofs.either.Reads as either-reads
 use Rattle.words.proofs.same.Reads as same-reads

@@ -1,4 +1,4 @@
-use Rattle.strips.specs.Strips.{stripOf, pointOf}
+use Rattle.rows.specs.Rows.{stripOf, pointOf}
 use Rattle.entries.proofs.Terms.{tried-empty}
 use Rattle.entries.proofs.Single.{single-of, single-row}
 use mathlib.Core.Path.{sym, _∙_}
@@ -54,12 +54,10 @@ slice-reshared-read-least-open c =
 least-open-requires : tie.Need-least-open-requires
 least-open-requires c κs =
     let p = c .before .before .before .before .before .before .before .before .before .before .before .before .before .pre in
-    let a = c .before .before .before .before .before .before .before .before .before .before .before .before .before .args in
     let f = p .0 .framed in
-    let o = single-of (a .q .budgets) (a .parts .now) (a .counts .now) (a .left .now) (sym (c .before .before .is-single .ensures) ∙ c .before .if2 .taken) in
     let w = c .before .before .before .before .before .before .open-window .ensures in
     let l = c .before .before .before .before .if1 .left in
-    ((record { narrow = f .narrow; heightLow = f .heightLow; yLow = p .0 .stands .yLow }, f .slotsFew, f .coloursFew, p .0 .stands .colourLow, o .one), ((p .1, p .0 .within), (l, w .high l)))
+    ((record { narrow = f .narrow; heightLow = f .heightLow; yLow = p .0 .stands .yLow }, p .0 .stands .colourLow, record { slotsFew = f .slotsFew; coloursFew = f .coloursFew; budgetsFew = f .budgetsFew; budgetsSome = f .budgetsSome; within = p .0 .within }), (p .1, (l, w .high l)))
 
 -- src/lib.rt:297:9
 mul-work : tie.Need-mul-work

@@ -1,5 +1,5 @@
-use Rattle.keeps.proofs.Search.{search-found, search-end, root-reached, table-at, search-on}
-use Rattle.keeps.specs.Marked.{Reached, Search}
+use Rattle.marking.proofs.Search.{search-found, search-end, root-reached, table-at, search-on}
+use Rattle.marking.specs.Marked.{Reached, Search}
 use Rattle.usedslots.proofs.Entries.{codes-in}
 use Rattle.usedslots.proofs.Links.{row-there}
 use Rattle.usedslots.specs.Table.{tableBy, capsIn}

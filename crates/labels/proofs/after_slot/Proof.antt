@@ -1,7 +1,7 @@
 use Rattle.usedslots.specs.Table.{tableBy, capsIn}
 use Rattle.labels.proofs.Least.{least-skip, least-lost}
 use mathlib.Core.Path.{refl}
-use Prim.Native.Nat.{suc, _-_}
+use Prim.Native.Nat.{suc}
 use borrow.Author.Needs.{needs}
 use Rattle.labels.proofs.after_slot.Statement.{statement}
 use Rattle.labels.proofs.after_slot.Tie as tie
@@ -28,7 +28,7 @@ with-label-requires c κs = search needs
 
 -- src/lib.rt:91:1
 returns-3 : tie.Need-returns-3
-returns-3 c = search needs
+returns-3 c = c .with-label .ensures
 
 pub after-slot-spec : {M : Type 1} → statement M
 after-slot-spec =

@@ -1,10 +1,7 @@
-use mathlib.Core.Path.{ap₂}
-use Rattle.strips.specs.Strips.{stripOf, pointOf}
-use Rattle.entries.specs.Rows.{rowOf}
-use Rattle.entries.proofs.Places.{row-fits}
-use Rattle.marks.specs.Marks.{endPlace}
+use mathlib.Core.Path.{ap₂, _≡_, refl, ap, sym, _∙_}
+use Rattle.rows.specs.Rows.{stripOf, pointOf, rowOf, endPlace}
+use Rattle.rows.proofs.Places.{row-fits}
 use Rattle.marks.proofs.Followed.{Followed, followed-none, followed-more, followed-all, next-row, next-slot, later-end, start-lies, lies-at, room-of, at-low}
-use mathlib.Core.Path.{_≡_, refl, ap, sym, _∙_}
 use Prim.Native.Nat.{ℕ, _+_, _-_, _*_, _≤_}
 use native.Mathlib.Omega.{arith}
 use lib.ListN.{length}
@@ -13,9 +10,9 @@ use Rattle.marks.proofs.follow_below.Statement.{statement}
 use Rattle.marks.proofs.follow_below.Tie as tie
 use Rattle.marks.proofs.follow_below.Reads as reads
 use Rattle.marks.proofs.follow_below.Lts as lts
-use Rattle.entries.proofs.row_place.Reads as row-place-reads
+use Rattle.rows.proofs.row_place.Reads as row-place-reads
 use Rattle.marks.proofs.follow.Reads as follow-reads
-use Rattle.marks.proofs.next_below.Reads as next-below-reads
+use Rattle.rows.proofs.next_below.Reads as next-below-reads
 
 abbrev Inv-loop : tie.InvT-loop
 Inv-loop work₀ q heights bounds s base low n ends p₀ at₀ work p at = (p .a ≡ p₀ .a) × (p .ca ≡ p₀ .ca) × (p .cb ≤ q .colours) × (p .b ≤ length heights + 2) × (at ≡ base + rowOf (length heights) (q .colours) (stripOf p) * q .budgets) × (length work ≡ length work₀) × Followed q heights bounds base low (pointOf s) work₀ work (endPlace (q .colours) (p .a) (p .ca)) (endPlace (q .colours) (p .b) (p .cb))

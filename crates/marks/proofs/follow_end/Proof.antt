@@ -1,4 +1,4 @@
-use Rattle.marks.proofs.Marking.{marking-none}
+use Rattle.parts.proofs.Marking.{marking-none}
 use Rattle.marks.proofs.Followed.{ended}
 use mathlib.Core.Path.{sym, _∙_}
 use Prim.Native.Nat.{_-_}
@@ -8,7 +8,7 @@ use Rattle.marks.proofs.follow_end.Tie as tie
 use Rattle.marks.proofs.follow_end.Reads as reads
 use Rattle.marks.proofs.follow_end.Lts as lts
 use Rattle.marks.proofs.follow_below.Reads as follow-below-reads
-use Rattle.marks.proofs.is_upper_end.Reads as is-upper-end-reads
+use Rattle.rows.proofs.is_upper_end.Reads as is-upper-end-reads
 
 -- src/lib.rt:226:8
 is-upper-end-requires : tie.Need-is-upper-end-requires

@@ -1,5 +1,4 @@
-use Rattle.strips.specs.Strips.{pointOf}
-use Rattle.marks.specs.Marks.{endPlace}
+use Rattle.rows.specs.Rows.{pointOf, endPlace}
 use Rattle.marks.proofs.Followed.{Passed, passed-none, passed-more, passed-all, next-slot, later-end}
 use mathlib.Core.Path.{_≡_, refl, _∙_}
 use Prim.Native.Nat.{_+_, _-_, _≤_}
@@ -11,7 +10,7 @@ use Rattle.marks.proofs.follow_level.Tie as tie
 use Rattle.marks.proofs.follow_level.Reads as reads
 use Rattle.marks.proofs.follow_level.Lts as lts
 use Rattle.marks.proofs.follow_end.Reads as follow-end-reads
-use Rattle.marks.proofs.next_end.Reads as next-end-reads
+use Rattle.rows.proofs.next_end.Reads as next-end-reads
 
 abbrev Inv-loop : tie.InvT-loop
 Inv-loop work₀ q heights bounds s base low ends above₀ work above = (above .colour ≤ q .colours) × (above .slot ≤ length heights + 1) × (length work ≡ length work₀) × Passed q heights bounds base low (pointOf s) work₀ work (endPlace (q .colours) (above .slot) (above .colour))

@@ -1,5 +1,5 @@
 use Rattle.lists.proofs.Tests.{not-f, clash}
-use Rattle.marks.proofs.Marking.{marking-none, own-room, own-marking, own-marked}
+use Rattle.parts.proofs.Marking.{marking-none, own-room, own-marking, own-marked}
 use mathlib.Core.Path.{refl, ap}
 use Prim.Native.Nat.{ℕ, _+_, _-_}
 use native.Mathlib.Omega.{arith}
@@ -8,7 +8,7 @@ use Rattle.marks.proofs.mark_own.Statement.{statement}
 use Rattle.marks.proofs.mark_own.Tie as tie
 use Rattle.marks.proofs.mark_own.Reads as reads
 use Rattle.marks.proofs.mark_own.Lts as lts
-use Rattle.entries.proofs.row_place.Reads as row-place-reads
+use Rattle.rows.proofs.row_place.Reads as row-place-reads
 
 -- src/lib.rt:57:9
 returns : tie.Need-returns

@@ -1,8 +1,8 @@
 use lib.Dec.{ltb}
 use Rattle.lists.proofs.Tests.{not-e, not-f, clash}
 use Rattle.optimum.specs.OneSided.{topWord}
-use Rattle.strips.specs.Strips.{stripOf, pointOf}
-use Rattle.marks.proofs.Marking.{marking-join}
+use Rattle.rows.specs.Rows.{stripOf, pointOf}
+use Rattle.parts.proofs.Marking.{marking-join}
 use Rattle.marks.proofs.Asked.{marked-out, marked-in}
 use mathlib.Core.Path.{refl, ap, sym, _∙_}
 use Prim.Native.Nat.{ℕ, _-_}
@@ -13,7 +13,7 @@ use Rattle.marks.proofs.mark_row.Statement.{statement}
 use Rattle.marks.proofs.mark_row.Tie as tie
 use Rattle.marks.proofs.mark_row.Reads as reads
 use Rattle.marks.proofs.mark_row.Lts as lts
-use Rattle.entries.proofs.join_least.Reads as join-least-reads
+use Rattle.strips.proofs.join_least.Reads as join-least-reads
 use Rattle.marks.proofs.mark_own.Reads as mark-own-reads
 use Rattle.marks.proofs.mark_window.Reads as mark-window-reads
 use Rattle.strips.proofs.is_inside.Reads as is-inside-reads

@@ -1,8 +1,8 @@
 use native.Mathlib.Nat.{mul-le-mul}
 use Rattle.arrays.specs.Arrays.{pointsBy}
-use Rattle.strips.specs.Strips.{instanceOn}
-use Rattle.entries.specs.Rows.{levelSize, Framed}
-use Rattle.entries.proofs.Places.{rows-few}
+use Rattle.strips.specs.Strips.{instanceOn, Framed}
+use Rattle.rows.specs.Rows.{levelSize}
+use Rattle.rows.proofs.Places.{rows-few}
 use Rattle.marks.specs.Marks.{Sites, ReachMarked}
 use Rattle.marks.proofs.Levels.{level-small, count-words, first-room, past-level, enough, few, few-rows}
 use Rattle.marks.proofs.Reach.{reach-first, reach-more, whole-marked, to-level}

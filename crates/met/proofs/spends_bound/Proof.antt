@@ -9,14 +9,11 @@ Inv-loop sheet layout n c₀ c = c ≤ n
 abbrev μ-loop : tie.MeasureT-loop
 μ-loop sheet layout n c₀ c = n - c
 
-colours-requires : tie.Need-colours-requires Inv-loop μ-loop
-colours-requires c κs = search needs
-
 loop-holds : tie.Need-loop-holds Inv-loop μ-loop
 loop-holds c = search needs
 
-bound-requires : tie.Need-bound-requires Inv-loop μ-loop
-bound-requires c κs = search needs
+at-requires : tie.Need-at-requires Inv-loop μ-loop
+at-requires c κs = search needs
 
 labels-of-requires : tie.Need-labels-of-requires Inv-loop μ-loop
 labels-of-requires c κs = search needs
@@ -42,9 +39,8 @@ spends-bound-spec =
     (tie.spec
     Inv-loop
     μ-loop
-    colours-requires
     loop-holds
-    bound-requires
+    at-requires
     labels-of-requires
     returns
     add-c

@@ -1,6 +1,6 @@
 use lib.ListN.{replicate, length-replicate}
 use lib.Seq.{length-take-le}
-use Rattle.onesided.proofs.Facts.{filled-is, zeros-part, wiped-same}
+use Rattle.onesided.proofs.Facts.{filled-is, zeros-part, wiped-same, wipes-is}
 use mathlib.Core.Path.{refl, sym, _∙_}
 use Prim.Native.Nat.{ℕ, _-_}
 use native.Mathlib.Omega.{arith}
@@ -26,38 +26,57 @@ list-splits-requires : tie.Need-list-splits-requires
 list-splits-requires c κs =
     let g = c .before .before .before .before .before .before .before .before .before .before .before .before .before .before .before .before .before .pre .0 in (g .divides, (g .framed .budgetsFew, refl, refl))
 
-slice-aggregate-finish : tie.Need-slice-aggregate-finish
-slice-aggregate-finish c = search needs
+slice-aggregate-lay-least : tie.Need-slice-aggregate-lay-least
+slice-aggregate-lay-least c = search needs
 
-slice-aggregate-finish-2 : tie.Need-slice-aggregate-finish-2
-slice-aggregate-finish-2 c = search needs
+slice-aggregate-lay-least-2 : tie.Need-slice-aggregate-lay-least-2
+slice-aggregate-lay-least-2 c = search needs
 
 array-borrow-prefix-labels : tie.Need-array-borrow-prefix-labels
 array-borrow-prefix-labels c =
     omega (arith, c .before .before .before .before .before .before .before .before .before .before .before .before .before .before .before .before .before .before .before .before .before .before .pre .0 .framed .slotsFew)
 
-slice-aggregate-finish-3 : tie.Need-slice-aggregate-finish-3
-slice-aggregate-finish-3 c =
+slice-aggregate-lay-least-3 : tie.Need-slice-aggregate-lay-least-3
+slice-aggregate-lay-least-3 c =
     let m = length (c .before .before .before .before .before .before .before .before .before .before .before .before .before .before .before .before .before .before .before .before .before .before .before .args .heights .now) in
     sym (length-take-le m (replicate {A = ℕ} 48 0) (omega (arith, length-replicate {A = ℕ} 48 0, c .before .before .before .before .before .before .before .before .before .before .before .before .before .before .before .before .before .before .before .before .before .before .before .pre .0 .framed .slotsFew)))
 
-finish-requires : tie.Need-finish-requires
-finish-requires c κs =
+lay-least-requires : tie.Need-lay-least-requires
+lay-least-requires c κs =
     let p = c .before .before .before .before .before .before .before .before .before .before .before .before .before .before .before .before .before .before .before .before .before .before .before .before .before .pre in
     filled-is _ _ _ _ _ _ _ _ _ _ _ _ _ _ _ (c .before .before .before .before .before .before .before .before .before .before .before .before .before .fill-table .kept .0) (p .0) (p .1) (c .before .before .before .before .before .before .before .list-splits .ensures) (c .before .before .before .before .before .before .before .before .before .before .before .before .before .fill-table .ensures .0) (zeros-part _ 48 (p .0 .framed .slotsFew))
 
+level-size-requires : tie.Need-level-size-requires
+level-size-requires c κs =
+    let f = c .before .before .before .before .before .before .before .before .before .before .before .before .before .before .before .before .before .before .before .before .before .before .before .before .before .before .before .before .before .pre .0 .framed in (f .slotsFew, f .coloursFew, f .budgetsFew)
+
+add-clear : tie.Need-add-clear
+add-clear c =
+    let p = c .before .before .before .before .before .before .before .before .before .before .before .before .before .before .before .before .before .before .before .before .before .before .before .before .before .before .before .before .before .before .before .pre in omega (arith, p .1 .long, p .0 .sites .sitesFew)
+
+mul-clear : tie.Need-mul-clear
+mul-clear c =
+    let p = c .before .before .before .before .before .before .before .before .before .before .before .before .before .before .before .before .before .before .before .before .before .before .before .before .before .before .before .before .before .before .before .pre in let a = c .before .before .before .before .before .before .before .before .before .before .before .before .before .before .before .before .before .before .before .before .before .before .before .before .before .before .before .before .before .before .before .args in
+    omega (arith, wipes-is (a .q) (a .heights .now) (a .bounds .now) (a .radices .now) (a .draws .now) (a .xs .now) (a .ys .now) (a .colours .now) (a .order .now) (a .out .now) (length (a .work .now)) _ (p .0) (p .1) (c .before .level-size .ensures) .small)
+
+clear-requires : tie.Need-clear-requires
+clear-requires c κs =
+    let p = c .before .before .before .before .before .before .before .before .before .before .before .before .before .before .before .before .before .before .before .before .before .before .before .before .before .before .before .before .before .before .before .pre in let a = c .before .before .before .before .before .before .before .before .before .before .before .before .before .before .before .before .before .before .before .before .before .before .before .before .before .before .before .before .before .before .before .args in
+    rw (c .before .before .before .before .before .before .before .before .before .before .before .before .before .before .before .before .before .before .before .fill-table .kept .0) (wipes-is (a .q) (a .heights .now) (a .bounds .now) (a .radices .now) (a .draws .now) (a .xs .now) (a .ys .now) (a .colours .now) (a .order .now) (a .out .now) (length (a .work .now)) _ (p .0) (p .1) (c .before .level-size .ensures) .fits)
+
 same-length : tie.Need-same-length
 same-length c =
-    search (needs, c .before .before .before .before .before .finish .kept, c .before .before .before .before .before .before .before .before .before .before .before .before .before .before .before .before .before .before .before .fill-table .kept)
+    c .before .before .clear .kept .0 ∙ c .before .before .before .before .before .before .before .before .before .before .before .before .before .before .before .before .before .before .before .before .before .before .fill-table .kept .0
 
 same-length-2 : tie.Need-same-length-2
 same-length-2 c = search needs
 
 returns : tie.Need-returns
 returns c =
-    let p = c .before .before .before .before .before .before .before .before .before .before .before .before .before .before .before .before .before .before .before .before .before .before .before .before .before .before .before .before .before .before .before .pre in
-    let f = c .before .before .before .before .before .finish .ensures in
-    (f .0, (f .1 .0 ∙ wiped-same _ _ _ _ _ _ _ _ _ _ _ (p .0) (c .before .before .before .before .before .before .before .before .before .before .before .before .before .before .before .before .before .before .before .fill-table .ensures .1), f .1 .1))
+    let p = c .before .before .before .before .before .before .before .before .before .before .before .before .before .before .before .before .before .before .before .before .before .before .before .before .before .before .before .before .before .before .before .before .before .before .pre in let a = c .before .before .before .before .before .before .before .before .before .before .before .before .before .before .before .before .before .before .before .before .before .before .before .before .before .before .before .before .before .before .before .before .before .before .args in
+    let f = c .before .before .before .before .before .before .before .before .lay-least .ensures in
+    let w = wipes-is (a .q) (a .heights .now) (a .bounds .now) (a .radices .now) (a .draws .now) (a .xs .now) (a .ys .now) (a .colours .now) (a .order .now) (a .out .now) (length (a .work .now)) _ (p .0) (p .1) (c .before .before .before .before .level-size .ensures) in
+    (f .0, (c .before .before .clear .ensures ∙ w .wipes _ ∙ wiped-same _ _ _ _ _ _ _ _ _ _ _ (p .0) (c .before .before .before .before .before .before .before .before .before .before .before .before .before .before .before .before .before .before .before .before .before .before .fill-table .ensures .1), f .1))
 
 pub lay-ranked-spec : {M : Type 1} → statement M
 lay-ranked-spec =
@@ -68,11 +87,15 @@ lay-ranked-spec =
     slice-aggregate-list-splits
     slice-aggregate-list-splits-2
     list-splits-requires
-    slice-aggregate-finish
-    slice-aggregate-finish-2
+    slice-aggregate-lay-least
+    slice-aggregate-lay-least-2
     array-borrow-prefix-labels
-    slice-aggregate-finish-3
-    finish-requires
+    slice-aggregate-lay-least-3
+    lay-least-requires
+    level-size-requires
+    add-clear
+    mul-clear
+    clear-requires
     same-length
     same-length-2
     returns)

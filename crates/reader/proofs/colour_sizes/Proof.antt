@@ -45,15 +45,15 @@ cast-sites c =
     let s = c .before .before .before .before .before .before .before .before .args .body .now in
     omega (arith, run-at s (c .before .before .before .before .before .loop .i + 1), c .before .before .before .before .before .before .before .before .pre)
 
-cast-bound : tie.Need-cast-bound Inv-loop μ-loop
-cast-bound c = search needs
+bound-of-requires : tie.Need-bound-of-requires Inv-loop μ-loop
+bound-of-requires c κs = search needs
 
 -- a colour here is one of at most eight
-room : (c : tie.After-sites-run Inv-loop μ-loop) → c .before .before .before .before .before .loop .c < 8
+room : (c : tie.After-bound-of Inv-loop μ-loop) → c .before .before .before .before .before .before .loop .c < 8
 room c =
-    let s = c .before .before .before .before .before .before .before .before .args .body .now in
-    let l = c .before .before .before .before .before .loop in
-    omega (arith, ap length (colours-yes s (l .i) (c .before .before .before .before .loop-test .taken) (omega arith)), l .inv .count, c .before .before .before .before .before .before .before .before .pre)
+    let s = c .before .before .before .before .before .before .before .before .before .args .body .now in
+    let l = c .before .before .before .before .before .before .loop in
+    omega (arith, ap length (colours-yes s (l .i) (c .before .before .before .before .before .loop-test .taken) (omega arith)), l .inv .count, c .before .before .before .before .before .before .before .before .before .pre)
 
 mul-colours : tie.Need-mul-colours Inv-loop μ-loop
 mul-colours c =
@@ -82,7 +82,7 @@ loop-again c =
     (λ w.
     let k : kindOf (getD s (l .i) 0) ≡ 3 = omega arith in
     let below : l .c < 8 = omega (arith, ap length (colours-yes s (l .i) in-list k), l .inv .count, c .before .before .before .before .before .before .before .pre) in
-    rw (w .2, w .3) (filled-yes s (l .colours) (l .c) (l .i) _ _ in-list below k (omega arith) (w .1 .ensures) (l .inv)))
+    rw (w .3, w .4) (filled-yes s (l .colours) (l .c) (l .i) _ _ in-list below k (w .2 .ensures) (w .1 .ensures) (l .inv)))
     (λ w. rw (w .1, w .2) (filled-no s (l .colours) (l .c) (l .i) in-list (λ e. omega arith) (l .inv)))
     (c .if1 .came)
 
@@ -104,7 +104,7 @@ colour-sizes-spec =
     add-sites-run
     sites-run-requires
     cast-sites
-    cast-bound
+    bound-of-requires
     mul-colours
     array-set-from-colours
     add-c

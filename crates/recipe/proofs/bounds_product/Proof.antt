@@ -4,19 +4,16 @@ use Rattle.recipe.proofs.bounds_product.Statement.{statement}
 use Rattle.recipe.proofs.bounds_product.Tie as tie
 
 abbrev Inv-loop : tie.InvT-loop
-Inv-loop sheet n p₀ i₀ p i = i ≤ n
+Inv-loop bounds n p₀ i₀ p i = i ≤ n
 
 abbrev μ-loop : tie.MeasureT-loop
-μ-loop sheet n p₀ i₀ p i = n - i
-
-colours-requires : tie.Need-colours-requires Inv-loop μ-loop
-colours-requires c κs = search needs
+μ-loop bounds n p₀ i₀ p i = n - i
 
 loop-holds : tie.Need-loop-holds Inv-loop μ-loop
 loop-holds c = search needs
 
-bound-requires : tie.Need-bound-requires Inv-loop μ-loop
-bound-requires c κs = search needs
+at-requires : tie.Need-at-requires Inv-loop μ-loop
+at-requires c κs = search needs
 
 sum-requires : tie.Need-sum-requires Inv-loop μ-loop
 sum-requires c κs = search needs
@@ -42,9 +39,8 @@ bounds-product-spec =
     (tie.spec
     Inv-loop
     μ-loop
-    colours-requires
     loop-holds
-    bound-requires
+    at-requires
     sum-requires
     product-requires
     add-i

@@ -1,30 +1,31 @@
-use mathlib.Core.Path.{_≡_}
 use Prim.Native.Nat.{_-_, _≤_}
-use lib.ListN.{length}
 use borrow.Author.Needs.{needs}
 use Rattle.recipe.proofs.make_bounds.Statement.{statement}
 use Rattle.recipe.proofs.make_bounds.Tie as tie
 
 abbrev Inv-loop : tie.InvT-loop
-Inv-loop seed₀ sheet₀ n i₀ seed sheet i = (i ≤ n) × (length seed ≡ length seed₀) × (length sheet ≡ length sheet₀)
+Inv-loop seed n row₀ last₀ i₀ row last i = i ≤ n
 
 abbrev μ-loop : tie.MeasureT-loop
-μ-loop seed₀ sheet₀ n i₀ seed sheet i = n - i
-
-colours-requires : tie.Need-colours-requires Inv-loop μ-loop
-colours-requires c κs = search needs
+μ-loop seed n row₀ last₀ i₀ row last i = n - i
 
 loop-holds : tie.Need-loop-holds Inv-loop μ-loop
 loop-holds c = search needs
 
-make-bound-requires : tie.Need-make-bound-requires Inv-loop μ-loop
-make-bound-requires c κs = search needs
+next-requires : tie.Need-next-requires Inv-loop μ-loop
+next-requires c κs = search needs
 
-add-put : tie.Need-add-put Inv-loop μ-loop
-add-put c = search needs
+drawn-requires : tie.Need-drawn-requires Inv-loop μ-loop
+drawn-requires c κs = search needs
 
-put-requires : tie.Need-put-requires Inv-loop μ-loop
-put-requires c κs = search needs
+seed-for-requires : tie.Need-seed-for-requires Inv-loop μ-loop
+seed-for-requires c κs = search needs
+
+bound-for-requires : tie.Need-bound-for-requires Inv-loop μ-loop
+bound-for-requires c κs = search needs
+
+with-requires : tie.Need-with-requires Inv-loop μ-loop
+with-requires c κs = search needs
 
 add-i : tie.Need-add-i Inv-loop μ-loop
 add-i c = search needs
@@ -35,12 +36,6 @@ loop-less c = search needs
 loop-again : tie.Need-loop-again Inv-loop μ-loop
 loop-again c = search needs
 
-same-length : tie.Need-same-length Inv-loop μ-loop
-same-length c = search needs
-
-same-length-2 : tie.Need-same-length-2 Inv-loop μ-loop
-same-length-2 c = search needs
-
 returns : tie.Need-returns Inv-loop μ-loop
 returns c = search needs
 
@@ -50,14 +45,13 @@ make-bounds-spec =
     (tie.spec
     Inv-loop
     μ-loop
-    colours-requires
     loop-holds
-    make-bound-requires
-    add-put
-    put-requires
+    next-requires
+    drawn-requires
+    seed-for-requires
+    bound-for-requires
+    with-requires
     add-i
     loop-less
     loop-again
-    same-length
-    same-length-2
     returns)

@@ -1,27 +1,46 @@
-use mathlib.Core.Path.{_≡_}
 use Prim.Native.Nat.{_-_, _≤_}
-use lib.ListN.{length}
 use borrow.Author.Needs.{needs}
 use Rattle.recipe.proofs.make_sites.Statement.{statement}
 use Rattle.recipe.proofs.make_sites.Tie as tie
 
 abbrev Inv-loop : tie.InvT-loop
-Inv-loop seed₀ sheet₀ n colour₀ i₀ seed sheet colour i = (i ≤ n) × (length seed ≡ length seed₀) × (length sheet ≡ length sheet₀)
+Inv-loop sheet made₀ columns rows first site₀ n i₀ made site i = i ≤ n
 
 abbrev μ-loop : tie.MeasureT-loop
-μ-loop seed₀ sheet₀ n colour₀ i₀ seed sheet colour i = n - i
+μ-loop sheet made₀ columns rows first site₀ n i₀ made site i = n - i
 
-sites-requires : tie.Need-sites-requires Inv-loop μ-loop
-sites-requires c κs = search needs
+sum-requires : tie.Need-sum-requires Inv-loop μ-loop
+sum-requires c κs = search needs
 
-draw-requires : tie.Need-draw-requires Inv-loop μ-loop
-draw-requires c κs = search needs
+last-of-requires : tie.Need-last-of-requires Inv-loop μ-loop
+last-of-requires c κs = search needs
+
+at-requires : tie.Need-at-requires Inv-loop μ-loop
+at-requires c κs = search needs
+
+sum-requires-2 : tie.Need-sum-requires-2 Inv-loop μ-loop
+sum-requires-2 c κs = search needs
+
+next-requires : tie.Need-next-requires Inv-loop μ-loop
+next-requires c κs = search needs
+
+drawn-requires : tie.Need-drawn-requires Inv-loop μ-loop
+drawn-requires c κs = search needs
 
 loop-holds : tie.Need-loop-holds Inv-loop μ-loop
 loop-holds c = search needs
 
-make-site-requires : tie.Need-make-site-requires Inv-loop μ-loop
-make-site-requires c κs = search needs
+site-after-requires : tie.Need-site-after-requires Inv-loop μ-loop
+site-after-requires c κs = search needs
+
+with-requires : tie.Need-with-requires Inv-loop μ-loop
+with-requires c κs = search needs
+
+with-requires-2 : tie.Need-with-requires-2 Inv-loop μ-loop
+with-requires-2 c κs = search needs
+
+with-requires-3 : tie.Need-with-requires-3 Inv-loop μ-loop
+with-requires-3 c κs = search needs
 
 add-i : tie.Need-add-i Inv-loop μ-loop
 add-i c = search needs
@@ -32,12 +51,6 @@ loop-less c = search needs
 loop-again : tie.Need-loop-again Inv-loop μ-loop
 loop-again c = search needs
 
-same-length : tie.Need-same-length Inv-loop μ-loop
-same-length c = search needs
-
-same-length-2 : tie.Need-same-length-2 Inv-loop μ-loop
-same-length-2 c = search needs
-
 returns : tie.Need-returns Inv-loop μ-loop
 returns c = search needs
 
@@ -47,13 +60,18 @@ make-sites-spec =
     (tie.spec
     Inv-loop
     μ-loop
-    sites-requires
-    draw-requires
+    sum-requires
+    last-of-requires
+    at-requires
+    sum-requires-2
+    next-requires
+    drawn-requires
     loop-holds
-    make-site-requires
+    site-after-requires
+    with-requires
+    with-requires-2
+    with-requires-3
     add-i
     loop-less
     loop-again
-    same-length
-    same-length-2
     returns)

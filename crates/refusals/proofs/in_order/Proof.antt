@@ -5,7 +5,7 @@ use lib.ListN.{drop-of-length-le, length, getD, drop}
 use borrow.Author.Tests.{ne-eqb}
 use borrow.Author.Needs.{needs}
 use Rattle.sheet.specs.Sheet.{inOrder}
-use Rattle.wordwise.specs.Wordwise.{stageAfter}
+use Rattle.stages.specs.Stages.{stageAfter}
 use Rattle.refusals.proofs.Order.{order-at}
 use Rattle.refusals.proofs.in_order.Statement.{statement}
 use Rattle.refusals.proofs.in_order.Tie as tie

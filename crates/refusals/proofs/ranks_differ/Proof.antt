@@ -5,9 +5,9 @@ use lib.ListN.{drop-of-length-le, length, drop}
 use borrow.Author.Tests.{not-true, not-false}
 use borrow.Author.Needs.{needs}
 use Rattle.lists.proofs.Places.{stop, go}
-use Rattle.wordwise.specs.Wordwise.{allNew}
+use Rattle.ranks.specs.Ranks.{allNew}
 use Rattle.refusals.proofs.Wordwise.{differ}
-use Rattle.refusals.proofs.Steps.{new-at}
+use Rattle.ranks.proofs.Steps.{new-at}
 use Rattle.refusals.proofs.ranks_differ.Statement.{statement}
 use Rattle.refusals.proofs.ranks_differ.Tie as tie
 

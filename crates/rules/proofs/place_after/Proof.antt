@@ -1,4 +1,5 @@
 use Rattle.rules.proofs.Steps.{one-le}
+use mathlib.Core.Path.{refl}
 use native.Mathlib.Omega.{arith}
 use borrow.Author.Needs.{needs}
 use Rattle.rules.proofs.place_after.Statement.{statement}
@@ -29,7 +30,7 @@ add-tie c =
 
 returns : tie.Need-returns
 returns c =
-    cc
+    rw (c .before .one-if2 .ensures, c .before .before .same2 .ensures, c .before .before .before .before .one-if .ensures, c .before .before .before .before .before .same .ensures, c .before .before .before .before .before .before .kind-of .ensures) refl
 
 pub place-after-spec : {M : Type 1} → statement M
 place-after-spec =

@@ -10,12 +10,6 @@ use borrow.Author.Tests.{eq-eqb, ne-eqb, lt-ltb, le-ltb, le-leb, lt-leb}
 use borrow.Author.Needs.{needs}
 use Rattle.stripcosts.proofs.is_inside.Statement.{statement}
 use Rattle.stripcosts.proofs.is_inside.Tie as tie
-use Rattle.stripcosts.proofs.is_inside.Reads as reads
-use Rattle.stripcosts.proofs.is_inside.Lts as lts
-use Rattle.words.proofs.at_most.Reads as at-most-reads
-use Rattle.words.proofs.both.Reads as both-reads
-use Rattle.words.proofs.either.Reads as either-reads
-use Rattle.words.proofs.less.Reads as less-reads
 
 -- src/lib.rt:78:29
 at-most-requires : tie.Need-at-most-requires
@@ -41,7 +35,7 @@ both-requires c κs = search needs
 returns : tie.Need-returns
 unfolding insideOf
 returns c =
-    cc
+    rw (c .both .ensures, c .before .either2 .ensures, c .before .before .less .ensures, c .before .before .before .either .ensures, c .before .before .before .before .at-most .ensures)
 
 pub is-inside-spec : {M : Type 1} → statement M
 is-inside-spec =

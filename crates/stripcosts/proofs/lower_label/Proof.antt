@@ -9,9 +9,6 @@ use borrow.Author.Tests.{eq-eqb, ne-eqb, lt-ltb, le-ltb, le-leb, lt-leb}
 use borrow.Author.Needs.{needs}
 use Rattle.stripcosts.proofs.lower_label.Statement.{statement}
 use Rattle.stripcosts.proofs.lower_label.Tie as tie
-use Rattle.stripcosts.proofs.lower_label.Reads as reads
-use Rattle.stripcosts.proofs.lower_label.Lts as lts
-use Rattle.words.proofs.get.Reads as get-reads
 
 -- src/lib.rt:153:9
 get-requires : tie.Need-get-requires

@@ -11,13 +11,6 @@ use borrow.Author.Tests.{eq-eqb, ne-eqb, lt-ltb, le-ltb, le-leb, lt-leb}
 use borrow.Author.Needs.{needs}
 use Rattle.stripcosts.proofs.site_cost.Statement.{statement}
 use Rattle.stripcosts.proofs.site_cost.Tie as tie
-use Rattle.stripcosts.proofs.site_cost.Reads as reads
-use Rattle.stripcosts.proofs.site_cost.Lts as lts
-use Rattle.stripcosts.proofs.fits_down.Reads as fits-down-reads
-use Rattle.stripcosts.proofs.fits_up.Reads as fits-up-reads
-use Rattle.stripcosts.proofs.is_inside.Reads as is-inside-reads
-use Rattle.stripcosts.proofs.least_of.Reads as least-of-reads
-use Rattle.stripcosts.proofs.tie_cost.Reads as tie-cost-reads
 
 -- src/lib.rt:110:8
 is-inside-requires : tie.Need-is-inside-requires

@@ -10,11 +10,6 @@ use borrow.Author.Tests.{eq-eqb, ne-eqb, lt-ltb, le-ltb, le-leb, lt-leb}
 use borrow.Author.Needs.{needs}
 use Rattle.stripcosts.proofs.strip_between.Statement.{statement}
 use Rattle.stripcosts.proofs.strip_between.Tie as tie
-use Rattle.stripcosts.proofs.strip_between.Reads as reads
-use Rattle.stripcosts.proofs.strip_between.Lts as lts
-use Rattle.stripcosts.proofs.lower_label.Reads as lower-label-reads
-use Rattle.stripcosts.proofs.strip_cost.Reads as strip-cost-reads
-use Rattle.stripcosts.proofs.upper_label.Reads as upper-label-reads
 
 -- src/lib.rt:163:19
 upper-label-requires : tie.Need-upper-label-requires

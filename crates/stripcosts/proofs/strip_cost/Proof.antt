@@ -16,9 +16,6 @@ use borrow.Author.Tests.{eq-eqb, ne-eqb, lt-ltb, le-ltb, le-leb, lt-leb}
 use borrow.Author.Needs.{needs}
 use Rattle.stripcosts.proofs.strip_cost.Statement.{statement}
 use Rattle.stripcosts.proofs.strip_cost.Tie as tie
-use Rattle.stripcosts.proofs.strip_cost.Reads as reads
-use Rattle.stripcosts.proofs.strip_cost.Lts as lts
-use Rattle.stripcosts.proofs.site_cost.Reads as site-cost-reads
 
 abbrev Inv-loop : tie.InvT-loop
 Inv-loop q above below ys colours caps start end last sum₀ i₀ sum i = (i ≤ length ys) × (sum < topWord) × (sum ≡ sumTo topWord (λ j. siteOf q above below (getD ys j 0) (getD colours j 0) (getD caps j 0)) i)

@@ -10,8 +10,6 @@ use borrow.Author.Tests.{eq-eqb, ne-eqb, lt-ltb, le-ltb, le-leb, lt-leb}
 use borrow.Author.Needs.{needs}
 use Rattle.stripcosts.proofs.tie_cost.Statement.{statement}
 use Rattle.stripcosts.proofs.tie_cost.Tie as tie
-use Rattle.stripcosts.proofs.tie_cost.Reads as reads
-use Rattle.stripcosts.proofs.tie_cost.Lts as lts
 
 -- src/lib.rt:71:16
 cast-result : tie.Need-cast-result

@@ -10,9 +10,6 @@ use borrow.Author.Tests.{eq-eqb, ne-eqb, lt-ltb, le-ltb, le-leb, lt-leb}
 use borrow.Author.Needs.{needs}
 use Rattle.stripcosts.proofs.upper_label.Statement.{statement}
 use Rattle.stripcosts.proofs.upper_label.Tie as tie
-use Rattle.stripcosts.proofs.upper_label.Reads as reads
-use Rattle.stripcosts.proofs.upper_label.Lts as lts
-use Rattle.words.proofs.get.Reads as get-reads
 
 -- src/lib.rt:142:9
 returns : tie.Need-returns

@@ -1,4 +1,4 @@
-use Rattle.strips.specs.Strips.{stripOf, pointOf}
+use Rattle.rows.specs.Rows.{stripOf, pointOf}
 use Rattle.strips.proofs.Windows.{window-of}
 use borrow.Author.Needs.{needs}
 use Rattle.strips.proofs.open_window.Statement.{statement}

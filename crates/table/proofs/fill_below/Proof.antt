@@ -1,11 +1,8 @@
-use mathlib.Core.Path.{ap₂}
-use Rattle.strips.specs.Strips.{stripOf, pointOf}
-use Rattle.entries.specs.Rows.{rowOf}
-use Rattle.entries.proofs.Places.{row-fits}
-use Rattle.marks.specs.Marks.{endPlace}
+use mathlib.Core.Path.{ap₂, _≡_, refl, ap, _∙_}
+use Rattle.rows.specs.Rows.{stripOf, pointOf, rowOf, endPlace}
+use Rattle.rows.proofs.Places.{row-fits}
 use Rattle.marks.proofs.Followed.{next-row, later-end, start-lies, lies-at}
 use Rattle.table.proofs.Filling.{Filled, filled-none, filled-more, filled-all, row-low, start-end, to-end}
-use mathlib.Core.Path.{_≡_, refl, ap, _∙_}
 use Prim.Native.Nat.{ℕ, _+_, _-_, _*_, _≤_}
 use native.Mathlib.Omega.{arith}
 use lib.ListN.{length}
@@ -14,8 +11,8 @@ use Rattle.table.proofs.fill_below.Statement.{statement}
 use Rattle.table.proofs.fill_below.Tie as tie
 use Rattle.table.proofs.fill_below.Reads as reads
 use Rattle.table.proofs.fill_below.Lts as lts
-use Rattle.entries.proofs.row_place.Reads as row-place-reads
-use Rattle.marks.proofs.next_below.Reads as next-below-reads
+use Rattle.rows.proofs.row_place.Reads as row-place-reads
+use Rattle.rows.proofs.next_below.Reads as next-below-reads
 use Rattle.table.proofs.fill_marked.Reads as fill-marked-reads
 
 abbrev Inv-loop : tie.InvT-loop

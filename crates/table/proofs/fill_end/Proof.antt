@@ -6,7 +6,7 @@ use Rattle.table.proofs.fill_end.Statement.{statement}
 use Rattle.table.proofs.fill_end.Tie as tie
 use Rattle.table.proofs.fill_end.Reads as reads
 use Rattle.table.proofs.fill_end.Lts as lts
-use Rattle.marks.proofs.is_upper_end.Reads as is-upper-end-reads
+use Rattle.rows.proofs.is_upper_end.Reads as is-upper-end-reads
 use Rattle.table.proofs.fill_below.Reads as fill-below-reads
 
 -- src/lib.rt:108:8

@@ -1,5 +1,4 @@
-use Rattle.strips.specs.Strips.{pointOf}
-use Rattle.marks.specs.Marks.{endPlace}
+use Rattle.rows.specs.Rows.{pointOf, endPlace}
 use Rattle.marks.proofs.Followed.{later-end, slot-low}
 use Rattle.table.proofs.Filling.{Passed, passed-none, passed-more, passed-all}
 use mathlib.Core.Path.{_≡_, refl, _∙_}
@@ -11,7 +10,7 @@ use Rattle.table.proofs.fill_level.Statement.{statement}
 use Rattle.table.proofs.fill_level.Tie as tie
 use Rattle.table.proofs.fill_level.Reads as reads
 use Rattle.table.proofs.fill_level.Lts as lts
-use Rattle.marks.proofs.next_end.Reads as next-end-reads
+use Rattle.rows.proofs.next_end.Reads as next-end-reads
 use Rattle.table.proofs.fill_end.Reads as fill-end-reads
 
 abbrev Inv-loop : tie.InvT-loop

@@ -1,4 +1,4 @@
-use Rattle.entries.specs.Rows.{levelSize}
+use Rattle.rows.specs.Rows.{levelSize}
 use Rattle.marks.proofs.Levels.{level-small, place-small, last-room}
 use Rattle.table.specs.Rows.{Given}
 use Rattle.table.proofs.Right.{Done, done-last, done-more, done-all, given-area}
@@ -14,7 +14,7 @@ use Rattle.table.proofs.fill_table.Lts as lts
 use Rattle.budgets.proofs.list_splits.Reads as list-splits-reads
 use Rattle.marks.proofs.mark_table.Reads as mark-table-reads
 use Rattle.table.proofs.fill_site.Reads as fill-site-reads
-use Rattle.table.proofs.rows_of.Reads as rows-of-reads
+use Rattle.rows.proofs.rows_of.Reads as rows-of-reads
 use Rattle.table.proofs.zero_level.Reads as zero-level-reads
 
 abbrev Inv-loop : tie.InvT-loop

@@ -1,9 +1,11 @@
 use Rattle.optimum.specs.UsedSlots.{Instance, value, capAll}
 use Rattle.usedslots.specs.Table.{instanceBy, tableBy, capsIn}
 use Rattle.goals.specs.Goals.{Goals}
-use Rattle.twosided.specs.Caps.{Low}
+use Rattle.capwords.specs.Caps.{Low}
 use Rattle.goals.proofs.Goals.{fits-set}
-use Rattle.twosided.proofs.Caps.{caps-done, caps-step, site-free, narrowed-keeps}
+use Rattle.capsearch.proofs.Search.{narrowed-keeps}
+use Rattle.twosided.proofs.Caps.{caps-done, caps-step, site-free}
+use native.Mathlib.Nat.{le-of-eq}
 use mathlib.Core.Path.{_≡_, refl, ap, sym, _∙_}
 use Prim.Native.Nat.{ℕ, suc, _-_}
 use native.Mathlib.Omega.{arith}
@@ -13,106 +15,95 @@ use Rattle.twosided.proofs.cap_all.Statement.{statement}
 use Rattle.twosided.proofs.cap_all.Tie as tie
 
 abbrev Inv-loop : tie.InvT-loop
-Inv-loop q heights bounds radices draws ys colours order ranks caps₀ work labels₀ goals₀ least left₀ caps labels goals left = (length caps ≡ length caps₀) × (length labels ≡ length heights) × (capAll (instanceBy q heights bounds radices ys colours ranks) least (length ys) (capsIn caps₀) ≡ capAll (instanceBy q heights bounds radices ys colours ranks) least left (capsIn caps)) × (value (tableBy q heights bounds radices ys colours) (capsIn caps) ≡ least) × (Low caps₀ → Low caps) × Goals (tableBy q heights bounds radices ys colours) caps goals least
+Inv-loop q heights bounds radices draws ys colours order ranks caps₀ work goals₀ least left₀ caps goals left = (length caps ≡ length caps₀) × (capAll (instanceBy q heights bounds radices ys colours ranks) least (length ys) (capsIn caps₀) ≡ capAll (instanceBy q heights bounds radices ys colours ranks) least left (capsIn caps)) × (value (tableBy q heights bounds radices ys colours) (capsIn caps) ≡ least) × (Low caps₀ → Low caps) × Goals (tableBy q heights bounds radices ys colours) caps goals least
 
 abbrev μ-loop : tie.MeasureT-loop
-μ-loop q heights bounds radices draws ys colours order ranks caps₀ work labels₀ goals₀ least left₀ caps labels goals left = left
+μ-loop q heights bounds radices draws ys colours order ranks caps₀ work goals₀ least left₀ caps goals left = left
 
--- src/lib.rt:416:5
+-- src/lib.rt:60:5
+trace-goals-requires : tie.Need-trace-goals-requires Inv-loop μ-loop
+trace-goals-requires c κs =
+    let p = c .before .before .before .before .before .before .before .before .before .before .before .before .before .pre in (p .0, (p .1 .0 .2, le-of-eq (p .1 .1 .0)))
+
+-- src/lib.rt:74:5
 loop-holds : tie.Need-loop-holds Inv-loop μ-loop
 loop-holds c =
-    let p = c .before .before .before .before .before .before .before .before .before .before .before .before .pre in
-    (refl, p .1 .0 .1, rw (p .0 .caps-long), p .1 .1 .0, (λ h. h), p .1 .0 .3)
+    let p = c .before .before .before .before .before .before .before .before .before .before .before .before .before .before .before .before .pre in (refl, rw (p .0 .caps-long), p .1 .1 .0, (λ h. h), c .before .before .trace-goals .ensures)
 
--- src/lib.rt:417:20
+-- src/lib.rt:75:20
 leftmost-requires : tie.Need-leftmost-requires Inv-loop μ-loop
 leftmost-requires c κs =
-    let p = c .before .before .before .before .before .before .before .before .before .before .before .before .before .before .before .pre in
-    omega (arith, p .0 .few-sites, p .0 .caps-long, c .before .before .loop .inv .0)
+    let p = c .before .before .before .before .before .before .before .before .before .before .before .before .before .before .before .before .before .before .before .pre in omega (arith, p .0 .few-sites, p .0 .caps-long, c .before .before .loop .inv .0)
 
--- src/lib.rt:417:20
+-- src/lib.rt:75:20
 cast-site : tie.Need-cast-site Inv-loop μ-loop
 cast-site c = search needs
 
--- src/lib.rt:419:13
+-- src/lib.rt:77:13
 same-length : tie.Need-same-length Inv-loop μ-loop
 same-length c =
     c .before .before .before .before .loop .inv .0
 
--- src/lib.rt:419:13
+-- src/lib.rt:77:13
 same-length-2 : tie.Need-same-length-2 Inv-loop μ-loop
 same-length-2 c =
-    c .before .before .before .before .loop .inv .1 ∙ sym (c .before .before .before .before .before .before .before .before .before .before .before .before .before .before .before .before .before .pre .1 .0 .1)
+    c .before .before .before .before .loop .inv .4 .long ∙ sym (c .before .before .before .before .before .before .before .before .before .before .before .before .before .before .before .before .before .before .before .before .before .pre .1 .0 .2)
 
--- src/lib.rt:419:13
-same-length-3 : tie.Need-same-length-3 Inv-loop μ-loop
-same-length-3 c =
-    c .before .before .before .before .loop .inv .5 .long ∙ sym (c .before .before .before .before .before .before .before .before .before .before .before .before .before .before .before .before .before .pre .1 .0 .3 .long)
-
--- src/lib.rt:419:13
+-- src/lib.rt:77:13
 returns : tie.Need-returns Inv-loop μ-loop
 returns c =
-    let a = c .before .before .before .before .before .before .before .before .before .before .before .before .before .before .before .before .before .args in let p = c .before .before .before .before .before .before .before .before .before .before .before .before .before .before .before .before .before .pre in let l = c .before .before .before .before .loop in let k = c .before .leftmost in
-    (sym (l .inv .2 ∙ caps-done (a .q) (a .heights .now) (a .bounds .now) (a .radices .now) (a .ys .now) (a .colours .now) (a .ranks .now) (a .least) (l .caps) (l .left) (k .result) (k .ensures) (l .inv .0 ∙ p .0 .caps-long) (c .if1 .taken)), l .inv .4)
+    let a = c .before .before .before .before .before .before .before .before .before .before .before .before .before .before .before .before .before .before .before .before .before .args in let p = c .before .before .before .before .before .before .before .before .before .before .before .before .before .before .before .before .before .before .before .before .before .pre in let l = c .before .before .before .before .loop in let k = c .before .leftmost in
+    (sym (l .inv .1 ∙ caps-done (a .q) (a .heights .now) (a .bounds .now) (a .radices .now) (a .ys .now) (a .colours .now) (a .ranks .now) (a .least) (l .caps) (l .left) (k .result) (k .ensures) (l .inv .0 ∙ p .0 .caps-long) (c .if1 .taken)), l .inv .3)
 
--- src/lib.rt:421:9
+-- src/lib.rt:79:9
 cap-site-requires : tie.Need-cap-site-requires Inv-loop μ-loop
 cap-site-requires c κs =
-    let a = c .before .before .before .before .before .before .before .before .before .before .before .before .before .before .before .before .before .before .before .before .args in let p = c .before .before .before .before .before .before .before .before .before .before .before .before .before .before .before .before .before .before .before .before .pre in let l = c .before .before .before .before .before .before .before .loop in let k = c .before .before .before .before .leftmost in let i = c .before .before .before .if1 .left in (
+    let a = c .before .before .before .before .before .before .before .before .before .before .before .before .before .before .before .before .before .before .before .before .before .before .before .args in let p = c .before .before .before .before .before .before .before .before .before .before .before .before .before .before .before .before .before .before .before .before .before .before .before .pre in let l = c .before .before .before .before .before .before .loop in let k = c .before .before .before .leftmost in let i = c .before .before .if1 .left in (
       fits-set (a .q) (a .heights .now) (a .bounds .now) (a .radices .now) (a .draws .now) (a .ys .now) (a .colours .now) (a .caps .now) (l .caps) (l .inv .0) (p .0),
-      (
-        (p .1 .0 .0, l .inv .1, i, site-free (a .q) (a .heights .now) (a .bounds .now) (a .radices .now) (a .ys .now) (a .colours .now) (a .ranks .now) (a .least) (l .caps) (k .result) (k .ensures) (l .inv .0 ∙ p .0 .caps-long) i, p .1 .0 .2, l .inv .5),
-        (l .inv .3, p .1 .1 .1),
-      ),
+      ((p .1 .0 .0, i, site-free (a .q) (a .heights .now) (a .bounds .now) (a .radices .now) (a .ys .now) (a .colours .now) (a .ranks .now) (a .least) (l .caps) (k .result) (k .ensures) (l .inv .0 ∙ p .0 .caps-long) i, p .1 .0 .1, l .inv .4), (l .inv .2, p .1 .1 .1)),
     )
 
--- src/lib.rt:437:9
+-- src/lib.rt:94:9
 sub-left : tie.Need-sub-left Inv-loop μ-loop
 sub-left c = search needs
 
--- src/lib.rt:416:5
+-- src/lib.rt:74:5
 loop-less : tie.Need-loop-less Inv-loop μ-loop
 loop-less c = search needs
 
--- src/lib.rt:416:5
+-- src/lib.rt:74:5
 loop-again : tie.Need-loop-again Inv-loop μ-loop
 loop-again c =
-    let a = c .before .before .before .before .before .before .before .before .before .before .before .before .before .before .before .before .before .before .before .before .before .before .before .before .before .before .before .args in let p = c .before .before .before .before .before .before .before .before .before .before .before .before .before .before .before .before .before .before .before .before .before .before .before .before .before .before .before .pre in let l = c .before .before .before .before .before .before .before .before .before .before .before .before .before .before .loop in let k = c .before .before .before .before .before .before .cap-site in let s = c .before .before .before .before .before .before .before .before .before .before .before .leftmost in let i = c .before .before .before .before .before .before .before .before .before .before .if1 .left in
+    let a = c .before .before .before .before .before .before .before .before .before .before .before .before .before .before .before .before .before .before .before .before .before .before .before .before .before .before .before .before .args in let p = c .before .before .before .before .before .before .before .before .before .before .before .before .before .before .before .before .before .before .before .before .before .before .before .before .before .before .before .before .pre in let l = c .before .before .before .before .before .before .before .before .before .before .before .loop in let k = c .before .before .before .before .cap-site in let s = c .before .before .before .before .before .before .before .before .leftmost in let i = c .before .before .before .before .before .before .before .if1 .left in
     let G : Instance = tableBy (a .q) (a .heights .now) (a .bounds .now) (a .radices .now) (a .ys .now) (a .colours .now) in
-    let z : l .left ≡ suc (l .left - 1) = omega (arith, c .before .before .before .before .before .before .before .before .before .before .before .before .before .loop-test .taken) in
+    let z : l .left ≡ suc (l .left - 1) = omega (arith, c .before .before .before .before .before .before .before .before .before .before .loop-test .taken) in
     let n : length (l .caps) ≡ length (a .ys .now) = l .inv .0 ∙ p .0 .caps-long in
     let new = k .last .1 .1 .1 .1 .1 .1 .1 .1 .0 in (
       k .kept .1 .1 .1 .1 .1 .1 .1 .1 .0 ∙ l .inv .0,
-      k .kept .1 .1 .1 .1 .1 .1 .1 .1 .1 .1 .0 ∙ l .inv .1,
-      l .inv .2 ∙ ap (λ (f : ℕ). capAll (instanceBy (a .q) (a .heights .now) (a .bounds .now) (a .radices .now) (a .ys .now) (a .colours .now) (a .ranks .now)) (a .least) f (capsIn (l .caps))) z ∙
+      l .inv .1 ∙ ap (λ (f : ℕ). capAll (instanceBy (a .q) (a .heights .now) (a .bounds .now) (a .radices .now) (a .ys .now) (a .colours .now) (a .ranks .now)) (a .least) f (capsIn (l .caps))) z ∙
           caps-step (a .q) (a .heights .now) (a .bounds .now) (a .radices .now) (a .ys .now) (a .colours .now) (a .ranks .now) (a .least) (l .caps) new (l .left - 1) (s .result) (s .ensures) n i (k .ensures .0),
       narrowed-keeps G (a .least) (p .1 .1 .1) (l .caps) (s .result)
-          (record { inside = i; long = n; free = site-free (a .q) (a .heights .now) (a .bounds .now) (a .radices .now) (a .ys .now) (a .colours .now) (a .ranks .now) (a .least) (l .caps) (s .result) (s .ensures) n i; least = l .inv .3 }) new (k .ensures .0),
-      (λ h. k .ensures .1 .0 (l .inv .4 h)),
+          (record { inside = i; long = n; free = site-free (a .q) (a .heights .now) (a .bounds .now) (a .radices .now) (a .ys .now) (a .colours .now) (a .ranks .now) (a .least) (l .caps) (s .result) (s .ensures) n i; least = l .inv .2 }) new (k .ensures .0),
+      (λ h. k .ensures .1 .0 (l .inv .3 h)),
       k .ensures .1 .1,
     )
 
--- src/lib.rt:393:1
-same-length-4 : tie.Need-same-length-4 Inv-loop μ-loop
-same-length-4 c =
+-- src/lib.rt:39:1
+same-length-3 : tie.Need-same-length-3 Inv-loop μ-loop
+same-length-3 c =
     c .before .loop .inv .0
 
--- src/lib.rt:393:1
-same-length-5 : tie.Need-same-length-5 Inv-loop μ-loop
-same-length-5 c =
-    c .before .loop .inv .1 ∙ sym (c .before .before .before .before .before .before .before .before .before .before .before .before .before .before .pre .1 .0 .1)
+-- src/lib.rt:39:1
+same-length-4 : tie.Need-same-length-4 Inv-loop μ-loop
+same-length-4 c =
+    c .before .loop .inv .4 .long ∙ sym (c .before .before .before .before .before .before .before .before .before .before .before .before .before .before .before .before .before .before .pre .1 .0 .2)
 
--- src/lib.rt:393:1
-same-length-6 : tie.Need-same-length-6 Inv-loop μ-loop
-same-length-6 c =
-    c .before .loop .inv .5 .long ∙ sym (c .before .before .before .before .before .before .before .before .before .before .before .before .before .before .pre .1 .0 .3 .long)
-
--- src/lib.rt:393:1
+-- src/lib.rt:39:1
 returns-2 : tie.Need-returns-2 Inv-loop μ-loop
 unfolding capAll
 returns-2 c =
     let l = c .before .loop in let e : l .left ≡ 0 = omega arith in
-    (sym (rw e at (l .inv .2)), l .inv .4)
+    (sym (rw e at (l .inv .1)), l .inv .3)
 
 pub cap-all-spec : {M : Type 1} → statement M
 cap-all-spec =
@@ -120,18 +111,17 @@ cap-all-spec =
     (tie.spec
     Inv-loop
     μ-loop
+    trace-goals-requires
     loop-holds
     leftmost-requires
     cast-site
     same-length
     same-length-2
-    same-length-3
     returns
     cap-site-requires
     sub-left
     loop-less
     loop-again
+    same-length-3
     same-length-4
-    same-length-5
-    same-length-6
     returns-2)

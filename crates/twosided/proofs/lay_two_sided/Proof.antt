@@ -160,8 +160,8 @@ slice-aggregate-lay-sites-7 c =
     part-long 32 (xsOf ((sheetIn (a .sheet .now)) .sites)) (c .before .before .before .before .before .before .before .before .before .xs-of .result) (a .sites) (c .before .before .before .before .before .before .before .before .before .xs-of .ensures) (p .1 .1 .2 ∙ sym (xs-long ((sheetIn (a .sheet .now)) .sites)))
 
 -- src/lib.rt:272:9
-array-borrow-prefix-caps : tie.Need-array-borrow-prefix-caps
-array-borrow-prefix-caps c =
+array-share-prefix-caps : tie.Need-array-share-prefix-caps
+array-share-prefix-caps c =
     let a = c .before .before .before .before .before .before .before .before .before .before .before .before .before .before .before .before .before .before .before .before .args in let p = c .before .before .before .before .before .before .before .before .before .before .before .before .before .before .before .before .before .before .before .before .pre in
     omega (arith, p .1 .1 .2, sound (a .sheet .now) (p .0 .1) .few-sites)
 
@@ -191,9 +191,9 @@ same-length-2 c = search needs
 -- src/lib.rt:245:1
 returns : tie.Need-returns
 returns c =
-    let a = c .before .before .before .before .before .before .before .before .before .before .before .before .before .before .before .before .before .before .before .before .before .before .before .before .before .before .before .before .before .args in let p = c .before .before .before .before .before .before .before .before .before .before .before .before .before .before .before .before .before .before .before .before .before .before .before .before .before .before .before .before .before .pre in
-    let r = made (a .sheet .now) (a .work .now) (a .out .now) (p .0) (p .1 .0) (c .before .before .before .before .before .before .before .before .before .before .before .before .before .before .before .before .before .before .before .before .before .before .before .before .before .measures-of .result) (take (a .slots) (c .before .before .before .before .before .before .before .before .before .before .before .before .before .before .before .before .before .before .before .before .before .before .before .before .heights-of .result)) (take (a .colours) (c .before .before .before .before .before .before .before .before .before .before .before .before .before .before .before .before .before .before .before .before .before .before .before .bounds-of .result)) (take (a .colours) (c .before .before .before .before .before .before .before .before .before .before .before .before .before .before .before .before .before .before .before .before .before .radices-of .result)) (take (a .sites) (c .before .before .before .before .before .before .before .before .before .before .before .before .before .before .before .before .before .ys-of .result)) (take (a .sites) (c .before .before .before .before .before .before .before .before .before .before .before .before .before .before .before .before .colours-of .result)) (take (a .sites) (c .before .before .before .before .before .before .before .before .before .before .before .before .before .before .before .before .before .before .xs-of .result)) (c .before .before .before .before .before .lay-sites .result) (c .before .before .before .before .before .lay-sites .last .1 .1 .1 .1 .1 .1 .1 .1 .1 .0) (c .before .before .before .before .before .lay-sites .last .1 .1 .1 .1 .1 .1 .1 .1 .1 .1 .0)
-    ((c .before .before .before .before .before .before .before .before .before .before .before .before .before .before .before .before .before .before .before .before .before .before .before .before .before .measures-of .ensures) ∙ rw (p .1 .1 .1, p .1 .1 .3)) (part-is 48 ((sheetIn (a .sheet .now)) .slots) (c .before .before .before .before .before .before .before .before .before .before .before .before .before .before .before .before .before .before .before .before .before .before .before .before .heights-of .result) (a .slots) (c .before .before .before .before .before .before .before .before .before .before .before .before .before .before .before .before .before .before .before .before .before .before .before .before .heights-of .ensures) (p .1 .1 .0)) (bounds-part (a .sheet .now) (p .0 .1) (c .before .before .before .before .before .before .before .before .before .before .before .before .before .before .before .before .before .before .before .before .before .before .before .bounds-of .result) (a .colours) (c .before .before .before .before .before .before .before .before .before .before .before .before .before .before .before .before .before .before .before .before .before .before .before .bounds-of .ensures) (p .1 .1 .1)) (part-is 8 (radicesBy (take (a .colours) (c .before .before .before .before .before .before .before .before .before .before .before .before .before .before .before .before .before .before .before .before .before .before .before .bounds-of .result))) (c .before .before .before .before .before .before .before .before .before .before .before .before .before .before .before .before .before .before .before .before .before .radices-of .result) (a .colours) (c .before .before .before .before .before .before .before .before .before .before .before .before .before .before .before .before .before .before .before .before .before .radices-of .ensures) ((part-long 8 (boundsOf ((sheetIn (a .sheet .now)) .colours)) (c .before .before .before .before .before .before .before .before .before .before .before .before .before .before .before .before .before .before .before .before .before .before .before .bounds-of .result) (a .colours) (c .before .before .before .before .before .before .before .before .before .before .before .before .before .before .before .before .before .before .before .before .before .before .before .bounds-of .ensures) (p .1 .1 .1 ∙ sym (bounds-long ((sheetIn (a .sheet .now)) .colours)))) ∙ sym (radices-long (take (a .colours) (c .before .before .before .before .before .before .before .before .before .before .before .before .before .before .before .before .before .before .before .before .before .before .before .bounds-of .result))))) (part-is 32 (ysOf ((sheetIn (a .sheet .now)) .sites)) (c .before .before .before .before .before .before .before .before .before .before .before .before .before .before .before .before .before .ys-of .result) (a .sites) (c .before .before .before .before .before .before .before .before .before .before .before .before .before .before .before .before .before .ys-of .ensures) (p .1 .1 .2 ∙ sym (ys-long ((sheetIn (a .sheet .now)) .sites)))) (part-is 32 (coloursOf ((sheetIn (a .sheet .now)) .sites)) (c .before .before .before .before .before .before .before .before .before .before .before .before .before .before .before .before .colours-of .result) (a .sites) (c .before .before .before .before .before .before .before .before .before .before .before .before .before .before .before .before .colours-of .ensures) (p .1 .1 .2 ∙ sym (cs-long ((sheetIn (a .sheet .now)) .sites)))) (part-is 32 (xsOf ((sheetIn (a .sheet .now)) .sites)) (c .before .before .before .before .before .before .before .before .before .before .before .before .before .before .before .before .before .before .xs-of .result) (a .sites) (c .before .before .before .before .before .before .before .before .before .before .before .before .before .before .before .before .before .before .xs-of .ensures) (p .1 .1 .2 ∙ sym (xs-long ((sheetIn (a .sheet .now)) .sites)))) (c .before .before .before .before .before .lay-sites .ensures) in
+    let a = c .before .before .before .before .before .before .before .before .before .before .before .before .before .before .before .before .before .before .before .before .before .before .before .before .before .before .before .before .args in let p = c .before .before .before .before .before .before .before .before .before .before .before .before .before .before .before .before .before .before .before .before .before .before .before .before .before .before .before .before .pre in
+    let r = made (a .sheet .now) (a .work .now) (a .out .now) (p .0) (p .1 .0) (c .before .before .before .before .before .before .before .before .before .before .before .before .before .before .before .before .before .before .before .before .before .before .before .before .measures-of .result) (take (a .slots) (c .before .before .before .before .before .before .before .before .before .before .before .before .before .before .before .before .before .before .before .before .before .before .before .heights-of .result)) (take (a .colours) (c .before .before .before .before .before .before .before .before .before .before .before .before .before .before .before .before .before .before .before .before .before .before .bounds-of .result)) (take (a .colours) (c .before .before .before .before .before .before .before .before .before .before .before .before .before .before .before .before .before .before .before .before .radices-of .result)) (take (a .sites) (c .before .before .before .before .before .before .before .before .before .before .before .before .before .before .before .before .ys-of .result)) (take (a .sites) (c .before .before .before .before .before .before .before .before .before .before .before .before .before .before .before .colours-of .result)) (take (a .sites) (c .before .before .before .before .before .before .before .before .before .before .before .before .before .before .before .before .before .xs-of .result)) (c .before .before .before .before .lay-sites .result) (c .before .before .before .before .lay-sites .last .1 .1 .1 .1 .1 .1 .1 .1 .1 .0) (c .before .before .before .before .lay-sites .last .1 .1 .1 .1 .1 .1 .1 .1 .1 .1 .0)
+    ((c .before .before .before .before .before .before .before .before .before .before .before .before .before .before .before .before .before .before .before .before .before .before .before .before .measures-of .ensures) ∙ rw (p .1 .1 .1, p .1 .1 .3)) (part-is 48 ((sheetIn (a .sheet .now)) .slots) (c .before .before .before .before .before .before .before .before .before .before .before .before .before .before .before .before .before .before .before .before .before .before .before .heights-of .result) (a .slots) (c .before .before .before .before .before .before .before .before .before .before .before .before .before .before .before .before .before .before .before .before .before .before .before .heights-of .ensures) (p .1 .1 .0)) (bounds-part (a .sheet .now) (p .0 .1) (c .before .before .before .before .before .before .before .before .before .before .before .before .before .before .before .before .before .before .before .before .before .before .bounds-of .result) (a .colours) (c .before .before .before .before .before .before .before .before .before .before .before .before .before .before .before .before .before .before .before .before .before .before .bounds-of .ensures) (p .1 .1 .1)) (part-is 8 (radicesBy (take (a .colours) (c .before .before .before .before .before .before .before .before .before .before .before .before .before .before .before .before .before .before .before .before .before .before .bounds-of .result))) (c .before .before .before .before .before .before .before .before .before .before .before .before .before .before .before .before .before .before .before .before .radices-of .result) (a .colours) (c .before .before .before .before .before .before .before .before .before .before .before .before .before .before .before .before .before .before .before .before .radices-of .ensures) ((part-long 8 (boundsOf ((sheetIn (a .sheet .now)) .colours)) (c .before .before .before .before .before .before .before .before .before .before .before .before .before .before .before .before .before .before .before .before .before .before .bounds-of .result) (a .colours) (c .before .before .before .before .before .before .before .before .before .before .before .before .before .before .before .before .before .before .before .before .before .before .bounds-of .ensures) (p .1 .1 .1 ∙ sym (bounds-long ((sheetIn (a .sheet .now)) .colours)))) ∙ sym (radices-long (take (a .colours) (c .before .before .before .before .before .before .before .before .before .before .before .before .before .before .before .before .before .before .before .before .before .before .bounds-of .result))))) (part-is 32 (ysOf ((sheetIn (a .sheet .now)) .sites)) (c .before .before .before .before .before .before .before .before .before .before .before .before .before .before .before .before .ys-of .result) (a .sites) (c .before .before .before .before .before .before .before .before .before .before .before .before .before .before .before .before .ys-of .ensures) (p .1 .1 .2 ∙ sym (ys-long ((sheetIn (a .sheet .now)) .sites)))) (part-is 32 (coloursOf ((sheetIn (a .sheet .now)) .sites)) (c .before .before .before .before .before .before .before .before .before .before .before .before .before .before .before .colours-of .result) (a .sites) (c .before .before .before .before .before .before .before .before .before .before .before .before .before .before .before .colours-of .ensures) (p .1 .1 .2 ∙ sym (cs-long ((sheetIn (a .sheet .now)) .sites)))) (part-is 32 (xsOf ((sheetIn (a .sheet .now)) .sites)) (c .before .before .before .before .before .before .before .before .before .before .before .before .before .before .before .before .before .xs-of .result) (a .sites) (c .before .before .before .before .before .before .before .before .before .before .before .before .before .before .before .before .before .xs-of .ensures) (p .1 .1 .2 ∙ sym (xs-long ((sheetIn (a .sheet .now)) .sites)))) (c .before .before .before .before .lay-sites .ensures) in
     (sym (r .fault-is), (sym (r .work-is), sym (r .out-is)))
 
 pub lay-two-sided-spec : {M : Type 1} → statement M
@@ -226,7 +226,7 @@ lay-two-sided-spec =
     slice-aggregate-lay-sites-6
     array-share-prefix-xs
     slice-aggregate-lay-sites-7
-    array-borrow-prefix-caps
+    array-share-prefix-caps
     slice-aggregate-lay-sites-8
     lay-sites-requires
     same-length

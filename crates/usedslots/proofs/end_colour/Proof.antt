@@ -17,7 +17,7 @@ choose-requires c κs = search needs
 -- src/lib.rt:521:1
 returns : tie.Need-returns
 returns c =
-    cc
+    rw (c .choose .ensures, c .before .lesser .ensures, c .before .before .same .ensures)
 
 pub end-colour-spec : {M : Type 1} → statement M
 end-colour-spec = tie.close (tie.spec same-requires lesser-requires choose-requires returns)

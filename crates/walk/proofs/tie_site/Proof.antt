@@ -1,11 +1,7 @@
-use Rattle.walk.proofs.Tying.{base-low}
-use native.Mathlib.Nat.{mul-le-mul-right}
-use mathlib.Core.Path.{subst, subst⁻¹}
-use Rattle.optimum.specs.Strips.{Point}
-use Rattle.choice.specs.Choice.{SiteIn}
-use Rattle.rest.specs.Rest.{LevelIn}
-use Rattle.strips.specs.Strips.{stripOf, pointOf}
-use Rattle.walk.proofs.Tying.{long, level-of, Tied, tied}
+use Rattle.walk.proofs.Tying.{base-low, long, level-of, Tied, tied}
+use mathlib.Core.Path.{subst⁻¹}
+use Rattle.strips.specs.Steps.{SiteIn}
+use Rattle.rows.specs.Rows.{stripOf, pointOf}
 use mathlib.Core.Path.{_≡_, refl, ap, sym, _∙_}
 use mathlib.Core.List.{List, [], _∷_, _++_}
 use mathlib.Core.Logic.{⊎-elim}
@@ -20,10 +16,12 @@ use Rattle.walk.proofs.tie_site.Tie as tie
 use Rattle.walk.proofs.tie_site.Reads as reads
 use Rattle.walk.proofs.tie_site.Lts as lts
 use Rattle.choice.proofs.choose_slot.Reads as choose-slot-reads
-use Rattle.choice.proofs.hold_of.Reads as hold-of-reads
-use Rattle.choice.proofs.left_after.Reads as left-after-reads
 use Rattle.rest.proofs.level_size.Reads as level-size-reads
+use Rattle.rows.proofs.hold_of.Reads as hold-of-reads
+use Rattle.strips.proofs.step_of.Reads as step-of-reads
+use Rattle.ties.proofs.write_tie.Reads as write-tie-reads
 use Rattle.walk.proofs.site_at.Reads as site-at-reads
+use Rattle.words.proofs.monus.Reads as monus-reads
 
 -- the step's facts, on plain values
 mid : (c : tie.After-slice-known3) → (let a = c .before .before .before .before .before .before .before .before .before .before .before .before .before .before .before .before .before .before .before .before .before .args in Tied (a .q) (a .heights .now) (a .bounds .now) (a .radices .now) (a .draws .now) (a .parts .now) (a .counts .now) (a .work .now) (a .xs .now) (a .ys .now) (a .colours .now) (a .order .now) (c .before .before .before .before .before .before .before .before .before .before .before .before .before .before .before .before .before .before .before .before .before .pre .0) (a .j) (a .labels .now) (a .out .now) (a .left .budget) (a .left .cost)
@@ -35,37 +33,37 @@ mid c =
     (pointOf (c .before .before .before .before .before .before .before .site-at .result)) (c .before .before .before .before .before .before .before .site-at .ensures) (stripOf (c .before .before .before .before .before .hold-of .result)) (c .before .before .before .before .before .hold-of .ensures (a .q) (a .bounds .now) (a .radices .now) (a .draws .now))
     _ (ap (λ (z : ℕ). (a .j + 1) * z) (c .before .before .before .before .level-size .ensures)) (c .before .before .choose-slot .ensures .0)
 
--- src/lib.rt:320:9
+-- src/lib.rt:50:9
 site-at-requires : tie.Need-site-at-requires
 site-at-requires c κs =
     let p = c .before .before .before .before .before .before .before .before .before .before .before .before .before .pre in
     (omega (arith, p .0 .xsLong, p .1 .1), omega (arith, p .0 .ysLong, p .1 .1), omega (arith, p .0 .coloursLong, p .1 .1))
 
--- src/lib.rt:321:9
+-- src/lib.rt:51:9
 hold-of-requires : tie.Need-hold-of-requires
 hold-of-requires c κs =
     let p = c .before .before .before .before .before .before .before .before .before .before .before .before .before .before .before .pre in
     (p .1 .0 .labelsLong, p .0 .sheet .fewSlots)
 
--- src/lib.rt:322:9
+-- src/lib.rt:52:9
 level-size-requires : tie.Need-level-size-requires
 level-size-requires c κs =
     let p = c .before .before .before .before .before .before .before .before .before .before .before .before .before .before .before .before .pre in
     (p .0 .sheet .fewSlots, p .0 .sheet .fewColours, p .0 .splits .within .few)
 
--- src/lib.rt:323:17
+-- src/lib.rt:53:17
 add-base : tie.Need-add-base
 add-base c =
     let p = c .before .before .before .before .before .before .before .before .before .before .before .before .before .before .before .before .before .pre in omega (arith, p .0 .fewSites, p .1 .1)
 
--- src/lib.rt:323:16
+-- src/lib.rt:53:16
 mul-base : tie.Need-mul-base
 mul-base c =
     let p = c .before .before .before .before .before .before .before .before .before .before .before .before .before .before .before .before .before .pre in let a = c .before .before .before .before .before .before .before .before .before .before .before .before .before .before .before .before .before .args in
     let h = base-low (a .q) (a .heights .now) (a .bounds .now) (a .radices .now) (a .draws .now) (a .parts .now) (a .counts .now) (a .work .now) (a .xs .now) (a .ys .now) (a .colours .now) (a .order .now) (p .0) (a .j) (p .1 .1) in
     rw (c .level-size .ensures) (omega (arith, h))
 
--- src/lib.rt:324:9
+-- src/lib.rt:54:9
 choose-slot-requires : tie.Need-choose-slot-requires
 choose-slot-requires c κs =
     let p = c .before .before .before .before .before .before .before .before .before .before .before .before .before .before .before .before .before .before .pre in let a = c .before .before .before .before .before .before .before .before .before .before .before .before .before .before .before .before .before .before .args in (
@@ -76,87 +74,60 @@ choose-slot-requires c κs =
       ),
     )
 
--- src/lib.rt:325:9
-left-after-requires : tie.Need-left-after-requires
-left-after-requires c κs =
+-- src/lib.rt:69:9
+step-of-requires : tie.Need-step-of-requires
+step-of-requires c κs =
     let p = c .before .before .before .before .before .before .before .before .before .before .before .before .before .before .before .before .before .before .before .before .before .pre in let a = c .before .before .before .before .before .before .before .before .before .before .before .before .before .before .before .before .before .before .before .before .before .args in
     (p .0 .sheet, (subst⁻¹ (SiteIn (a .q)) (c .before .before .before .before .before .before .before .site-at .ensures) (p .0 .siteIn (a .j) (p .1 .1)), omega (arith, mid c .slotLow, p .0 .sheet .fewSlots)))
 
--- src/lib.rt:326:17
-mul-place : tie.Need-mul-place
-mul-place c =
-    let p = c .before .before .before .before .before .before .before .before .before .before .before .before .before .before .before .before .before .before .before .before .before .before .pre in omega (arith, p .0 .fewSites, p .1 .1)
-
--- src/lib.rt:326:17
-shared-slice-read-place : tie.Need-shared-slice-read-place
-shared-slice-read-place c =
-    c .before .before .before .before .before .before .before .before .before .before .before .before .before .before .before .before .before .before .before .before .before .before .before .pre .1 .1
-
--- src/lib.rt:326:17
-cast-place : tie.Need-cast-place
-cast-place c =
-    let p = c .before .before .before .before .before .before .before .before .before .before .before .before .before .before .before .before .before .before .before .before .before .before .before .pre in omega (arith, p .0 .fewSites, p .0 .orderLow _ (p .1 .1))
-
--- src/lib.rt:326:17
-add-place : tie.Need-add-place
-add-place c =
-    let p = c .before .before .before .before .before .before .before .before .before .before .before .before .before .before .before .before .before .before .before .before .before .before .before .pre in omega (arith, p .0 .fewSites, p .0 .orderLow _ (p .1 .1))
-
--- src/lib.rt:327:18
-add-out : tie.Need-add-out
-add-out c =
-    let p = c .before .before .before .before .before .before .before .before .before .before .before .before .before .before .before .before .before .before .before .before .before .before .before .pre in omega (arith, mid (c .before .before) .slotLow, p .0 .sheet .fewSlots)
-
--- src/lib.rt:327:5
-mul-out : tie.Need-mul-out
-mul-out c =
-    let p = c .before .before .before .before .before .before .before .before .before .before .before .before .before .before .before .before .before .before .before .before .before .before .before .pre in omega (arith, p .0 .fewSites, p .0 .orderLow _ (p .1 .1))
-
--- src/lib.rt:327:5
-slice-write-out : tie.Need-slice-write-out
-slice-write-out c =
+-- src/lib.rt:70:5
+write-tie-requires : tie.Need-write-tie-requires
+write-tie-requires c κs =
     let p = c .before .before .before .before .before .before .before .before .before .before .before .before .before .before .before .before .before .before .before .before .before .before .before .pre in let a = c .before .before .before .before .before .before .before .before .before .before .before .before .before .before .before .before .before .before .before .before .before .before .before .args in
-    omega (arith, p .0 .orderLow _ (p .1 .1), p .1 .0 .room, long (a .q) (a .heights .now) (a .bounds .now) (a .radices .now) (a .draws .now) (a .parts .now) (a .counts .now) (a .work .now) (a .xs .now) (a .ys .now) (a .colours .now) (a .order .now) (p .0))
+    (p .1 .1, omega (arith, p .0 .orderLow _ (p .1 .1), p .1 .0 .room, long (a .q) (a .heights .now) (a .bounds .now) (a .radices .now) (a .draws .now) (a .parts .now) (a .counts .now) (a .work .now) (a .xs .now) (a .ys .now) (a .colours .now) (a .order .now) (p .0)), omega (arith, mid (c .before .before) .slotLow, p .0 .sheet .fewSlots))
 
--- src/lib.rt:328:16
+-- src/lib.rt:71:16
 cast-slot : tie.Need-cast-slot
 cast-slot c =
-    let p = c .before .before .before .before .before .before .before .before .before .before .before .before .before .before .before .before .before .before .before .before .before .before .before .pre in omega (arith, mid (c .before .before) .slotLow, p .0 .sheet .fewSlots)
+    omega (arith, mid (c .before .before .before .before .before) .slotLow, c .before .before .before .before .before .before .before .before .before .before .before .before .before .before .before .before .before .before .before .before .before .before .before .before .before .before .pre .0 .sheet .fewSlots)
 
--- src/lib.rt:329:20
+-- src/lib.rt:72:20
 add-labels : tie.Need-add-labels
 add-labels c =
-    let p = c .before .before .before .before .before .before .before .before .before .before .before .before .before .before .before .before .before .before .before .before .before .before .before .before .pre in let a = c .before .before .before .before .before .before .before .before .before .before .before .before .before .before .before .before .before .before .before .before .before .before .before .before .args in
-    let i = subst⁻¹ (SiteIn (a .q)) (c .before .before .before .before .before .before .before .before .before .before .site-at .ensures) (p .0 .siteIn (a .j) (p .1 .1)) in
+    let p = c .before .before .before .before .before .before .before .before .before .before .before .before .before .before .before .before .before .before .before .before .before .before .before .before .before .before .before .pre in let a = c .before .before .before .before .before .before .before .before .before .before .before .before .before .before .before .before .before .before .before .before .before .before .before .before .before .before .before .args in
+    let i = subst⁻¹ (SiteIn (a .q)) (c .before .before .before .before .before .before .before .before .before .before .before .before .before .site-at .ensures) (p .0 .siteIn (a .j) (p .1 .1)) in
     omega (arith, i .colourLow, p .0 .sheet .fewColours)
 
--- src/lib.rt:329:5
+-- src/lib.rt:72:5
 mul-labels : tie.Need-mul-labels
 mul-labels c =
-    let p = c .before .before .before .before .before .before .before .before .before .before .before .before .before .before .before .before .before .before .before .before .before .before .before .before .pre in omega (arith, mid (c .before .before .before) .slotLow, p .0 .sheet .fewSlots)
+    omega (arith, mid (c .before .before .before .before .before .before) .slotLow, c .before .before .before .before .before .before .before .before .before .before .before .before .before .before .before .before .before .before .before .before .before .before .before .before .before .before .before .pre .0 .sheet .fewSlots)
 
--- src/lib.rt:329:5
+-- src/lib.rt:72:5
 slice-write-labels : tie.Need-slice-write-labels
 slice-write-labels c =
-    let p = c .before .before .before .before .before .before .before .before .before .before .before .before .before .before .before .before .before .before .before .before .before .before .before .before .pre in
-    omega (arith, mid (c .before .before .before) .slotLow, p .1 .0 .labelsLong, ap length (c .before .before .before .before .before .choose-slot .ensures .1))
+    let p = c .before .before .before .before .before .before .before .before .before .before .before .before .before .before .before .before .before .before .before .before .before .before .before .before .before .before .before .pre in
+    omega (arith, mid (c .before .before .before .before .before .before) .slotLow, p .1 .0 .labelsLong, ap length (c .before .before .before .before .before .before .before .before .choose-slot .ensures .1))
 
--- src/lib.rt:313:1
+-- src/lib.rt:73:9
+monus-requires : tie.Need-monus-requires
+monus-requires c κs = search needs
+
+-- src/lib.rt:26:1
 same-length : tie.Need-same-length
 same-length c =
-    simp length-set (ap length (c .before .before .before .before .before .choose-slot .ensures .1))
+    simp length-set (ap length (c .before .before .before .before .before .before .before .before .before .choose-slot .ensures .1))
 
--- src/lib.rt:313:1
+-- src/lib.rt:26:1
 same-length-2 : tie.Need-same-length-2
 same-length-2 c =
-    let a = c .before .before .before .before .before .before .before .before .before .before .before .before .before .before .before .before .before .before .before .before .before .before .before .before .args in
-    length-set (a .out .now) (getD (a .order .now) (a .j) 0 + 1) (2415919104 + c .before .before .before .before .before .choose-slot .result)
+    ap length (c .before .before .before .before .write-tie .ensures) ∙ length-set (c .before .before .before .before .before .before .before .before .before .before .before .before .before .before .before .before .before .before .before .before .before .before .before .before .before .before .before .before .args .out .now) _ _
 
--- src/lib.rt:313:1
+-- src/lib.rt:26:1
 returns : tie.Need-returns
 returns c =
-    let m = mid (c .before .before .before) in let f = c .before .before .left-after .ensures in
-    rw (c .before .before .before .before .before .choose-slot .ensures .1, f .0, f .1) (m .stands, m .ties)
+    let m = mid (c .before .before .before .before .before .before .before) in let f = c .before .before .before .before .before .before .step-of .ensures in
+    rw (c .before .before .before .before .before .before .before .before .before .choose-slot .ensures .1, c .before .before .before .before .write-tie .ensures, c .monus .ensures, f .0, f .1) (m .stands, m .ties)
 
 pub tie-site-spec : {M : Type 1} → statement M
 tie-site-spec =
@@ -168,18 +139,13 @@ tie-site-spec =
     add-base
     mul-base
     choose-slot-requires
-    left-after-requires
-    mul-place
-    shared-slice-read-place
-    cast-place
-    add-place
-    add-out
-    mul-out
-    slice-write-out
+    step-of-requires
+    write-tie-requires
     cast-slot
     add-labels
     mul-labels
     slice-write-labels
+    monus-requires
     same-length
     same-length-2
     returns)

@@ -1,4 +1,4 @@
--- `refusals::is_head` meets its contract.
+-- `wordwise::is_head` meets its contract.
 use mathlib.Core.Bool.{true}
 use mathlib.Core.Path.{_≡_, refl}
 use native.Mathlib.Omega.{arith}
@@ -19,50 +19,23 @@ shared-slice-read-head c = search needs
 kind-of-requires : tie.Need-kind-of-requires
 kind-of-requires c κs = search needs
 
-same-requires : tie.Need-same-requires
-same-requires c κs = search needs
-
 low-field-requires : tie.Need-low-field-requires
 low-field-requires c κs = search needs
-
-same-requires-2 : tie.Need-same-requires-2
-same-requires-2 c κs = search needs
-
-is-not-requires : tie.Need-is-not-requires
-is-not-requires c κs = search needs
-
-both-requires : tie.Need-both-requires
-both-requires c κs = search needs
 
 gap-field-requires : tie.Need-gap-field-requires
 gap-field-requires c κs = search needs
 
-same-requires-3 : tie.Need-same-requires-3
-same-requires-3 c κs = search needs
-
-is-not-requires-2 : tie.Need-is-not-requires-2
-is-not-requires-2 c κs = search needs
+both-requires : tie.Need-both-requires
+both-requires c κs = search needs
 
 both-requires-2 : tie.Need-both-requires-2
 both-requires-2 c κs = search needs
 
 returns-2 : tie.Need-returns-2
 returns-2 c =
-    let s = c .before .before .before .before .before .before .before .before .before .before .before .before .before .args .sheet .now in
-    let words : ltb 0 (length s) ≡ true = lt-ltb 0 (length s) (omega (arith, c .before .before .before .before .before .before .before .before .before .before .before .if1)) in
-    rw (
-      words,
-      c .both2 .ensures,
-      c .before .is-not2 .ensures,
-      c .before .before .same3 .ensures,
-      c .before .before .before .gap-field .ensures,
-      c .before .before .before .before .both .ensures,
-      c .before .before .before .before .before .is-not .ensures,
-      c .before .before .before .before .before .before .same2 .ensures,
-      c .before .before .before .before .before .before .before .low-field .ensures,
-      c .before .before .before .before .before .before .before .before .same .ensures,
-      c .before .before .before .before .before .before .before .before .before .kind-of .ensures,
-    ) refl
+    let s = c .before .before .before .before .before .before .before .before .args .sheet .now in
+    let words : ltb 0 (length s) ≡ true = lt-ltb 0 (length s) (omega (arith, c .before .before .before .before .before .before .if1)) in
+    rw (words, c .both2 .ensures, c .before .both .ensures, c .before .before .gap-field .ensures, c .before .before .before .low-field .ensures, c .before .before .before .before .kind-of .ensures) refl
 
 pub is-head-spec : {M : Type 1} → statement M
 is-head-spec =
@@ -71,13 +44,8 @@ is-head-spec =
     returns
     shared-slice-read-head
     kind-of-requires
-    same-requires
     low-field-requires
-    same-requires-2
-    is-not-requires
-    both-requires
     gap-field-requires
-    same-requires-3
-    is-not-requires-2
+    both-requires
     both-requires-2
     returns-2)

@@ -6,49 +6,31 @@ use Rattle.recipe.proofs.words.put_sheet.Statement.{statement}
 use Rattle.recipe.proofs.words.put_sheet.Tie as tie
 
 abbrev Inv-loop : tie.InvT-loop
-Inv-loop sheet words₀ n past₀ c₀ words past c = (c ≤ n) × (length words ≡ length words₀)
+Inv-loop sheet words₀ colours₀ i₀ words colours i = (i ≤ length words₀) × (length words ≡ length words₀)
 
 abbrev μ-loop : tie.MeasureT-loop
-μ-loop sheet words₀ n past₀ c₀ words past c = n - c
-
-head-word-requires : tie.Need-head-word-requires Inv-loop μ-loop
-head-word-requires c κs = search needs
-
-put-requires : tie.Need-put-requires Inv-loop μ-loop
-put-requires c κs = search needs
-
-put-slots-requires : tie.Need-put-slots-requires Inv-loop μ-loop
-put-slots-requires c κs = search needs
-
-colours-requires : tie.Need-colours-requires Inv-loop μ-loop
-colours-requires c κs = search needs
-
-slots-requires : tie.Need-slots-requires Inv-loop μ-loop
-slots-requires c κs = search needs
-
-sum-requires : tie.Need-sum-requires Inv-loop μ-loop
-sum-requires c κs = search needs
+μ-loop sheet words₀ colours₀ i₀ words colours i = length words₀ - i
 
 loop-holds : tie.Need-loop-holds Inv-loop μ-loop
 loop-holds c = search needs
 
-bound-requires : tie.Need-bound-requires Inv-loop μ-loop
-bound-requires c κs = search needs
+cast-word-at : tie.Need-cast-word-at Inv-loop μ-loop
+cast-word-at c = search needs
 
-add-put : tie.Need-add-put Inv-loop μ-loop
-add-put c = search needs
+word-at-requires : tie.Need-word-at-requires Inv-loop μ-loop
+word-at-requires c κs = search needs
 
-put-requires-2 : tie.Need-put-requires-2 Inv-loop μ-loop
-put-requires-2 c κs = search needs
+mul-words : tie.Need-mul-words Inv-loop μ-loop
+mul-words c = search needs
 
-sum-requires-2 : tie.Need-sum-requires-2 Inv-loop μ-loop
-sum-requires-2 c κs = search needs
+slice-write-words : tie.Need-slice-write-words Inv-loop μ-loop
+slice-write-words c = search needs
 
-put-sites-requires : tie.Need-put-sites-requires Inv-loop μ-loop
-put-sites-requires c κs = search needs
+colours-after-requires : tie.Need-colours-after-requires Inv-loop μ-loop
+colours-after-requires c κs = search needs
 
-add-c : tie.Need-add-c Inv-loop μ-loop
-add-c c = search needs
+add-i : tie.Need-add-i Inv-loop μ-loop
+add-i c = search needs
 
 loop-less : tie.Need-loop-less Inv-loop μ-loop
 loop-less c = search needs
@@ -68,19 +50,13 @@ put-sheet-spec =
     (tie.spec
     Inv-loop
     μ-loop
-    head-word-requires
-    put-requires
-    put-slots-requires
-    colours-requires
-    slots-requires
-    sum-requires
     loop-holds
-    bound-requires
-    add-put
-    put-requires-2
-    sum-requires-2
-    put-sites-requires
-    add-c
+    cast-word-at
+    word-at-requires
+    mul-words
+    slice-write-words
+    colours-after-requires
+    add-i
     loop-less
     loop-again
     same-length

@@ -4,7 +4,7 @@ use Rattle.try_reader.proofs.compare.same_colours.Statement.{statement}
 use Rattle.try_reader.proofs.compare.same_colours.Tie as tie
 
 abbrev Inv-loop : tie.InvT-loop
-Inv-loop wanted colours i₀ i = i ≤ 8
+Inv-loop wanted colours i₀ i = (i ≤ 8)
 
 abbrev μ-loop : tie.MeasureT-loop
 μ-loop wanted colours i₀ i = 8 - i
@@ -30,9 +30,6 @@ add-word-at c = search needs
 word-at-requires : tie.Need-word-at-requires Inv-loop μ-loop
 word-at-requires c κs = search needs
 
-returns : tie.Need-returns Inv-loop μ-loop
-returns c = search needs
-
 wide-requires-2 : tie.Need-wide-requires-2 Inv-loop μ-loop
 wide-requires-2 c κs = search needs
 
@@ -45,8 +42,8 @@ add-word-at-2 c = search needs
 word-at-requires-2 : tie.Need-word-at-requires-2 Inv-loop μ-loop
 word-at-requires-2 c κs = search needs
 
-returns-2 : tie.Need-returns-2 Inv-loop μ-loop
-returns-2 c = search needs
+returns : tie.Need-returns Inv-loop μ-loop
+returns c = search needs
 
 add-i : tie.Need-add-i Inv-loop μ-loop
 add-i c = search needs
@@ -57,8 +54,8 @@ loop-less c = search needs
 loop-again : tie.Need-loop-again Inv-loop μ-loop
 loop-again c = search needs
 
-returns-3 : tie.Need-returns-3 Inv-loop μ-loop
-returns-3 c = search needs
+returns-2 : tie.Need-returns-2 Inv-loop μ-loop
+returns-2 c = search needs
 
 pub same-colours-spec : {M : Type 1} → statement M
 same-colours-spec =
@@ -73,13 +70,12 @@ same-colours-spec =
     mul-word-at
     add-word-at
     word-at-requires
-    returns
     wide-requires-2
     mul-word-at-2
     add-word-at-2
     word-at-requires-2
-    returns-2
+    returns
     add-i
     loop-less
     loop-again
-    returns-3)
+    returns-2)

@@ -9,9 +9,6 @@ Inv-loop text t₀ i₀ t i = i ≤ 128
 abbrev μ-loop : tie.MeasureT-loop
 μ-loop text t₀ i₀ t i = 128 - i
 
-none-requires : tie.Need-none-requires Inv-loop μ-loop
-none-requires c κs = search needs
-
 loop-holds : tie.Need-loop-holds Inv-loop μ-loop
 loop-holds c = search needs
 
@@ -21,8 +18,8 @@ mul-read-set c = search needs
 read-set-requires : tie.Need-read-set-requires Inv-loop μ-loop
 read-set-requires c κs = search needs
 
-sum-requires : tie.Need-sum-requires Inv-loop μ-loop
-sum-requires c κs = search needs
+wrapping-add-u32-requires : tie.Need-wrapping-add-u32-requires Inv-loop μ-loop
+wrapping-add-u32-requires c κs = search needs
 
 add-i : tie.Need-add-i Inv-loop μ-loop
 add-i c = search needs
@@ -42,11 +39,10 @@ read-sets-spec =
     (tie.spec
     Inv-loop
     μ-loop
-    none-requires
     loop-holds
     mul-read-set
     read-set-requires
-    sum-requires
+    wrapping-add-u32-requires
     add-i
     loop-less
     loop-again

@@ -10,9 +10,6 @@ Inv-loop text t₀ from₀ t from = from ≤ length text
 abbrev μ-loop : tie.MeasureT-loop
 μ-loop text t₀ from₀ t from = length text - from
 
-none-requires : tie.Need-none-requires Inv-loop μ-loop
-none-requires c κs = search needs
-
 place-of-requires : tie.Need-place-of-requires Inv-loop μ-loop
 place-of-requires c κs = search needs
 
@@ -37,8 +34,8 @@ part-read-group-end c = search needs
 read-group-requires : tie.Need-read-group-requires Inv-loop μ-loop
 read-group-requires c κs = search needs
 
-sum-requires : tie.Need-sum-requires Inv-loop μ-loop
-sum-requires c κs = search needs
+wrapping-add-u32-requires : tie.Need-wrapping-add-u32-requires Inv-loop μ-loop
+wrapping-add-u32-requires c κs = search needs
 
 loop-less : tie.Need-loop-less Inv-loop μ-loop
 loop-less c = search needs
@@ -55,7 +52,6 @@ read-groups-spec =
     (tie.spec
     Inv-loop
     μ-loop
-    none-requires
     place-of-requires
     loop-holds
     add-start
@@ -64,7 +60,7 @@ read-groups-spec =
     part-read-group-start
     part-read-group-end
     read-group-requires
-    sum-requires
+    wrapping-add-u32-requires
     loop-less
     loop-again
     returns)

@@ -10,9 +10,6 @@ Inv-loop text t₀ from₀ t from = from ≤ length text + 1
 abbrev μ-loop : tie.MeasureT-loop
 μ-loop text t₀ from₀ t from = length text + 1 - from
 
-none-requires : tie.Need-none-requires Inv-loop μ-loop
-none-requires c κs = search needs
-
 loop-holds : tie.Need-loop-holds Inv-loop μ-loop
 loop-holds c = search needs
 
@@ -31,8 +28,8 @@ part-read-line-end c = search needs
 read-line-requires : tie.Need-read-line-requires Inv-loop μ-loop
 read-line-requires c κs = search needs
 
-sum-requires : tie.Need-sum-requires Inv-loop μ-loop
-sum-requires c κs = search needs
+wrapping-add-u32-requires : tie.Need-wrapping-add-u32-requires Inv-loop μ-loop
+wrapping-add-u32-requires c κs = search needs
 
 add-from : tie.Need-add-from Inv-loop μ-loop
 add-from c = search needs
@@ -52,14 +49,13 @@ read-lines-spec =
     (tie.spec
     Inv-loop
     μ-loop
-    none-requires
     loop-holds
     place-of-requires
     sub-read-line
     part-read-line-start
     part-read-line-end
     read-line-requires
-    sum-requires
+    wrapping-add-u32-requires
     add-from
     loop-less
     loop-again

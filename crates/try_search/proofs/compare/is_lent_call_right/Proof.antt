@@ -24,21 +24,21 @@ within-requires-3 c κs = search needs
 
 slice-aggregate-is-call-right : tie.Need-slice-aggregate-is-call-right
 slice-aggregate-is-call-right c =
-    sym (length-take-le (c .before .before .before .before .before .within .result) (c .before .before .before .before .before .before .before .before .before .before .before .args .words .now) (c .before .before .before .before .before .within .ensures))
+    sym (length-take-le (c .before .before .before .before .before .within .result) _ (c .before .before .before .before .before .within .ensures))
 
 slice-relend-prefix-is-call-right : tie.Need-slice-relend-prefix-is-call-right
 slice-relend-prefix-is-call-right c = search needs
 
 slice-aggregate-is-call-right-2 : tie.Need-slice-aggregate-is-call-right-2
 slice-aggregate-is-call-right-2 c =
-    sym (length-take-le (c .before .before .before .before .within2 .result) (c .before .before .before .before .before .before .before .before .before .before .before .before .args .work .now) (c .before .before .before .before .within2 .ensures))
+    sym (length-take-le (c .before .before .before .before .within2 .result) _ (c .before .before .before .before .within2 .ensures))
 
 slice-relend-prefix-is-call-right-2 : tie.Need-slice-relend-prefix-is-call-right-2
 slice-relend-prefix-is-call-right-2 c = search needs
 
 slice-aggregate-is-call-right-3 : tie.Need-slice-aggregate-is-call-right-3
 slice-aggregate-is-call-right-3 c =
-    sym (length-take-le (c .before .before .before .within3 .result) (c .before .before .before .before .before .before .before .before .before .before .before .before .before .args .out .now) (c .before .before .before .within3 .ensures))
+    sym (length-take-le (c .before .before .before .within3 .result) _ (c .before .before .before .within3 .ensures))
 
 is-call-right-requires : tie.Need-is-call-right-requires
 is-call-right-requires c κs = search needs

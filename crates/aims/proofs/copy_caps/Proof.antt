@@ -1,0 +1,96 @@
+use Rattle.lists.proofs.Front.{front, front-more}
+use Rattle.aims.proofs.Aims.{copied-all}
+use mathlib.Core.Path.{_≡_, refl, ap, _∙_}
+use mathlib.Core.List.{List}
+use Prim.Native.Nat.{ℕ, _-_, _<_, _≤_}
+use native.Mathlib.Omega.{arith}
+use lib.ListN.{length, getD, set, length-set}
+use borrow.Author.Needs.{needs}
+use Rattle.aims.proofs.copy_caps.Statement.{statement}
+use Rattle.aims.proofs.copy_caps.Tie as tie
+
+abbrev Inv-loop : tie.InvT-loop
+Inv-loop caps goals₀ i₀ goals i = (length goals ≡ length goals₀) × (i ≤ length goals) × (goals ≡ front goals₀ caps i)
+
+abbrev μ-loop : tie.MeasureT-loop
+μ-loop caps goals₀ i₀ goals i = length goals - i
+
+-- src/lib.rt:158:5
+loop-holds : tie.Need-loop-holds Inv-loop μ-loop
+loop-holds c =
+    (refl, omega arith, refl)
+
+-- src/lib.rt:159:20
+mul-goals : tie.Need-mul-goals Inv-loop μ-loop
+mul-goals c =
+    let l = c .before .loop in
+    omega (arith, l .inv .0, c .before .before .pre .0, c .before .before .pre .1)
+
+-- src/lib.rt:159:20
+shared-slice-read-goals : tie.Need-shared-slice-read-goals Inv-loop μ-loop
+shared-slice-read-goals c =
+    let l = c .before .before .loop in
+    omega (arith, l .inv .0, c .before .before .before .pre .0, c .before .loop-test .taken)
+
+-- src/lib.rt:159:9
+mul-goals-2 : tie.Need-mul-goals-2 Inv-loop μ-loop
+mul-goals-2 c =
+    let l = c .before .before .loop in
+    omega (arith, l .inv .0, c .before .before .before .pre .0, c .before .before .before .pre .1)
+
+-- src/lib.rt:159:9
+slice-write-goals : tie.Need-slice-write-goals Inv-loop μ-loop
+slice-write-goals c = search needs
+
+-- src/lib.rt:160:9
+add-i : tie.Need-add-i Inv-loop μ-loop
+add-i c =
+    let l = c .before .before .loop in
+    omega (arith, l .inv .0, c .before .before .before .pre .0, c .before .before .before .pre .1)
+
+-- src/lib.rt:158:5
+loop-less : tie.Need-loop-less Inv-loop μ-loop
+loop-less c =
+    let l = c .before .before .loop in
+    let e = length-set (l .goals) (l .i) (getD (c .before .before .before .args .caps .now) (l .i) 0) in
+    omega (arith, e, c .before .loop-test .taken)
+
+-- src/lib.rt:158:5
+loop-again : tie.Need-loop-again Inv-loop μ-loop
+loop-again c =
+    let a = c .before .before .before .args in
+    let l = c .before .before .loop in
+    let v = getD (a .caps .now) (l .i) 0 in
+    let e = length-set (l .goals) (l .i) v in
+    let h : l .i < length (l .goals) = c .before .loop-test .taken in
+    (e ∙ l .inv .0, omega (arith, e, h), ap (λ (d : List ℕ). set d (l .i) v) (l .inv .2) ∙ front-more (a .goals .now) (a .caps .now) (l .i) v (omega (arith, l .inv .0, h)) (omega (arith, l .inv .0, h, c .before .before .before .pre .0)) refl)
+
+-- src/lib.rt:153:1
+same-length : tie.Need-same-length Inv-loop μ-loop
+same-length c =
+    c .before .loop .inv .0
+
+-- src/lib.rt:153:1
+returns : tie.Need-returns Inv-loop μ-loop
+returns c =
+    let l = c .before .loop in
+    let a = c .before .before .args in
+    let p = c .before .before .pre in
+    l .inv .2 ∙ copied-all (a .goals .now) (a .caps .now) (l .i) (p .0) (omega (arith, l .inv .0, l .inv .1, p .0))
+
+pub copy-caps-spec : {M : Type 1} → statement M
+copy-caps-spec =
+    tie.close
+    (tie.spec
+    Inv-loop
+    μ-loop
+    loop-holds
+    mul-goals
+    shared-slice-read-goals
+    mul-goals-2
+    slice-write-goals
+    add-i
+    loop-less
+    loop-again
+    same-length
+    returns)

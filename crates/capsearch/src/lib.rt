@@ -1,0 +1,196 @@
+// The least cap of one site that keeps the least cost, and the goals of a cheapest layout.
+ghost use mathlib.Core.Path.{_≡_};
+ghost use Prim.Native.Nat.{suc, _+_, _-_, _<_, _≤_};
+ghost use lib.ListN.{length, getD, set};
+ghost use Rattle.optimum.specs.UsedSlots.{value, choose};
+ghost use Rattle.optimum.specs.Steady.{Steady};
+ghost use Rattle.siteorder.specs.Sites.{Reorders};
+ghost use Rattle.usedslots.specs.Table.{tableBy, capsIn, Fits};
+ghost use Rattle.goals.specs.Goals.{Goals};
+ghost use Rattle.capwords.specs.Caps.{Low};
+ghost use Rattle.capsearch.specs.Search.{Probed, Filled};
+use aims::copy_caps;
+use arrays::Measures;
+use byheight::keeps_least;
+use goals::set_goals;
+use traces::trace_labels;
+use words::lesser;
+use words::monus;
+
+// Slots from low to high.
+pub struct Range {
+    pub low: u32,
+    pub high: u32,
+}
+
+// The goals that the labels of a cheapest layout give.
+pub fn trace_goals(
+    q: Measures,
+    heights: &[u32],
+    bounds: &[u32],
+    radices: &[u32],
+    draws: &[u32],
+    ys: &[u32],
+    colours: &[u32],
+    caps: &[u32],
+    work: &[u32],
+    goals: &mut [u32],
+    least: u32,
+)
+    requires { ⌜ Fits q (now heights) (now bounds) (now radices) (now draws) (now ys) (now colours) (now caps) ⌝ }
+    requires { ⌜ (length (now goals) ≡ length (now ys)) × (value (tableBy q (now heights) (now bounds) (now radices) (now ys) (now colours)) (capsIn (now caps)) ≤ least) ⌝ }
+    ensures { λ _. ⌜ Goals (tableBy q (now (heights .entry)) (now (bounds .entry)) (now (radices .entry)) (now (ys .entry)) (now (colours .entry))) (now (caps .entry)) (now (goals .exit)) least ⌝ }
+{
+    let mut labels = [0u32; 48];
+    trace_labels(
+        q,
+        heights,
+        bounds,
+        radices,
+        draws,
+        ys,
+        colours,
+        caps,
+        work,
+        &mut labels,
+        least,
+    );
+    set_goals(
+        q,
+        heights,
+        bounds,
+        radices,
+        draws,
+        ys,
+        colours,
+        caps,
+        &labels,
+        goals,
+        least,
+    );
+}
+
+// The highest slot that a site goes to: its goal's where it has one.
+fn high_of(goal: u32, slots: u32) -> u32
+    ensures { λ r. ⌜ (r ≤ slots - 1) × (r < slots - 1 → goal ≡ r + 1) ⌝ }
+{
+    let last = monus(slots, 1);
+    if goal == 0 {
+        return last;
+    }
+    lesser(goal - 1, last)
+}
+
+// A range of slots after a test of the caps, where the site's is at one of these slots.
+fn probed(
+    q: Measures,
+    heights: &[u32],
+    bounds: &[u32],
+    radices: &[u32],
+    draws: &[u32],
+    ys: &[u32],
+    colours: &[u32],
+    order: &[u32],
+    caps: &[u32],
+    work: &[u32],
+    goals: &mut [u32],
+    least: u32,
+    site: usize,
+    range: Range,
+    probe: u32,
+) -> Range
+    requires { ⌜ Fits q (now heights) (now bounds) (now radices) (now draws) (now ys) (now colours) (now caps) ⌝ }
+    requires { ⌜ Filled q (now heights) (now bounds) (now radices) (now ys) (now colours) (now work) least × (site < length (now caps)) × (probe ≤ 48) × (getD (now caps) site 0 ≡ probe + 1) × Reorders (now order) (length (now ys)) × Goals (tableBy q (now heights) (now bounds) (now radices) (now ys) (now colours)) (set (now caps) site 0) (now goals) least ⌝ }
+    ensures { λ r. ⌜ Probed (tableBy q (now (heights .entry)) (now (bounds .entry)) (now (radices .entry)) (now (ys .entry)) (now (colours .entry))) (now (caps .entry)) least site range probe r ⌝ }
+    ensures { λ _. ⌜ Goals (tableBy q (now (heights .entry)) (now (bounds .entry)) (now (radices .entry)) (now (ys .entry)) (now (colours .entry))) (set (now (caps .entry)) site 0) (now (goals .exit)) least ⌝ }
+{
+    if keeps_least(
+        q,
+        heights,
+        bounds,
+        radices,
+        draws,
+        ys,
+        colours,
+        order,
+        caps,
+        work,
+    ) {
+        trace_goals(
+            q,
+            heights,
+            bounds,
+            radices,
+            draws,
+            ys,
+            colours,
+            caps,
+            work,
+            goals,
+            least,
+        );
+        return Range {
+            low: range.low,
+            high: monus(goals[site], 1),
+        };
+    }
+    Range {
+        low: probe + 1,
+        high: range.high,
+    }
+}
+
+// The least cap that keeps the cost: first the slot next above that of the labels, which mostly ends it, then by halving.
+pub fn cap_site(
+    q: Measures,
+    heights: &[u32],
+    bounds: &[u32],
+    radices: &[u32],
+    draws: &[u32],
+    ys: &[u32],
+    colours: &[u32],
+    order: &[u32],
+    caps: &mut [u32],
+    work: &[u32],
+    goals: &mut [u32],
+    least: u32,
+    site: usize,
+)
+    requires { ⌜ Fits q (now heights) (now bounds) (now radices) (now draws) (now ys) (now colours) (now caps) ⌝ }
+    requires { ⌜ Filled q (now heights) (now bounds) (now radices) (now ys) (now colours) (now work) least × (site < length (now caps)) × (getD (now caps) site 0 ≡ 0) × Reorders (now order) (length (now ys)) × Goals (tableBy q (now heights) (now bounds) (now radices) (now ys) (now colours)) (now caps) (now goals) least ⌝ }
+    requires { ⌜ (value (tableBy q (now heights) (now bounds) (now radices) (now ys) (now colours)) (capsIn (now caps)) ≡ least) × Steady (tableBy q (now heights) (now bounds) (now radices) (now ys) (now colours)) least ⌝ }
+    ensures { λ _. ⌜ now (caps .exit) ≡ set (now (caps .entry)) site (suc (choose (tableBy q (now (heights .entry)) (now (bounds .entry)) (now (radices .entry)) (now (ys .entry)) (now (colours .entry))) least (capsIn (now (caps .entry))) site)) ⌝ }
+    ensures { λ _. ⌜ (Low (now (caps .entry)) → Low (now (caps .exit))) ⌝ }
+    ensures { λ _. ⌜ Goals (tableBy q (now (heights .entry)) (now (bounds .entry)) (now (radices .entry)) (now (ys .entry)) (now (colours .entry))) (now (caps .exit)) (now (goals .exit)) least ⌝ }
+{
+    let high = high_of(goals[site], heights.len() as u32);
+    let mut range = Range { low: 0, high: high };
+    let mut probe = monus(high, 1);
+    while range.low < range.high {
+        caps[site] = probe + 1;
+        range = probed(
+            q,
+            heights,
+            bounds,
+            radices,
+            draws,
+            ys,
+            colours,
+            order,
+            caps,
+            work,
+            goals,
+            least,
+            site,
+            range,
+            probe,
+        );
+        probe = (range.low + range.high) / 2;
+    }
+    let cap = range.low + 1;
+    caps[site] = cap;
+    // a goal that is not the cap was none, and labels that did not keep the cost do not keep it under more caps
+    if goals[site] != cap {
+        copy_caps(caps, goals);
+    }
+}

@@ -1,3 +1,0 @@
-pub mod Lower
-mod Rows
-mod Search

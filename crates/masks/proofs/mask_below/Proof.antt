@@ -1,0 +1,99 @@
+use Rattle.search.specs.Radix.{below, maskFrom}
+use Rattle.search.proofs.Radix.{bit-small, mask-none, mask-more, mask-all, mask-word}
+use mathlib.Core.Bool.{cond}
+use mathlib.Core.Path.{_≡_, _∙_}
+use Prim.Native.Nat.{ℕ, _+_, _-_, _*_, _<_, _≤_}
+use native.Mathlib.Omega.{arith}
+use borrow.Author.Needs.{needs}
+use Rattle.masks.proofs.mask_below.Statement.{statement}
+use Rattle.masks.proofs.mask_below.Tie as tie
+use Rattle.masks.proofs.mask_below.Reads as reads
+use Rattle.masks.proofs.mask_below.Lts as lts
+use Rattle.masks.proofs.bit_of.Reads as bit-of-reads
+use Rattle.masks.proofs.is_below.Reads as is-below-reads
+
+abbrev Inv-loop : tie.InvT-loop
+Inv-loop radices v mask₀ w₀ mask w = (w ≤ v + 1) × (mask ≡ maskFrom radices v w)
+
+abbrev μ-loop : tie.MeasureT-loop
+μ-loop radices v mask₀ w₀ mask w = w
+
+-- the mask with one bit more, and that there is room for it
+abbrev next : (c : tie.In-loop Inv-loop μ-loop) → ℕ
+next c = c .before .loop .mask * 2 + cond (below (c .before .before .before .args .radices .now) (c .before .loop .w - 1) (c .before .before .before .args .v)) 1 0
+
+more : (c : tie.In-loop Inv-loop μ-loop) → next c ≡ maskFrom (c .before .before .before .args .radices .now) (c .before .before .before .args .v) (c .before .loop .w - 1)
+more c =
+    let l = c .before .loop in
+    let a = c .before .before .before .args in
+    let e : l .w ≡ l .w - 1 + 1 = omega arith in
+    rw (rw e at (l .inv .1)) (mask-more (a .radices .now) (a .v) (l .w - 1) (omega arith))
+
+fits : (c : tie.In-loop Inv-loop μ-loop) → next c < 18446744073709551616
+fits c =
+    let a = c .before .before .before .args in
+    omega (arith, more c, mask-word (a .radices .now) (a .v) (c .before .loop .w - 1) (c .before .before .before .pre .1))
+
+-- src/lib.rt:124:17
+add-w : tie.Need-add-w Inv-loop μ-loop
+add-w c = search needs
+
+-- src/lib.rt:125:5
+loop-holds : tie.Need-loop-holds Inv-loop μ-loop
+loop-holds c =
+    (omega arith, mask-none _ _)
+
+-- src/lib.rt:126:9
+sub-w : tie.Need-sub-w Inv-loop μ-loop
+sub-w c = search needs
+
+-- src/lib.rt:127:16
+mul-mask : tie.Need-mul-mask Inv-loop μ-loop
+mul-mask c =
+    omega (arith, fits c)
+
+-- src/lib.rt:127:34
+is-below-requires : tie.Need-is-below-requires Inv-loop μ-loop
+is-below-requires c κs = search needs
+
+-- src/lib.rt:127:27
+bit-of-requires : tie.Need-bit-of-requires Inv-loop μ-loop
+bit-of-requires c κs = search needs
+
+-- src/lib.rt:127:16
+add-mask : tie.Need-add-mask Inv-loop μ-loop
+add-mask c =
+    omega (arith, fits (c .before .before), c .bit-of .ensures, bit-small (c .before .is-below .result))
+
+-- src/lib.rt:125:5
+loop-less : tie.Need-loop-less Inv-loop μ-loop
+loop-less c = search needs
+
+-- src/lib.rt:125:5
+loop-again : tie.Need-loop-again Inv-loop μ-loop
+loop-again c =
+    (omega arith, rw (c .bit-of .ensures, c .before .is-below .ensures) (more (c .before .before)))
+
+-- src/lib.rt:118:1
+returns : tie.Need-returns Inv-loop μ-loop
+returns c =
+    let l = c .before .loop in
+    let e : l .w ≡ 0 = omega arith in
+    (rw e at (l .inv .1)) ∙ mask-all _ _
+
+pub mask-below-spec : {M : Type 1} → statement M
+mask-below-spec =
+    tie.close
+    (tie.spec
+    Inv-loop
+    μ-loop
+    add-w
+    loop-holds
+    sub-w
+    mul-mask
+    is-below-requires
+    bit-of-requires
+    add-mask
+    loop-less
+    loop-again
+    returns)

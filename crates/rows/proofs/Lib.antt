@@ -1,0 +1,2 @@
+mod Holding
+pub mod Places

@@ -1,0 +1,164 @@
+// Strips of a one-sided sheet and where their rows stand: a level has a row of words for each strip, by the ends above and below it.
+ghost use mathlib.Core.Path.{_≡_};
+ghost use mathlib.Core.List.{List};
+ghost use Prim.Native.Nat.{ℕ, suc, _+_, _*_, _<_, _≤_};
+ghost use lib.ListN.{length, replicate};
+ghost use Rattle.optimum.specs.Strips as model;
+ghost use Rattle.arrays.specs.Arrays.{instanceBy};
+ghost use Rattle.arrays.specs.declared.Measures as measured;
+ghost use Rattle.rows.specs.Rows.{stripOf, pointOf, rowOf, rowsOf, Lies, upperPart, lowerPart, endPlace, upperEnd};
+use arrays::Measures;
+
+// A strip: the labels above and below it (0: the top edge, k + 1: slot k, m + 1: the bottom edge) and their colours (0: none, c + 1: colour c).
+pub struct Strip {
+    pub a: u32,
+    pub ca: u32,
+    pub b: u32,
+    pub cb: u32,
+}
+
+pub struct Site {
+    pub x: u32,
+    pub y: u32,
+    pub c: u32,
+}
+
+// An end of a strip: an edge or a label, by its slot (0 the top edge, k + 1 slot k, m + 1 the bottom edge) and its colour (0 none, c + 1 colour c).
+pub struct End {
+    pub slot: u32,
+    pub colour: u32,
+}
+
+// Where the rows of a strip's two parts begin.
+pub struct PartRows {
+    pub upper: usize,
+    pub lower: usize,
+}
+
+// How many rows a level has.
+pub fn rows_of(q: Measures, m: usize) -> usize
+    requires { ⌜ (m ≤ 48) × (q .colours ≤ 8) ⌝ }
+    ensures { λ r. ⌜ r ≡ rowsOf m (q .colours) ⌝ }
+{
+    let colours = (q.colours as usize) + 1;
+    let ends = m + 2;
+    ends * colours * ends * colours
+}
+
+// The place of a strip's row in its level.
+pub fn row_place(q: Measures, m: usize, p: Strip) -> usize
+    requires { ⌜ (m ≤ 48) × (q .colours ≤ 8) × (q .budgets ≤ 64) ⌝ }
+    requires { ⌜ Lies m (q .colours) (stripOf p) ⌝ }
+    ensures { λ r. ⌜ r ≡ rowOf m (q .colours) (stripOf p) * q .budgets ⌝ }
+{
+    let colours = (q.colours as usize) + 1;
+    let ends = m + 2;
+    let upper = (p.a as usize) * colours + (p.ca as usize);
+    let strip = (upper * ends + (p.b as usize)) * colours + (p.cb as usize);
+    strip * (q.budgets as usize)
+}
+
+// The places of the rows of the two parts that a label at slot k leaves of a strip.
+pub fn part_places(q: Measures, m: usize, p: Strip, s: Site, low: usize, k: u32) -> PartRows
+    requires { ⌜ (m ≤ 48) × (q .colours ≤ 8) × (q .budgets ≤ 64) × (low + rowsOf m (q .colours) * q .budgets ≤ 18446744073709551615) ⌝ }
+    requires { ⌜ Lies m (q .colours) (stripOf p) × (s .c < q .colours) × (k + 1 < p .b) ⌝ }
+    ensures { λ r. ⌜ (r .upper ≡ low + rowOf m (q .colours) (upperPart (stripOf p) (pointOf s) k) * q .budgets) × (r .lower ≡ low + rowOf m (q .colours) (lowerPart (stripOf p) (pointOf s) k) * q .budgets) ⌝ }
+{
+    let c = s.c + 1;
+    let upper = Strip {
+        a: p.a,
+        ca: p.ca,
+        b: k + 1,
+        cb: c,
+    };
+    let lower = Strip {
+        a: k + 1,
+        ca: c,
+        b: p.b,
+        cb: p.cb,
+    };
+    PartRows {
+        upper: low + row_place(q, m, upper),
+        lower: low + row_place(q, m, lower),
+    }
+}
+
+// The end that comes next: of the same slot, or the first of the next.
+pub fn next_end(colours: u32, e: End) -> End
+    requires { ⌜ (colours ≤ 8) × (e .slot ≤ 64) × (e .colour ≤ colours) ⌝ }
+    ensures { λ r. ⌜ (r .colour ≤ colours) × (endPlace colours (r .slot) (r .colour) ≡ endPlace colours (e .slot) (e .colour) + 1) ⌝ }
+{
+    if e.colour < colours {
+        return End {
+            slot: e.slot,
+            colour: e.colour + 1,
+        };
+    }
+    End {
+        slot: e.slot + 1,
+        colour: 0,
+    }
+}
+
+// The strip below the same upper end whose lower end comes next.
+pub fn next_below(colours: u32, p: Strip) -> Strip
+    requires { ⌜ (colours ≤ 8) × (p .b ≤ 64) × (p .cb ≤ colours) ⌝ }
+    ensures { λ r. ⌜ (r .a ≡ p .a) × (r .ca ≡ p .ca) × (r .cb ≤ colours) × (endPlace colours (r .b) (r .cb) ≡ endPlace colours (p .b) (p .cb) + 1) ⌝ }
+{
+    let e = next_end(
+        colours,
+        End {
+            slot: p.b,
+            colour: p.cb,
+        },
+    );
+    Strip {
+        a: p.a,
+        ca: p.ca,
+        b: e.slot,
+        cb: e.colour,
+    }
+}
+
+pub fn is_upper_end(e: End) -> bool
+    ensures { λ r. ⌜ r ≡ upperEnd (e .slot) (e .colour) ⌝ }
+{
+    if e.slot == 0 {
+        return e.colour == 0;
+    }
+    0 < e.colour
+}
+
+// The strip that holds the height y.
+pub fn hold_of(heights: &[u32], labels: &[u32], y: u32) -> Strip
+    requires { ⌜ (length (now labels) ≡ length (now heights)) × (length (now heights) ≤ 48) ⌝ }
+    ensures { λ r. ⌜ ((q : measured.Measures) (bs rs ds : List ℕ) → stripOf r ≡ model.hold (instanceBy q (now (heights .entry)) bs rs ds) (now (labels .entry)) (replicate (suc (length (now (heights .entry)))) 0) y) ⌝ }
+{
+    let m = labels.len();
+    let mut a: u32 = 0;
+    let mut ca: u32 = 0;
+    let mut i: usize = 0;
+    while i < m {
+        let e = labels[i];
+        let none = e == 0;
+        let b = i as u32 + 1;
+        if words::both(!none, y < heights[i]) {
+            return Strip {
+                a: a,
+                ca: ca,
+                b: b,
+                cb: e,
+            };
+        }
+        a = words::choose(none, a, b);
+        ca = words::choose(none, ca, e);
+        i += 1;
+    }
+    let end = m as u32 + 1;
+    Strip {
+        a: a,
+        ca: ca,
+        b: end,
+        cb: 0,
+    }
+}

@@ -1,0 +1,27 @@
+use mathlib.Core.Path.{_≡_, _∙_}
+use Prim.Native.Nat.{_-_}
+use native.Mathlib.Omega.{arith}
+use borrow.Author.Needs.{needs}
+use Rattle.slotbands.proofs.top_of.Statement.{statement}
+use Rattle.slotbands.proofs.top_of.Tie as tie
+
+-- src/lib.rt:257:9
+returns : tie.Need-returns
+returns c = search needs
+
+-- src/lib.rt:259:18
+sub-get : tie.Need-sub-get
+sub-get c = search needs
+
+-- src/lib.rt:259:5
+get-requires : tie.Need-get-requires
+get-requires c κs = search needs
+
+-- src/lib.rt:253:1
+returns-2 : tie.Need-returns-2
+returns-2 c =
+    let a = c .before .before .before .args in
+    λ j e. let z : a .a - 1 ≡ j = omega arith in c .get .ensures ∙ rw z
+
+pub top-of-spec : {M : Type 1} → statement M
+top-of-spec = tie.close (tie.spec returns sub-get get-requires returns-2)

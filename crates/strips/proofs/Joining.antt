@@ -1,0 +1,68 @@
+-- What opening a label asks, taken apart, and what joining one costs. Assumes nothing.
+use mathlib.Core.Path.{_≡_, sym, _∙_}
+use mathlib.Core.Logic.{_⊎_}
+use mathlib.Core.Bool.{true, false}
+use mathlib.Core.List.{List}
+use Prim.Native.Nat.{ℕ, suc, _+_, _-_, _<_, _≤_}
+use native.Mathlib.Omega.{arith}
+use lib.ListN.{length}
+use borrow.Author.Tests.{lt-ltb, ltb-true, eqb-true}
+use Rattle.lists.proofs.Tests.{by-test, by-either, and-both, and-of}
+use Rattle.optimum.specs.Strips.{Point, Strip, opens, joinsUp, joinsDown}
+use Rattle.optimum.specs.OneSided.{topWord}
+use Rattle.arrays.specs.declared.Measures.{Measures}
+use Rattle.strips.specs.Strips.{instanceOn, gapLeft, siteOpens, joinCost, joinLeast, Framed, Stands}
+use Rattle.strips.proofs.Decisions.{opens-split}
+
+-- what opening asks, taken apart
+pub record Opening (q : Measures) (hs bs : List ℕ) (p : Strip) (s : Point) (k : ℕ) : Type 0 where
+  pub above : p .a < k + 1
+  pub under : k + 1 < p .b
+  pub slot : k < length hs
+  pub gap : gapLeft (instanceOn q hs bs) p s k ≡ true
+  pub site : siteOpens (instanceOn q hs bs) p s ≡ true
+
+pub opening : (q : Measures) (hs bs : List ℕ) (p : Strip) (s : Point) (k : ℕ) → opens (instanceOn q hs bs) p s k ≡ true → Opening q hs bs p s k
+opening q hs bs p s k e =
+    let w = and-both _ _ (sym (opens-split q hs bs p s k) ∙ e) in
+    let b = and-both _ _ (w .0) in
+    let c = and-both _ _ (b .0) in
+    let g = and-both _ _ (w .1) in
+    record { above = ltb-true _ _ (c .0); under = ltb-true _ _ (c .1); slot = ltb-true _ _ (b .1); gap = g .0; site = g .1 }
+
+pub opens-of : (q : Measures) (hs bs : List ℕ) (p : Strip) (s : Point) (k : ℕ) → Opening q hs bs p s k → opens (instanceOn q hs bs) p s k ≡ true
+opens-of q hs bs p s k o =
+    opens-split q hs bs p s k
+    ∙ and-of _ _ (and-of _ _ (and-of _ _ (lt-ltb _ _ (o .above)) (lt-ltb _ _ (o .under))) (lt-ltb _ _ (o .slot))) (and-of _ _ (o .gap) (o .site))
+
+module _ (q : Measures) (hs bs : List ℕ) (p : Strip) (s : Point) where
+  -- a label cannot be opened where one is joined
+  pub shut : (k : ℕ) → (p .a ≡ suc k) ⊎ (p .b ≡ suc k) → opens (instanceOn q hs bs) p s k ≡ false
+  shut k e = by-test (opens (instanceOn q hs bs) p s k) (λ o. let g = opening q hs bs p s k o in by-either e (λ x. absurd (omega (arith, g .above))) (λ x. absurd (omega (arith, g .under)))) (λ o. o)
+
+  pub up-at : (k : ℕ) → joinsUp (instanceOn q hs bs) p s k ≡ true → p .a ≡ suc k
+  unfolding joinsUp
+  up-at k j = eqb-true _ _ (and-both _ _ (and-both _ _ (and-both _ _ j .0) .0) .0)
+
+  pub down-at : (k : ℕ) → joinsDown (instanceOn q hs bs) p s k ≡ true → (p .b ≡ suc k) × (k < length hs)
+  unfolding joinsDown
+  down-at k j = let w = and-both _ _ (and-both _ _ (and-both _ _ j .0) .0) in (eqb-true _ _ (w .0), ltb-true _ _ (w .1))
+
+  -- no join costs less than the least
+  pub up-least : (k : ℕ) → k < length hs → joinsUp (instanceOn q hs bs) p s k ≡ true → joinLeast q hs bs p s ≤ joinCost q hs s k
+  unfolding joinLeast
+  up-least k h j =
+      let a = up-at k j in
+      let e : p .a - 1 ≡ k = omega arith in
+      rw (e, lt-ltb k (length hs) h, j) (omega arith)
+
+  pub down-least : (k : ℕ) → joinsDown (instanceOn q hs bs) p s k ≡ true → joinLeast q hs bs p s ≤ joinCost q hs s k
+  unfolding joinLeast
+  down-least k j =
+      let a = down-at k j .0 in
+      let e : p .b - 1 ≡ k = omega arith in
+      rw (e, j) (omega arith)
+
+  -- a join costs less than none
+  pub join-low : (k : ℕ) → Framed q hs bs → Stands (q .colours) s → joinCost q hs s k < topWord
+  join-low k f g = by-test (q .shortest) (λ e. rw e (omega (arith, f .heightLow k, g .yLow))) (λ e. rw e (omega (arith, f .heightLow k, g .yLow)))

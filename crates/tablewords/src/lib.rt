@@ -1,0 +1,13 @@
+// The words of the two-sided table.
+ghost use mathlib.Core.Path.{_≡_};
+ghost use Prim.Native.Nat.{_+_, _*_, _≤_};
+use arrays::Measures;
+
+// The words of the table.
+pub fn table_words(q: Measures, slots: usize) -> usize
+    requires { ⌜ (slots ≤ 48) × (q .colours ≤ 8) × (q .budgets ≤ 64) ⌝ }
+    ensures { λ r. ⌜ r ≡ (slots + 2) * (q .colours + 1) * q .budgets ⌝ }
+{
+    let codes = q.colours as usize + 1;
+    (slots + 2) * codes * (q.budgets as usize)
+}
