@@ -1,11 +1,11 @@
 -- ONE STEP OF THE WALK over the words of a table: what it costs, and which slots keep the least cost. Definitions.
 use mathlib.Core.Bool.{Bool}
 use mathlib.Core.List.{List}
-use Prim.Native.Nat.{ℕ, suc, _-_}
+use Prim.Native.Nat.{ℕ, suc}
 use lib.Dec.{eqb}
 use lib.ListN.{set}
 use Rattle.search.specs.Cost.{plus}
-use Rattle.optimum.specs.Strips.{Point, Strip, Instance, cost}
+use Rattle.optimum.specs.Strips.{Point, Strip, Instance}
 use Rattle.optimum.specs.OneSided.{topWord}
 use Rattle.strips.specs.Steps.{priceIn, budgetLeft}
 use Rattle.rest.specs.Rest.{restRows}

@@ -16,10 +16,8 @@ use rows::Strip;
 use strips::Window;
 use words::NONE;
 use words::both;
-use words::choose;
 use words::either;
 use words::lesser;
-use words::monus;
 use words::same;
 
 // A row's n words are those of the row at `from`.

@@ -10,8 +10,6 @@ use lib.Seq.{getD-set-same, getD-set-other}
 use Rattle.lists.proofs.Tests.{by-equal}
 use borrow.Author.Tests.{ne-eqb}
 use Rattle.search.specs.Cost.{plus}
-use Rattle.search.specs.Radix.{below}
-use Rattle.optimum.specs.Strips.{cost}
 use Rattle.optimum.specs.OneSided.{topWord}
 use Rattle.rest.specs.Rest.{LevelIn}
 

@@ -6,7 +6,7 @@ ghost use Prim.Native.Nat.{ℕ, suc, _+_, _-_, _<_, _≤_};
 ghost use lib.ListN.{length};
 ghost use Rattle.optimum.specs.UsedSlots.{value};
 ghost use Rattle.bands.specs.Bands.{Barred, Starts, Ends, Marks};
-ghost use Rattle.usedslots.specs.Table.{Fits, none, tableWords, tableBy, capsIn};
+ghost use Rattle.usedslots.specs.Table.{Fits, tableWords, tableBy, capsIn};
 ghost use Rattle.marking.specs.Marked.{Table, Reached, RowTo, PlaceTo};
 use arrays::Measures;
 use bands::ALL_LOST;

@@ -1,21 +1,21 @@
 -- The front parts of the arrays that are decoded from an accepted sheet are its lists, and as long as they are said to be. Assumes nothing.
-use mathlib.Core.Path.{_≡_, refl, sym, ap, ap₂, _∙_}
+use mathlib.Core.Path.{_≡_, sym, ap, ap₂, _∙_}
 use mathlib.Core.List.{List, [], _∷_}
-use Prim.Native.Nat.{ℕ, zero, suc, _+_, _-_, _*_, _/_, _%_, _≤_, _<_}
+use Prim.Native.Nat.{ℕ, zero, suc, _-_, _/_, _%_, _≤_, _<_}
 use native.Mathlib.Omega.{arith}
 use lib.Dec.{eqb}
-use lib.ListN.{length, getD, take, drop, length-take}
+use lib.ListN.{length, getD, take, length-take}
 use native.Mathlib.Nat.{mod-lt}
 use Rattle.lists.proofs.Tests.{by-test}
-use Rattle.sheet.specs.Sheet.{kindOf, bits, Colour, Sheet, bodyOf, coloursIn, sheetIn, sheetFault, productOf}
-use Rattle.sheet.proofs.Accepted.{Sound, sound}
+use Rattle.sheet.specs.Sheet.{kindOf, Sheet, bodyOf, sheetIn, sheetFault}
+use Rattle.sheet.proofs.Accepted.{sound}
 use Rattle.optimum.specs.OneSided.{order}
 use Rattle.optimum.specs.Budgets.{radicesOf}
-use Rattle.optimum.proofs.Order.{Ordered, ordered}
+use Rattle.optimum.proofs.Order.{ordered}
 use Rattle.arrays.specs.Arrays.{padded, boundsOf, drawsList, xsOf, ysOf, coloursOf, gathered, orderBy, radicesBy, drawsBy, productBy, collected}
 use Rattle.arrays.proofs.Whole.{front}
 use Rattle.arrays.proofs.Fields.{bounds-long, xs-long, ys-long, colours-long, bounds-are}
-use Rattle.arrays.proofs.Ordered.{order-is, order-long, gathered-long, radices-are, radices-long, draws-are, draws-long, product-are}
+use Rattle.arrays.proofs.Ordered.{order-is, gathered-long, radices-are, radices-long, draws-are, draws-long, product-are}
 
 -- an array's front part, where its length is known
 pub part : (n : ℕ) (l r : List ℕ) (k : ℕ) → r ≡ padded n l → k ≡ length l → (take k r ≡ l) × (k ≡ length (take k r))

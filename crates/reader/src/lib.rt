@@ -1,6 +1,6 @@
 // The reader: the refusal of any list of words, or the sizes of the sheet in it.
 ghost use mathlib.Core.Path.{_≡_};
-ghost use Prim.Native.Nat.{ℕ, _<_, _≤_};
+ghost use Prim.Native.Nat.{_<_, _≤_};
 ghost use lib.ListN.{length, drop};
 ghost use Rattle.sheet.specs.Sheet.{coloursIn, sitesRun, sheetIn, sheetFault};
 ghost use Rattle.sheet.specs.Words.{countKind};

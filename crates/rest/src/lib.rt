@@ -1,9 +1,9 @@
 // REST: the least cost of tying the sites of a level in the strips of the open labels, which share the budget.
 ghost use mathlib.Core.Path.{_≡_};
 ghost use mathlib.Core.Bool.{cond};
-ghost use Prim.Native.Nat.{ℕ, suc, _+_, _*_, _<_, _≤_};
+ghost use Prim.Native.Nat.{_+_, _*_, _<_, _≤_};
 ghost use lib.Dec.{eqb};
-ghost use lib.ListN.{length, getD};
+ghost use lib.ListN.{length};
 ghost use Rattle.search.specs.Share.{just};
 ghost use Rattle.optimum.specs.OneSided.{topWord};
 ghost use Rattle.search.specs.Sums.{listing};

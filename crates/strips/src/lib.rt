@@ -20,7 +20,6 @@ use places::is_under;
 use rows::Site;
 use rows::Strip;
 use words::NONE;
-use words::at_most;
 use words::both;
 use words::choose;
 use words::either;

@@ -1,8 +1,7 @@
 // Text put into a lent byte area. Each function answers the place past what it put; what would lie past the area's end is left out.
 ghost use mathlib.Core.Path.{_≡_};
 ghost use mathlib.Core.List.{[], _∷_};
-ghost use Prim.Native.Nat.{ℕ, _+_, _%_, min, max};
-ghost use lib.ListN.{length};
+ghost use Prim.Native.Nat.{_+_, _%_};
 ghost use Rattle.text.specs.Text.{decimal, written, pastOf};
 
 pub fn put_byte(text: &mut [u8], at: usize, byte: u8) -> usize

@@ -1,5 +1,4 @@
 // The labels of a cheapest layout as the two-sided table tells them. Nothing rests on them: whoever uses them asks for their cost.
-ghost use mathlib.Core.Path.{_≡_};
 ghost use Prim.Native.Nat.{_<_, _≤_};
 ghost use lib.ListN.{length};
 ghost use Rattle.usedslots.specs.Table.{Fits};

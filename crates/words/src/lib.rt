@@ -1,9 +1,9 @@
 // Kind and fields of a word, and tests and sums as functions. Each is total: its contract is one equation and asks nothing.
 ghost use mathlib.Core.Path.{_≡_};
 ghost use mathlib.Core.Bool.{cond, _&&_, _||_, not};
-ghost use Prim.Native.Nat.{ℕ, _+_, _-_, min};
+ghost use Prim.Native.Nat.{_+_, _-_, min};
 ghost use lib.Dec.{eqb, leb, ltb};
-ghost use lib.ListN.{length, getD};
+ghost use lib.ListN.{getD};
 ghost use Rattle.sheet.specs.Sheet.{kindOf, bits};
 ghost use Rattle.sheet.specs.Words.{rankIn};
 ghost use Rattle.search.specs.Cost.{plus};
@@ -106,12 +106,6 @@ pub fn less(a: u32, b: u32) -> bool
     ensures { λ r. ⌜ r ≡ ltb a b ⌝ }
 {
     a < b
-}
-
-pub fn few(a: usize, b: usize) -> bool
-    ensures { λ r. ⌜ r ≡ leb a b ⌝ }
-{
-    a <= b
 }
 
 pub fn choose(t: bool, a: u32, b: u32) -> u32

@@ -13,65 +13,52 @@ Inv-loop heights ys colours caps labels goals₀ i₀ goals i = (length goals �
 abbrev μ-loop : tie.MeasureT-loop
 μ-loop heights ys colours caps labels goals₀ i₀ goals i = length goals - i
 
--- src/lib.rt:144:5
 loop-holds : tie.Need-loop-holds Inv-loop μ-loop
 loop-holds c =
     (refl, omega arith, λ i l k. absurd (omega arith))
 
--- src/lib.rt:145:20
 cast-site : tie.Need-cast-site Inv-loop μ-loop
 cast-site c =
     let l = c .before .loop in
     omega (arith, l .inv .0, c .before .before .before .before .before .before .before .before .pre .1, c .before .before .before .before .before .before .before .before .pre .2)
 
--- src/lib.rt:146:28
 get-requires : tie.Need-get-requires Inv-loop μ-loop
 get-requires c κs = search needs
 
--- src/lib.rt:146:13
 plus-of-requires : tie.Need-plus-of-requires Inv-loop μ-loop
 plus-of-requires c κs = search needs
 
--- src/lib.rt:147:45
 get-requires-2 : tie.Need-get-requires-2 Inv-loop μ-loop
 get-requires-2 c κs = search needs
 
--- src/lib.rt:147:13
 slot-of-requires : tie.Need-slot-of-requires Inv-loop μ-loop
 slot-of-requires c κs = search needs
 
--- src/lib.rt:148:34
 get-requires-3 : tie.Need-get-requires-3 Inv-loop μ-loop
 get-requires-3 c κs = search needs
 
--- src/lib.rt:148:20
 goal-of-requires : tie.Need-goal-of-requires Inv-loop μ-loop
 goal-of-requires c κs = search needs
 
--- src/lib.rt:148:9
 mul-goals : tie.Need-mul-goals Inv-loop μ-loop
 mul-goals c =
     let l = c .before .before .before .before .before .before .before .loop in
     omega (arith, l .inv .0, c .before .before .before .before .before .before .before .before .before .before .before .before .before .before .pre .1, c .before .before .before .before .before .before .before .before .before .before .before .before .before .before .pre .2)
 
--- src/lib.rt:148:9
 slice-write-goals : tie.Need-slice-write-goals Inv-loop μ-loop
 slice-write-goals c = search needs
 
--- src/lib.rt:149:9
 add-i : tie.Need-add-i Inv-loop μ-loop
 add-i c =
     let l = c .before .before .before .before .before .before .before .loop in
     omega (arith, l .inv .0, c .before .before .before .before .before .before .before .before .before .before .before .before .before .before .pre .1, c .before .before .before .before .before .before .before .before .before .before .before .before .before .before .pre .2)
 
--- src/lib.rt:144:5
 loop-less : tie.Need-loop-less Inv-loop μ-loop
 loop-less c =
     let l = c .before .before .before .before .before .before .before .loop in
     let e = length-set (l .goals) (l .i) (c .goal-of .result) in
     omega (arith, e, c .before .before .before .before .before .before .loop-test .taken)
 
--- src/lib.rt:144:5
 loop-again : tie.Need-loop-again Inv-loop μ-loop
 loop-again c =
     let l = c .before .before .before .before .before .before .before .loop in
@@ -79,12 +66,10 @@ loop-again c =
     let h : l .i < length (l .goals) = c .before .before .before .before .before .before .loop-test .taken in
     (e ∙ l .inv .0, omega (arith, e, h), within-more (c .before .before .before .before .before .before .before .before .before .before .before .before .before .before .args .caps .now) (l .goals) (l .i) (c .goal-of .result) h (l .inv .2) (rw (c .before .get3 .ensures) at (c .goal-of .ensures)))
 
--- src/lib.rt:132:1
 same-length : tie.Need-same-length Inv-loop μ-loop
 same-length c =
     c .before .loop .inv .0
 
--- src/lib.rt:132:1
 returns : tie.Need-returns Inv-loop μ-loop
 returns c =
     let l = c .before .loop in

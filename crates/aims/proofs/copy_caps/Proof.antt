@@ -15,47 +15,39 @@ Inv-loop caps goals₀ i₀ goals i = (length goals ≡ length goals₀) × (i �
 abbrev μ-loop : tie.MeasureT-loop
 μ-loop caps goals₀ i₀ goals i = length goals - i
 
--- src/lib.rt:158:5
 loop-holds : tie.Need-loop-holds Inv-loop μ-loop
 loop-holds c =
     (refl, omega arith, refl)
 
--- src/lib.rt:159:20
 mul-goals : tie.Need-mul-goals Inv-loop μ-loop
 mul-goals c =
     let l = c .before .loop in
     omega (arith, l .inv .0, c .before .before .pre .0, c .before .before .pre .1)
 
--- src/lib.rt:159:20
 shared-slice-read-goals : tie.Need-shared-slice-read-goals Inv-loop μ-loop
 shared-slice-read-goals c =
     let l = c .before .before .loop in
     omega (arith, l .inv .0, c .before .before .before .pre .0, c .before .loop-test .taken)
 
--- src/lib.rt:159:9
 mul-goals-2 : tie.Need-mul-goals-2 Inv-loop μ-loop
 mul-goals-2 c =
     let l = c .before .before .loop in
     omega (arith, l .inv .0, c .before .before .before .pre .0, c .before .before .before .pre .1)
 
--- src/lib.rt:159:9
 slice-write-goals : tie.Need-slice-write-goals Inv-loop μ-loop
 slice-write-goals c = search needs
 
--- src/lib.rt:160:9
 add-i : tie.Need-add-i Inv-loop μ-loop
 add-i c =
     let l = c .before .before .loop in
     omega (arith, l .inv .0, c .before .before .before .pre .0, c .before .before .before .pre .1)
 
--- src/lib.rt:158:5
 loop-less : tie.Need-loop-less Inv-loop μ-loop
 loop-less c =
     let l = c .before .before .loop in
     let e = length-set (l .goals) (l .i) (getD (c .before .before .before .args .caps .now) (l .i) 0) in
     omega (arith, e, c .before .loop-test .taken)
 
--- src/lib.rt:158:5
 loop-again : tie.Need-loop-again Inv-loop μ-loop
 loop-again c =
     let a = c .before .before .before .args in
@@ -65,12 +57,10 @@ loop-again c =
     let h : l .i < length (l .goals) = c .before .loop-test .taken in
     (e ∙ l .inv .0, omega (arith, e, h), ap (λ (d : List ℕ). set d (l .i) v) (l .inv .2) ∙ front-more (a .goals .now) (a .caps .now) (l .i) v (omega (arith, l .inv .0, h)) (omega (arith, l .inv .0, h, c .before .before .before .pre .0)) refl)
 
--- src/lib.rt:153:1
 same-length : tie.Need-same-length Inv-loop μ-loop
 same-length c =
     c .before .loop .inv .0
 
--- src/lib.rt:153:1
 returns : tie.Need-returns Inv-loop μ-loop
 returns c =
     let l = c .before .loop in

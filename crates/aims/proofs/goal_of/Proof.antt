@@ -4,19 +4,15 @@ use borrow.Author.Needs.{needs}
 use Rattle.aims.proofs.goal_of.Statement.{statement}
 use Rattle.aims.proofs.goal_of.Tie as tie
 
--- src/lib.rt:125:9
 plus-of-requires : tie.Need-plus-of-requires
 plus-of-requires c κs = search needs
 
--- src/lib.rt:127:9
 returns : tie.Need-returns
 returns c = search needs
 
--- src/lib.rt:129:5
 lesser-requires : tie.Need-lesser-requires
 lesser-requires c κs = search needs
 
--- src/lib.rt:122:1
 returns-2 : tie.Need-returns-2
 unfolding plus
 returns-2 c =

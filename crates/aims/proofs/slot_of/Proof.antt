@@ -9,65 +9,50 @@ Inv-loop heights labels y code m upper₀ k₀ upper k = Unit
 abbrev μ-loop : tie.MeasureT-loop
 μ-loop heights labels y code m upper₀ k₀ upper k = m - k
 
--- src/lib.rt:317:13
 cast-m : tie.Need-cast-m Inv-loop μ-loop
 cast-m c = search needs
 
--- src/lib.rt:320:5
 loop-holds : tie.Need-loop-holds Inv-loop μ-loop
 loop-holds c = search needs
 
--- src/lib.rt:321:25
 get-requires : tie.Need-get-requires Inv-loop μ-loop
 get-requires c κs = search needs
 
--- src/lib.rt:321:13
 same-requires : tie.Need-same-requires Inv-loop μ-loop
 same-requires c κs = search needs
 
--- src/lib.rt:322:17
 is-not-requires : tie.Need-is-not-requires Inv-loop μ-loop
 is-not-requires c κs = search needs
 
--- src/lib.rt:322:39
 get-requires-2 : tie.Need-get-requires-2 Inv-loop μ-loop
 get-requires-2 c κs = search needs
 
--- src/lib.rt:322:31
 less-requires : tie.Need-less-requires Inv-loop μ-loop
 less-requires c κs = search needs
 
--- src/lib.rt:322:12
 both-requires : tie.Need-both-requires Inv-loop μ-loop
 both-requires c κs = search needs
 
--- src/lib.rt:323:13
 nearer-slot-requires : tie.Need-nearer-slot-requires Inv-loop μ-loop
 nearer-slot-requires c κs = search needs
 
--- src/lib.rt:323:13
 returns : tie.Need-returns Inv-loop μ-loop
 returns c =
     tt
 
--- src/lib.rt:325:9
 choose-requires : tie.Need-choose-requires Inv-loop μ-loop
 choose-requires c κs = search needs
 
--- src/lib.rt:326:9
 add-k : tie.Need-add-k Inv-loop μ-loop
 add-k c = search needs
 
--- src/lib.rt:320:5
 loop-less : tie.Need-loop-less Inv-loop μ-loop
 loop-less c = search needs
 
--- src/lib.rt:320:5
 loop-again : tie.Need-loop-again Inv-loop μ-loop
 loop-again c =
     tt
 
--- src/lib.rt:314:1
 returns-2 : tie.Need-returns-2 Inv-loop μ-loop
 returns-2 c =
     tt

@@ -3,29 +3,23 @@ use borrow.Author.Needs.{needs}
 use Rattle.allowed.proofs.is_left.Statement.{statement}
 use Rattle.allowed.proofs.is_left.Tie as tie
 
--- src/lib.rt:36:9
 get-requires : tie.Need-get-requires
 get-requires c κs = search needs
 
--- src/lib.rt:37:38
 get-requires-2 : tie.Need-get-requires-2
 get-requires-2 c κs = search needs
 
--- src/lib.rt:37:60
 get-requires-3 : tie.Need-get-requires-3
 get-requires-3 c κs = search needs
 
--- src/lib.rt:37:9
 block-size-requires : tie.Need-block-size-requires
 block-size-requires c κs =
     rw (c .get3 .ensures, c .before .before .get .ensures) (c .before .before .before .before .before .before .pre .low)
 
--- src/lib.rt:38:5
 has-left-requires : tie.Need-has-left-requires
 has-left-requires c κs =
     rw (c .block-size .ensures, c .before .get3 .ensures, c .before .before .get2 .ensures, c .before .before .before .get .ensures) (c .before .before .before .before .before .before .before .pre .some)
 
--- src/lib.rt:25:1
 returns : tie.Need-returns
 returns c =
     rw (c .has-left .ensures, c .before .block-size .ensures, c .before .before .get3 .ensures, c .before .before .before .get2 .ensures, c .before .before .before .before .get .ensures) refl

@@ -6,36 +6,28 @@ use borrow.Author.Needs.{needs}
 use Rattle.allowed.proofs.may_stand.Statement.{statement}
 use Rattle.allowed.proofs.may_stand.Tie as tie
 
--- src/lib.rt:57:32
 cast-at-most : tie.Need-cast-at-most
 cast-at-most c = search needs
 
--- src/lib.rt:57:9
 at-most-requires : tie.Need-at-most-requires
 at-most-requires c κs = search needs
 
--- src/lib.rt:58:56
 add-is-far : tie.Need-add-is-far
 add-is-far c = search needs
 
--- src/lib.rt:58:21
 is-far-requires : tie.Need-is-far-requires
 is-far-requires c κs = search needs
 
--- src/lib.rt:58:9
 both-requires : tie.Need-both-requires
 both-requires c κs = search needs
 
--- src/lib.rt:59:9
 returns : tie.Need-returns
 returns c =
     λ e. clash {b = false} e refl
 
--- src/lib.rt:61:5
 is-left-requires : tie.Need-is-left-requires
 is-left-requires c κs = search needs
 
--- src/lib.rt:42:1
 returns-2 : tie.Need-returns-2
 returns-2 c =
     let t : c .before .before .before .before .at-most .result && c .before .before .before .is-far .result ≡ true = sym (c .before .before .both .ensures) ∙ not-false _ (c .before .if1 .left) in

@@ -4,23 +4,18 @@ use borrow.Author.Needs.{needs}
 use Rattle.bands.proofs.other_after.Statement.{statement}
 use Rattle.bands.proofs.other_after.Tie as tie
 
--- src/lib.rt:364:9
 returns : tie.Need-returns
 returns c = search needs
 
--- src/lib.rt:367:9
 returns-2 : tie.Need-returns-2
 returns-2 c = search needs
 
--- src/lib.rt:370:9
 returns-3 : tie.Need-returns-3
 returns-3 c = search needs
 
--- src/lib.rt:373:9
 returns-4 : tie.Need-returns-4
 returns-4 c = search needs
 
--- src/lib.rt:360:1
 returns-5 : tie.Need-returns-5
 returns-5 c =
     let a = c .before .before .before .before .args in

@@ -3,20 +3,16 @@ use borrow.Author.Needs.{needs}
 use Rattle.bands.proofs.other_in.Statement.{statement}
 use Rattle.bands.proofs.other_in.Tie as tie
 
--- src/lib.rt:378:9
 returns : tie.Need-returns
 returns c =
     λ hs ys cs p k old m. old
 
--- src/lib.rt:380:17
 other-after-requires : tie.Need-other-after-requires
 other-after-requires c κs = search needs
 
--- src/lib.rt:380:5
 other-after-requires-2 : tie.Need-other-after-requires-2
 other-after-requires-2 c κs = search needs
 
--- src/lib.rt:374:1
 returns-2 : tie.Need-returns-2
 returns-2 c =
     λ hs ys cs p k old m. c .other-after2 .ensures hs ys cs p k (c .before .other-after .ensures hs ys cs p k old (m .first)) (m .second)

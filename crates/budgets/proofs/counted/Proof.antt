@@ -5,16 +5,13 @@ use Rattle.budgets.proofs.counted.Tie as tie
 use Rattle.budgets.proofs.counted.Reads as reads
 use Rattle.budgets.proofs.counted.Lts as lts
 
--- src/lib.rt:34:16
 add-result : tie.Need-add-result
 add-result c = search needs
 
--- src/lib.rt:34:9
 returns : tie.Need-returns
 returns c =
     rw (c .if1 .taken)
 
--- src/lib.rt:29:1
 returns-2 : tie.Need-returns-2
 returns-2 c = search needs
 

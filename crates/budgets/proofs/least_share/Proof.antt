@@ -27,112 +27,91 @@ part-low c =
     let h = c .before .before .before .before .before .before .before .pre .1 .0 in
     (w .small (a .u) (c .before .loop .i) h (c .loop-test .taken), omega (arith, w .counted (a .u) h))
 
--- src/lib.rt:77:16
 mul-base : tie.Need-mul-base Inv-loop μ-loop
 mul-base c =
     search needs
 
--- src/lib.rt:78:15
 add-end : tie.Need-add-end Inv-loop μ-loop
 add-end c =
     search needs
 
--- src/lib.rt:79:13
 shared-slice-read-n : tie.Need-shared-slice-read-n Inv-loop μ-loop
 shared-slice-read-n c =
     search needs
 
--- src/lib.rt:79:13
 cast-n : tie.Need-cast-n Inv-loop μ-loop
 cast-n c =
     omega (arith, c .shared-slice-known5 .given (c .before .before .before .before .before .args .u))
 
--- src/lib.rt:82:5
 loop-holds : tie.Need-loop-holds Inv-loop μ-loop
 loop-holds c =
     (omega arith, omega arith, least-none _)
 
--- src/lib.rt:83:23
 add-w : tie.Need-add-w Inv-loop μ-loop
 add-w c =
     omega (arith, part-low c)
 
--- src/lib.rt:83:17
 shared-slice-read-w : tie.Need-shared-slice-read-w Inv-loop μ-loop
 shared-slice-read-w c =
     omega (arith, part-low (c .before), c .before .before .before .before .before .before .before .before .pre .0 .partsLong, c .before .before .before .before .before .before .before .before .pre .0 .few)
 
--- src/lib.rt:83:17
 cast-w : tie.Need-cast-w Inv-loop μ-loop
 cast-w c =
     omega (arith, c .shared-slice-known6 .given (c .before .before .before .before .before .before .before .before .args .u * 64 + c .before .before .loop .i))
 
--- src/lib.rt:84:31
 add-lower : tie.Need-add-lower Inv-loop μ-loop
 add-lower c =
     omega (arith, part-low (c .before))
 
--- src/lib.rt:84:29
 mul-lower : tie.Need-mul-lower Inv-loop μ-loop
 mul-lower c =
     omega (arith, part-low (c .before))
 
--- src/lib.rt:84:29
 shared-slice-read-lower : tie.Need-shared-slice-read-lower Inv-loop μ-loop
 shared-slice-read-lower c =
     omega (arith, part-low (c .before .before))
 
--- src/lib.rt:84:29
 cast-lower : tie.Need-cast-lower Inv-loop μ-loop
 cast-lower c =
     let w = partAt (c .before .before .before .before .before .before .before .before .before .args .parts .now) (c .before .before .before .before .before .before .before .before .before .args .u) (c .before .before .before .loop .i) in
     omega (arith, c .shared-slice-known7 .given (c .before .before .before .before .before .before .before .before .before .args .from + w))
 
--- src/lib.rt:84:54
 sub-lower : tie.Need-sub-lower Inv-loop μ-loop
 sub-lower c =
     omega (arith, part-low (c .before .before))
 
--- src/lib.rt:84:52
 mul-lower-2 : tie.Need-mul-lower-2 Inv-loop μ-loop
 mul-lower-2 c =
     omega (arith, part-low (c .before .before))
 
--- src/lib.rt:84:52
 shared-slice-read-lower-2 : tie.Need-shared-slice-read-lower-2 Inv-loop μ-loop
 shared-slice-read-lower-2 c =
     omega (arith, part-low (c .before .before .before))
 
--- src/lib.rt:84:52
 cast-lower-2 : tie.Need-cast-lower-2 Inv-loop μ-loop
 cast-lower-2 c =
     let a = c .before .before .before .before .before .before .before .before .before .before .args in
     let w = partAt (a .parts .now) (a .u) (c .before .before .before .before .loop .i) in
     omega (arith, c .shared-slice-known8 .given (a .at + a .u - w))
 
--- src/lib.rt:84:28
 add-lower-2 : tie.Need-add-lower-2 Inv-loop μ-loop
 add-lower-2 c =
     let a = c .before .before .before .before .before .before .before .before .before .before .args in
     let w = partAt (a .parts .now) (a .u) (c .before .before .before .before .loop .i) in
     omega (arith, c .before .shared-slice-known7 .given (a .from + w), c .shared-slice-known8 .given (a .at + a .u - w))
 
--- src/lib.rt:84:9
 lower-requires : tie.Need-lower-requires Inv-loop μ-loop
 lower-requires c κs =
     search needs
 
--- src/lib.rt:85:9
 add-i : tie.Need-add-i Inv-loop μ-loop
 add-i c =
     omega (arith, part-low (c .before .before .before .before))
 
--- src/lib.rt:82:5
 loop-less : tie.Need-loop-less Inv-loop μ-loop
 loop-less c =
     search needs
 
--- src/lib.rt:82:5
 loop-again : tie.Need-loop-again Inv-loop μ-loop
 loop-again c =
     let a = c .before .before .before .before .before .before .before .before .before .before .before .args in
@@ -146,12 +125,10 @@ loop-again c =
       b ∙ least-more (λ k. plus topWord (getD (a .f .now) (a .from + partAt (a .parts .now) (a .u) k) 0) (getD (a .g .now) (a .at + (a .u - partAt (a .parts .now) (a .u) k)) 0)) (l .i) (l .best) _ _ (l .inv .2) refl,
     )
 
--- src/lib.rt:87:5
 cast-result : tie.Need-cast-result Inv-loop μ-loop
 cast-result c =
     search needs
 
--- src/lib.rt:72:1
 returns : tie.Need-returns Inv-loop μ-loop
 returns c =
     let l = c .before .loop in

@@ -18,26 +18,21 @@ yes c = sym (c .before .is-below .ensures) ∙ c .if1 .taken
 low : (c : tie.Then1) → (c .before .before .before .args .draw ≤ c .before .before .before .args .v) × (c .before .before .before .args .v < 256)
 low c = (sharing _ .fits _ _ (yes c), omega (arith, c .before .before .before .fits .v))
 
--- src/lib.rt:150:8
 is-below-requires : tie.Need-is-below-requires
 is-below-requires c κs = search needs
 
--- src/lib.rt:151:20
 cast-result : tie.Need-cast-result
 cast-result c =
     omega (arith, low c)
 
--- src/lib.rt:151:16
 sub-result : tie.Need-sub-result
 sub-result c =
     omega (arith, low c)
 
--- src/lib.rt:151:9
 returns : tie.Need-returns
 returns c =
     rw (yes c)
 
--- src/lib.rt:146:1
 returns-2 : tie.Need-returns-2
 returns-2 c =
     rw (sym (c .before .is-below .ensures) ∙ c .if1 .left)

@@ -21,52 +21,40 @@ Inv-loop radices v parts₀ base mask₀ count₀ w₀ parts mask count w = (len
 abbrev μ-loop : tie.MeasureT-loop
 μ-loop radices v parts₀ base mask₀ count₀ w₀ parts mask count w = v + 1 - w
 
--- src/lib.rt:70:16
 mul-base : tie.Need-mul-base Inv-loop μ-loop
 mul-base c = search needs
 
--- src/lib.rt:71:40
 cast-mask-below : tie.Need-cast-mask-below Inv-loop μ-loop
 cast-mask-below c = search needs
 
--- src/lib.rt:71:9
 mask-below-requires : tie.Need-mask-below-requires Inv-loop μ-loop
 mask-below-requires c κs = search needs
 
--- src/lib.rt:74:5
 loop-holds : tie.Need-loop-holds Inv-loop μ-loop
 loop-holds c =
     (c .before .before .before .pre .1 .1, omega arith, c .mask-below .ensures ∙ sym (mask-all _ _), listed-none _ _ _, others-none _ _ _)
 
--- src/lib.rt:74:12
 cast-loop : tie.Need-cast-loop Inv-loop μ-loop
 cast-loop c = search needs
 
--- src/lib.rt:75:22
 cast-parts : tie.Need-cast-parts Inv-loop μ-loop
 cast-parts c = search needs
 
--- src/lib.rt:75:15
 add-parts : tie.Need-add-parts Inv-loop μ-loop
 add-parts c = search needs
 
--- src/lib.rt:75:9
 slice-write-parts : tie.Need-slice-write-parts Inv-loop μ-loop
 slice-write-parts c = search needs
 
--- src/lib.rt:76:9
 counted-requires : tie.Need-counted-requires Inv-loop μ-loop
 counted-requires c κs = search needs
 
--- src/lib.rt:78:9
 add-w : tie.Need-add-w Inv-loop μ-loop
 add-w c = search needs
 
--- src/lib.rt:74:5
 loop-less : tie.Need-loop-less Inv-loop μ-loop
 loop-less c = search needs
 
--- src/lib.rt:74:5
 loop-again : tie.Need-loop-again Inv-loop μ-loop
 loop-again c =
     let a = c .before .before .before .before .before .before .args in
@@ -82,11 +70,9 @@ loop-again c =
       others-set (a .parts .now) (l .parts) (a .v * 64) 64 (l .count) (l .w) n (l .inv .4),
     )
 
--- src/lib.rt:64:1
 same-length : tie.Need-same-length Inv-loop μ-loop
 same-length c = search needs
 
--- src/lib.rt:64:1
 returns : tie.Need-returns Inv-loop μ-loop
 returns c =
     let l = c .before .loop in

@@ -17,32 +17,25 @@ Inv-loop radices draw budgets left₀ v₀ left v = (length left ≡ length left
 abbrev μ-loop : tie.MeasureT-loop
 μ-loop radices draw budgets left₀ v₀ left v = budgets - v
 
--- src/lib.rt:163:5
 loop-holds : tie.Need-loop-holds Inv-loop μ-loop
 loop-holds c =
     (refl, omega arith, λ x h. absurd (omega arith))
 
--- src/lib.rt:164:42
 cast-left-of : tie.Need-cast-left-of Inv-loop μ-loop
 cast-left-of c = search needs
 
--- src/lib.rt:164:19
 left-of-requires : tie.Need-left-of-requires Inv-loop μ-loop
 left-of-requires c κs = search needs
 
--- src/lib.rt:164:9
 slice-write-left : tie.Need-slice-write-left Inv-loop μ-loop
 slice-write-left c = search needs
 
--- src/lib.rt:165:9
 add-v : tie.Need-add-v Inv-loop μ-loop
 add-v c = search needs
 
--- src/lib.rt:163:5
 loop-less : tie.Need-loop-less Inv-loop μ-loop
 loop-less c = search needs
 
--- src/lib.rt:163:5
 loop-again : tie.Need-loop-again Inv-loop μ-loop
 loop-again c =
     let l = c .before .before .loop in
@@ -52,11 +45,9 @@ loop-again c =
       entries-more (λ (x n : ℕ). n ≡ leftBy (a .radices .now) (a .draw) x) (l .left) (l .v) (c .left-of .result) (omega (arith, l .inv .0, c .before .before .before .before .before .pre .1)) (l .inv .2) (c .left-of .ensures),
     )
 
--- src/lib.rt:157:1
 same-length : tie.Need-same-length Inv-loop μ-loop
 same-length c = search needs
 
--- src/lib.rt:157:1
 returns : tie.Need-returns Inv-loop μ-loop
 returns c =
     let l = c .before .loop in

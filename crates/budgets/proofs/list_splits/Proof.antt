@@ -17,28 +17,22 @@ Inv-loop radices budgets parts₀ counts₀ v₀ parts counts v = (v ≤ budgets
 abbrev μ-loop : tie.MeasureT-loop
 μ-loop radices budgets parts₀ counts₀ v₀ parts counts v = budgets - v
 
--- src/lib.rt:55:5
 loop-holds : tie.Need-loop-holds Inv-loop μ-loop
 loop-holds c =
     (omega arith, c .before .before .before .pre .1 .1, c .before .before .before .pre .1 .2, λ x h. absurd (omega arith))
 
--- src/lib.rt:56:13
 list-below-requires : tie.Need-list-below-requires Inv-loop μ-loop
 list-below-requires c κs = search needs
 
--- src/lib.rt:57:9
 slice-write-counts : tie.Need-slice-write-counts Inv-loop μ-loop
 slice-write-counts c = search needs
 
--- src/lib.rt:58:9
 add-v : tie.Need-add-v Inv-loop μ-loop
 add-v c = search needs
 
--- src/lib.rt:55:5
 loop-less : tie.Need-loop-less Inv-loop μ-loop
 loop-less c = search needs
 
--- src/lib.rt:55:5
 loop-again : tie.Need-loop-again Inv-loop μ-loop
 loop-again c =
     let l = c .before .before .before .before .before .loop in
@@ -50,15 +44,12 @@ loop-again c =
       rows-more (c .before .before .before .before .before .before .before .before .before .args .radices .now) (l .v) (b .result) (l .parts) (b .last .1 .1 .0) (l .counts) (omega arith) (l .inv .2) (l .inv .3) (b .ensures .0) (b .ensures .1),
     )
 
--- src/lib.rt:49:1
 same-length : tie.Need-same-length Inv-loop μ-loop
 same-length c = search needs
 
--- src/lib.rt:49:1
 same-length-2 : tie.Need-same-length-2 Inv-loop μ-loop
 same-length-2 c = search needs
 
--- src/lib.rt:49:1
 returns : tie.Need-returns Inv-loop μ-loop
 returns c =
     let l = c .before .loop in

@@ -10,47 +10,38 @@ use borrow.Author.Needs.{needs}
 use Rattle.byheight.proofs.keeps_sorted.Statement.{statement}
 use Rattle.byheight.proofs.keeps_sorted.Tie as tie
 
--- src/lib.rt:533:9
 table-words-requires : tie.Need-table-words-requires
 table-words-requires c κs = search needs
 
--- src/lib.rt:546:13
 array-borrow-prefix-few : tie.Need-array-borrow-prefix-few
 array-borrow-prefix-few c = search needs
 
--- src/lib.rt:546:13
 slice-aggregate-keeps-with : tie.Need-slice-aggregate-keeps-with
 slice-aggregate-keeps-with c =
     sym (length-take-le (c .before .before .table-words .result) (replicate {A = ℕ} 1024 0) (omega (arith, length-replicate {A = ℕ} 1024 0, c .before .if1 .taken)))
 
--- src/lib.rt:536:9
 keeps-with-requires : tie.Need-keeps-with-requires
 keeps-with-requires c κs =
     let p = c .before .before .before .before .before .before .before .before .before .before .before .pre in let n = c .before .before .table-words .result in
     (p .0, ((p .1 .0, sym (slice-aggregate-keeps-with c) ∙ c .before .before .table-words .ensures, p .1 .1), (λ i. none-marked n 1024 i, p .1 .2)))
 
--- src/lib.rt:536:9
 returns : tie.Need-returns
 returns c = search needs
 
--- src/lib.rt:560:9
 array-borrow-prefix-marks : tie.Need-array-borrow-prefix-marks
 array-borrow-prefix-marks c =
     let w = words-low (length (c .before .before .before .before .before .before .before .before .before .before .args .heights .now)) (c .before .before .before .before .before .before .before .before .before .before .args .q .colours) (c .before .before .before .before .before .before .before .before .before .before .args .q .budgets) (c .before .before .before .before .before .before .before .before .before .before .pre .0 .few-slots) (c .before .before .before .before .before .before .before .before .before .before .pre .0 .few-colours) (c .before .before .before .before .before .before .before .before .before .before .pre .0 .few-budgets) in omega (arith, c .before .table-words .ensures, w .1)
 
--- src/lib.rt:560:9
 slice-aggregate-keeps-with-2 : tie.Need-slice-aggregate-keeps-with-2
 slice-aggregate-keeps-with-2 c =
     let w = words-low (length (c .before .before .before .before .before .before .before .before .before .before .before .args .heights .now)) (c .before .before .before .before .before .before .before .before .before .before .before .args .q .colours) (c .before .before .before .before .before .before .before .before .before .before .before .args .q .budgets) (c .before .before .before .before .before .before .before .before .before .before .before .pre .0 .few-slots) (c .before .before .before .before .before .before .before .before .before .before .before .pre .0 .few-colours) (c .before .before .before .before .before .before .before .before .before .before .before .pre .0 .few-budgets) in
     sym (length-take-le (c .before .before .table-words .result) (replicate {A = ℕ} 28800 0) (omega (arith, length-replicate {A = ℕ} 28800 0, c .before .before .table-words .ensures, w .1)))
 
--- src/lib.rt:550:5
 keeps-with-requires-2 : tie.Need-keeps-with-requires-2
 keeps-with-requires-2 c κs =
     let p = c .before .before .before .before .before .before .before .before .before .before .before .pre in let n = c .before .before .table-words .result in
     (p .0, ((p .1 .0, sym (slice-aggregate-keeps-with-2 c) ∙ c .before .before .table-words .ensures, p .1 .1), (λ i. none-marked n 28800 i, p .1 .2)))
 
--- src/lib.rt:518:1
 returns-2 : tie.Need-returns-2
 returns-2 c = search needs
 

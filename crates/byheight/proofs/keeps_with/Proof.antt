@@ -2,36 +2,28 @@ use borrow.Author.Needs.{needs}
 use Rattle.byheight.proofs.keeps_with.Statement.{statement}
 use Rattle.byheight.proofs.keeps_with.Tie as tie
 
--- src/lib.rt:500:38
 slice-aggregate-mark-slots : tie.Need-slice-aggregate-mark-slots
 slice-aggregate-mark-slots c = search needs
 
--- src/lib.rt:500:50
 slice-aggregate-mark-slots-2 : tie.Need-slice-aggregate-mark-slots-2
 slice-aggregate-mark-slots-2 c = search needs
 
--- src/lib.rt:500:5
 mark-slots-requires : tie.Need-mark-slots-requires
 mark-slots-requires c κs = search needs
 
--- src/lib.rt:510:9
 slice-aggregate-keeps-marked : tie.Need-slice-aggregate-keeps-marked
 slice-aggregate-keeps-marked c = search needs
 
--- src/lib.rt:511:9
 slice-aggregate-keeps-marked-2 : tie.Need-slice-aggregate-keeps-marked-2
 slice-aggregate-keeps-marked-2 c = search needs
 
--- src/lib.rt:501:5
 keeps-marked-requires : tie.Need-keeps-marked-requires
 keeps-marked-requires c κs =
     let p = c .before .before .before .before .before .before .before .before .before .before .before .before .before .before .before .before .before .pre in (p .0, ((c .before .before .before .before .before .mark-slots .ensures, p .1 .0 .0, p .1 .0 .1, p .1 .0 .2), p .1 .1))
 
--- src/lib.rt:481:1
 same-length : tie.Need-same-length
 same-length c = search needs
 
--- src/lib.rt:481:1
 returns : tie.Need-returns
 returns c = search needs
 

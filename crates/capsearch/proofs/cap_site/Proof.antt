@@ -16,54 +16,44 @@ Inv-loop q heights bounds radices draws ys colours order caps₀ work goals₀ l
 abbrev μ-loop : tie.MeasureT-loop
 μ-loop q heights bounds radices draws ys colours order caps₀ work goals₀ least site high range₀ probe₀ caps goals range probe = range .high - range .low
 
--- src/lib.rt:166:24
 mul-high-of : tie.Need-mul-high-of Inv-loop μ-loop
 mul-high-of c =
     let p = c .before .before .before .before .before .before .before .before .before .before .pre in omega (arith, p .1 .0 .1, p .0 .caps-long, p .0 .few-sites)
 
--- src/lib.rt:166:24
 slice-read-high-of : tie.Need-slice-read-high-of Inv-loop μ-loop
 slice-read-high-of c =
     let p = c .before .before .before .before .before .before .before .before .before .before .before .pre in omega (arith, p .1 .0 .1, p .0 .caps-long, p .1 .0 .4 .long)
 
--- src/lib.rt:166:37
 cast-high-of : tie.Need-cast-high-of Inv-loop μ-loop
 cast-high-of c =
     omega (arith, c .before .before .before .before .before .before .before .before .before .before .before .pre .0 .few-slots)
 
--- src/lib.rt:166:9
 high-of-requires : tie.Need-high-of-requires Inv-loop μ-loop
 high-of-requires c κs = search needs
 
--- src/lib.rt:168:9
 monus-requires : tie.Need-monus-requires Inv-loop μ-loop
 monus-requires c κs = search needs
 
--- src/lib.rt:169:5
 loop-holds : tie.Need-loop-holds Inv-loop μ-loop
 loop-holds c =
     let a = c .before .before .before .before .before .before .before .before .before .before .before .before .before .args in let p = c .before .before .before .before .before .before .before .before .before .before .before .before .before .pre in let h = c .before .high-of in
     let G : Instance = tableBy (a .q) (a .heights .now) (a .bounds .now) (a .radices .now) (a .ys .now) (a .colours .now) in
     sought-first G (a .least) (p .1 .1 .1) (a .caps .now) (a .site) (a .goals .now) (h .result) (c .monus .result) (record { inside = p .1 .0 .1; long = p .0 .caps-long; free = p .1 .0 .2; least = p .1 .1 .0 }) (p .1 .0 .4) (h .ensures) (c .monus .ensures)
 
--- src/lib.rt:170:22
 add-caps : tie.Need-add-caps Inv-loop μ-loop
 add-caps c =
     let a = c .before .before .before .before .before .before .before .before .before .before .before .before .before .before .before .before .args in let p = c .before .before .before .before .before .before .before .before .before .before .before .before .before .before .before .before .pre in let l = c .before .before .loop in
     let G : Instance = tableBy (a .q) (a .heights .now) (a .bounds .now) (a .radices .now) (a .ys .now) (a .colours .now) in
     omega (arith, sought-low G (a .least) (p .1 .1 .1) (a .caps .now) (a .site) (l .caps) (l .goals) (l .range) (l .probe) (l .inv) (c .if1 .taken) (p .0 .few-slots))
 
--- src/lib.rt:170:9
 mul-caps : tie.Need-mul-caps Inv-loop μ-loop
 mul-caps c =
     let p = c .before .before .before .before .before .before .before .before .before .before .before .before .before .before .before .before .pre in omega (arith, p .1 .0 .1, p .0 .caps-long, p .0 .few-sites)
 
--- src/lib.rt:170:9
 slice-write-caps : tie.Need-slice-write-caps Inv-loop μ-loop
 slice-write-caps c =
     let l = c .before .before .loop in omega (arith, l .inv .long, l .inv .site .inside)
 
--- src/lib.rt:171:9
 probed-requires : tie.Need-probed-requires Inv-loop μ-loop
 probed-requires c κs =
     let a = c .before .before .before .before .before .before .before .before .before .before .before .before .before .before .before .before .before .before .args in let p = c .before .before .before .before .before .before .before .before .before .before .before .before .before .before .before .before .before .before .pre in let l = c .before .before .before .before .loop in
@@ -73,7 +63,6 @@ probed-requires c κs =
       (p .1 .0 .0, omega (arith, e, sought-inside G (a .least) (p .1 .1 .1) (a .caps .now) (a .site) (l .caps) (l .goals) (l .range) (l .probe) (l .inv)), sought-low G (a .least) (p .1 .1 .1) (a .caps .now) (a .site) (l .caps) (l .goals) (l .range) (l .probe) (l .inv) (c .before .before .if1 .taken) (p .0 .few-slots), sought-own G (a .least) (p .1 .1 .1) (a .caps .now) (a .site) (l .caps) (l .goals) (l .range) (l .probe) (l .inv), p .1 .0 .3, sought-aimed G (a .least) (p .1 .1 .1) (a .caps .now) (a .site) (l .caps) (l .goals) (l .range) (l .probe) (l .inv)),
     )
 
--- src/lib.rt:188:18
 add-probe : tie.Need-add-probe Inv-loop μ-loop
 add-probe c =
     let a = c .before .before .before .before .before .before .before .before .before .before .before .before .before .before .before .before .before .before .before .before .before .before .args in let p = c .before .before .before .before .before .before .before .before .before .before .before .before .before .before .before .before .before .before .before .before .before .before .pre in let l = c .before .before .before .before .before .before .before .before .loop in let k = c .before .before .before .probed in
@@ -81,80 +70,66 @@ add-probe c =
     let n = sought-step G (a .least) (p .1 .1 .1) (a .caps .now) (a .site) (l .caps) (l .goals) (l .range) (l .probe) (l .inv) _ (k .result) (c .before .before .before .before .before .before .if1 .taken) (k .ensures .0) (k .ensures .1) .0 in
     omega (arith, n .range .ordered, n .range .bounded, p .0 .few-slots)
 
--- src/lib.rt:169:5
 loop-less : tie.Need-loop-less Inv-loop μ-loop
 loop-less c =
     let a = c .before .before .before .before .before .before .before .before .before .before .before .before .before .before .before .before .before .before .before .before .before .before .args in let p = c .before .before .before .before .before .before .before .before .before .before .before .before .before .before .before .before .before .before .before .before .before .before .pre in let l = c .before .before .before .before .before .before .before .before .loop in let k = c .before .before .before .probed in
     let G : Instance = tableBy (a .q) (a .heights .now) (a .bounds .now) (a .radices .now) (a .ys .now) (a .colours .now) in
     sought-step G (a .least) (p .1 .1 .1) (a .caps .now) (a .site) (l .caps) (l .goals) (l .range) (l .probe) (l .inv) _ (k .result) (c .before .before .before .before .before .before .if1 .taken) (k .ensures .0) (k .ensures .1) .1
 
--- src/lib.rt:169:5
 loop-again : tie.Need-loop-again Inv-loop μ-loop
 loop-again c =
     let a = c .before .before .before .before .before .before .before .before .before .before .before .before .before .before .before .before .before .before .before .before .before .before .args in let p = c .before .before .before .before .before .before .before .before .before .before .before .before .before .before .before .before .before .before .before .before .before .before .pre in let l = c .before .before .before .before .before .before .before .before .loop in let k = c .before .before .before .probed in
     let G : Instance = tableBy (a .q) (a .heights .now) (a .bounds .now) (a .radices .now) (a .ys .now) (a .colours .now) in
     sought-step G (a .least) (p .1 .1 .1) (a .caps .now) (a .site) (l .caps) (l .goals) (l .range) (l .probe) (l .inv) _ (k .result) (c .before .before .before .before .before .before .if1 .taken) (k .ensures .0) (k .ensures .1) .0
 
--- src/lib.rt:190:15
 add-cap : tie.Need-add-cap Inv-loop μ-loop
 add-cap c =
     let p = c .before .before .before .before .before .before .before .before .before .before .before .before .before .before .before .before .before .pre in let l = c .before .before .before .loop in omega (arith, l .inv .range .ordered, l .inv .range .bounded, p .0 .few-slots)
 
--- src/lib.rt:191:5
 mul-caps-2 : tie.Need-mul-caps-2 Inv-loop μ-loop
 mul-caps-2 c =
     let p = c .before .before .before .before .before .before .before .before .before .before .before .before .before .before .before .before .before .pre in omega (arith, p .1 .0 .1, p .0 .caps-long, p .0 .few-sites)
 
--- src/lib.rt:191:5
 slice-write-caps-2 : tie.Need-slice-write-caps-2 Inv-loop μ-loop
 slice-write-caps-2 c =
     let l = c .before .before .before .loop in omega (arith, l .inv .long, l .inv .site .inside)
 
--- src/lib.rt:193:8
 mul-if2 : tie.Need-mul-if2 Inv-loop μ-loop
 mul-if2 c =
     let p = c .before .before .before .before .before .before .before .before .before .before .before .before .before .before .before .before .before .pre in omega (arith, p .1 .0 .1, p .0 .caps-long, p .0 .few-sites)
 
--- src/lib.rt:193:8
 slice-read-if2 : tie.Need-slice-read-if2 Inv-loop μ-loop
 slice-read-if2 c =
     let l = c .before .before .before .before .loop in omega (arith, l .inv .aimed .long, l .inv .site .long, l .inv .site .inside)
 
--- src/lib.rt:194:9
 copy-caps-requires : tie.Need-copy-caps-requires Inv-loop μ-loop
 copy-caps-requires c κs =
     let a = c .before .before .before .before .before .before .before .before .before .before .before .before .before .before .before .before .before .before .before .before .before .args in let p = c .before .before .before .before .before .before .before .before .before .before .before .before .before .before .before .before .before .before .before .before .before .pre in let l = c .before .before .before .before .before .before .before .loop in
     let e = length-set (l .caps) (a .site) (l .range .low + 1) in
     (l .inv .aimed .long ∙ sym (e ∙ l .inv .long ∙ p .0 .caps-long), omega (arith, e, l .inv .long, p .0 .caps-long, p .0 .few-sites))
 
--- src/lib.rt:144:1
 same-length : tie.Need-same-length Inv-loop μ-loop
 same-length c =
     let l = c .before .before .before .before .before .before .before .before .before .before .loop in length-set (l .caps) (c .before .before .before .before .before .before .before .before .before .before .before .before .before .before .before .before .before .before .before .before .before .before .before .before .args .site) (l .range .low + 1) ∙ l .inv .long
 
--- src/lib.rt:144:1
 same-length-2 : tie.Need-same-length-2 Inv-loop μ-loop
 same-length-2 c =
     c .before .before .copy-caps .kept .1 .0 ∙ c .before .before .before .before .before .before .before .before .before .before .loop .inv .aimed .long ∙ sym (c .before .before .before .before .before .before .before .before .before .before .before .before .before .before .before .before .before .before .before .before .before .before .before .before .pre .1 .0 .4 .long)
 
--- src/lib.rt:144:1
 returns : tie.Need-returns Inv-loop μ-loop
 returns c =
     let a = c .before .before .before .before .before .before .before .before .before .before .before .before .before .before .before .before .before .before .before .before .before .before .before .before .args in let p = c .before .before .before .before .before .before .before .before .before .before .before .before .before .before .before .before .before .before .before .before .before .before .before .before .pre in let l = c .before .before .before .before .before .before .before .before .before .before .loop in
     let G : Instance = tableBy (a .q) (a .heights .now) (a .bounds .now) (a .radices .now) (a .ys .now) (a .colours .now) in
     sought-copied G (a .least) (p .1 .1 .1) (a .caps .now) (a .site) (l .caps) (l .goals) (l .range) (l .probe) (l .inv) (c .before .before .before .before .before .before .before .before .if1 .left) _ (p .0 .few-slots) (c .before .before .copy-caps .ensures)
 
--- src/lib.rt:144:1
 same-length-3 : tie.Need-same-length-3 Inv-loop μ-loop
 same-length-3 c =
     let l = c .before .before .before .before .before .loop in length-set (l .caps) (c .before .before .before .before .before .before .before .before .before .before .before .before .before .before .before .before .before .before .before .args .site) (l .range .low + 1) ∙ l .inv .long
 
--- src/lib.rt:144:1
 same-length-4 : tie.Need-same-length-4 Inv-loop μ-loop
 same-length-4 c =
     c .before .before .before .before .before .loop .inv .aimed .long ∙ sym (c .before .before .before .before .before .before .before .before .before .before .before .before .before .before .before .before .before .before .before .pre .1 .0 .4 .long)
 
--- src/lib.rt:144:1
 returns-2 : tie.Need-returns-2 Inv-loop μ-loop
 returns-2 c =
     let a = c .before .before .before .before .before .before .before .before .before .before .before .before .before .before .before .before .before .before .before .args in let p = c .before .before .before .before .before .before .before .before .before .before .before .before .before .before .before .before .before .before .before .pre in let l = c .before .before .before .before .before .loop in

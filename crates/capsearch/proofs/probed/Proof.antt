@@ -8,49 +8,40 @@ use borrow.Author.Needs.{needs}
 use Rattle.capsearch.proofs.probed.Statement.{statement}
 use Rattle.capsearch.proofs.probed.Tie as tie
 
--- src/lib.rt:107:8
 keeps-least-requires : tie.Need-keeps-least-requires
 keeps-least-requires c κs =
     let a = c .before .before .before .before .before .before .before .before .before .before .args in let p = c .before .before .before .before .before .before .before .before .before .before .pre in let f = p .1 .0 in
     (p .0, ((p .1 .4, f .long), (f .right, filled-some (a .q) (a .heights .now) (a .bounds .now) (a .radices .now) (a .ys .now) (a .colours .now) (a .work .now) (a .least) f)))
 
--- src/lib.rt:119:9
 trace-goals-requires : tie.Need-trace-goals-requires
 trace-goals-requires c κs =
     let a = c .before .before .before .before .before .before .before .before .before .before .before .before .before .args in let p = c .before .before .before .before .before .before .before .before .before .before .before .before .before .pre in let k = c .before .before .keeps-least in
     let G : Instance = tableBy (a .q) (a .heights .now) (a .bounds .now) (a .radices .now) (a .ys .now) (a .colours .now) in
     (p .0, (p .1 .5 .long, kept-value G (a .caps .now) (a .least) (sym (keeps-at G (a .caps .now) (a .least) (k .result) (p .1 .0 .least-is) (k .ensures)) ∙ c .before .if1 .taken)))
 
--- src/lib.rt:134:25
 mul-monus : tie.Need-mul-monus
 mul-monus c =
     let p = c .before .before .before .before .before .before .before .before .before .before .before .before .before .before .before .before .pre in omega (arith, p .1 .1, p .0 .caps-long, p .0 .few-sites)
 
--- src/lib.rt:134:25
 slice-read-monus : tie.Need-slice-read-monus
 slice-read-monus c =
     let p = c .before .before .before .before .before .before .before .before .before .before .before .before .before .before .before .before .before .pre in omega (arith, p .1 .1, p .0 .caps-long, c .before .before .before .trace-goals .ensures .long)
 
--- src/lib.rt:134:19
 monus-requires : tie.Need-monus-requires
 monus-requires c κs = search needs
 
--- src/lib.rt:132:9
 same-length : tie.Need-same-length
 same-length c = search needs
 
--- src/lib.rt:132:9
 returns : tie.Need-returns
 returns c =
     let a = c .before .before .before .before .before .before .before .before .before .before .before .before .before .before .before .before .before .before .args in let p = c .before .before .before .before .before .before .before .before .before .before .before .before .before .before .before .before .before .before .pre in let k = c .before .before .before .before .before .before .before .keeps-least in let s = c .before .before .before .before .trace-goals in
     let G : Instance = tableBy (a .q) (a .heights .now) (a .bounds .now) (a .radices .now) (a .ys .now) (a .colours .now) in
     (probed-kept G (a .caps .now) (a .least) (a .site) (a .range) (a .probe) _ (c .monus .result) (p .1 .1) (p .1 .3) (sym (keeps-at G (a .caps .now) (a .least) (k .result) (p .1 .0 .least-is) (k .ensures)) ∙ c .before .before .before .before .before .before .if1 .taken) (s .ensures) (c .monus .ensures), goals-free G (a .caps .now) _ (a .least) (a .site) (p .1 .1) (s .ensures))
 
--- src/lib.rt:138:14
 add-t24 : tie.Need-add-t24
 add-t24 c = search needs
 
--- src/lib.rt:85:1
 returns-2 : tie.Need-returns-2
 returns-2 c =
     let a = c .before .before .before .before .before .before .before .before .before .before .before .before .args in let p = c .before .before .before .before .before .before .before .before .before .before .before .before .pre in let k = c .before .keeps-least in

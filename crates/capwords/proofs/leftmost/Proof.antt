@@ -14,41 +14,32 @@ Inv-loop ranks caps n best₀ c₀ best c = (c ≤ n) × (best ≡ leftmostBy n 
 abbrev μ-loop : tie.MeasureT-loop
 μ-loop ranks caps n best₀ c₀ best c = n - c
 
--- src/lib.rt:34:13
 cast-n : tie.Need-cast-n Inv-loop μ-loop
 cast-n c = search needs
 
--- src/lib.rt:37:5
 loop-holds : tie.Need-loop-holds Inv-loop μ-loop
 unfolding leftmostBy
 loop-holds c =
     (omega arith, refl)
 
--- src/lib.rt:38:40
 get-requires : tie.Need-get-requires Inv-loop μ-loop
 get-requires c κs = search needs
 
--- src/lib.rt:38:57
 get-requires-2 : tie.Need-get-requires-2 Inv-loop μ-loop
 get-requires-2 c κs = search needs
 
--- src/lib.rt:38:72
 get-requires-3 : tie.Need-get-requires-3 Inv-loop μ-loop
 get-requires-3 c κs = search needs
 
--- src/lib.rt:38:9
 leftmost-after-requires : tie.Need-leftmost-after-requires Inv-loop μ-loop
 leftmost-after-requires c κs = search needs
 
--- src/lib.rt:39:9
 add-c : tie.Need-add-c Inv-loop μ-loop
 add-c c = search needs
 
--- src/lib.rt:37:5
 loop-less : tie.Need-loop-less Inv-loop μ-loop
 loop-less c = search needs
 
--- src/lib.rt:37:5
 loop-again : tie.Need-loop-again Inv-loop μ-loop
 loop-again c =
     let a = c .before .before .before .before .before .before .before .before .args in let l = c .before .before .before .before .before .loop in (
@@ -57,7 +48,6 @@ loop-again c =
           (rw (c .before .before .before .get .ensures, c .before .before .get2 .ensures, c .before .get3 .ensures) at (c .leftmost-after .ensures)),
     )
 
--- src/lib.rt:30:1
 returns : tie.Need-returns Inv-loop μ-loop
 returns c =
     let a = c .before .before .before .before .args in let l = c .before .loop in

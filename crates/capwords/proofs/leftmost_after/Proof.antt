@@ -3,31 +3,24 @@ use borrow.Author.Needs.{needs}
 use Rattle.capwords.proofs.leftmost_after.Statement.{statement}
 use Rattle.capwords.proofs.leftmost_after.Tie as tie
 
--- src/lib.rt:27:17
 same-requires : tie.Need-same-requires
 same-requires c κs = search needs
 
--- src/lib.rt:27:38
 at-most-requires : tie.Need-at-most-requires
 at-most-requires c κs = search needs
 
--- src/lib.rt:27:60
 less-requires : tie.Need-less-requires
 less-requires c κs = search needs
 
--- src/lib.rt:27:31
 either-requires : tie.Need-either-requires
 either-requires c κs = search needs
 
--- src/lib.rt:27:12
 both-requires : tie.Need-both-requires
 both-requires c κs = search needs
 
--- src/lib.rt:27:5
 choose-requires : tie.Need-choose-requires
 choose-requires c κs = search needs
 
--- src/lib.rt:24:1
 returns : tie.Need-returns
 returns c =
     rw (c .choose .ensures, c .before .both .ensures, c .before .before .either .ensures, c .before .before .before .less .ensures, c .before .before .before .before .at-most .ensures, c .before .before .before .before .before .same .ensures) refl

@@ -16,55 +16,43 @@ Inv-loop head caps out₀ i₀ out i = (length out ≡ length out₀) × (i ≤ 
 abbrev μ-loop : tie.MeasureT-loop
 μ-loop head caps out₀ i₀ out i = length caps - i
 
--- src/lib.rt:180:5
 slice-write-out : tie.Need-slice-write-out Inv-loop μ-loop
 slice-write-out c = search needs
 
--- src/lib.rt:182:5
 loop-holds : tie.Need-loop-holds Inv-loop μ-loop
 loop-holds c =
     let a = c .before .before .args in
     (refl, omega arith, first-word (a .out .now) (wordsBy (a .head) (a .caps .now)) (a .head) (omega (arith, c .before .before .pre)) (omega (arith, words-long (a .head) (a .caps .now))) refl)
 
--- src/lib.rt:183:25
 mul-monus : tie.Need-mul-monus Inv-loop μ-loop
 mul-monus c = search needs
 
--- src/lib.rt:183:25
 shared-slice-read-monus : tie.Need-shared-slice-read-monus Inv-loop μ-loop
 shared-slice-read-monus c = search needs
 
--- src/lib.rt:183:13
 monus-requires : tie.Need-monus-requires Inv-loop μ-loop
 monus-requires c κs = search needs
 
--- src/lib.rt:184:22
 add-out : tie.Need-add-out Inv-loop μ-loop
 add-out c =
     omega (arith, c .monus .ensures, c .before .before .before .before .before .before .pre .2 (c .before .before .before .loop .i))
 
--- src/lib.rt:184:13
 add-out-2 : tie.Need-add-out-2 Inv-loop μ-loop
 add-out-2 c = search needs
 
--- src/lib.rt:184:9
 mul-out : tie.Need-mul-out Inv-loop μ-loop
 mul-out c = search needs
 
--- src/lib.rt:184:9
 slice-write-out-2 : tie.Need-slice-write-out-2 Inv-loop μ-loop
 slice-write-out-2 c =
     let a = c .before .before .before .before .before .before .args in let l = c .before .before .before .loop in omega (arith, l .inv .0, length-set (a .out .now) 0 (a .head), c .before .before .before .before .before .before .pre)
 
--- src/lib.rt:185:9
 add-i : tie.Need-add-i Inv-loop μ-loop
 add-i c = search needs
 
--- src/lib.rt:182:5
 loop-less : tie.Need-loop-less Inv-loop μ-loop
 loop-less c = search needs
 
--- src/lib.rt:182:5
 loop-again : tie.Need-loop-again Inv-loop μ-loop
 loop-again c =
     let a = c .before .before .before .before .before .before .args in let l = c .before .before .before .loop in
@@ -76,12 +64,10 @@ loop-again c =
           (ap (λ (z : ℕ). 2415919104 + z) (c .monus .ensures) ∙ sym (word-at (a .head) (a .caps .now) (l .i) (c .before .before .loop-test .taken))),
     )
 
--- src/lib.rt:176:1
 same-length : tie.Need-same-length Inv-loop μ-loop
 same-length c =
     let a = c .before .before .before .before .args in c .before .loop .inv .0 ∙ length-set (a .out .now) 0 (a .head)
 
--- src/lib.rt:176:1
 returns : tie.Need-returns Inv-loop μ-loop
 returns c =
     let a = c .before .before .before .before .args in let l = c .before .loop in

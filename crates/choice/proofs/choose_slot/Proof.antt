@@ -3,13 +3,9 @@ use Rattle.rows.specs.Rows.{stripOf, pointOf}
 use Rattle.choice.specs.Choice.{keepsCost}
 use Rattle.choice.proofs.Chosen.{level-same, kept-by, Tried, tried-none, tried-more, tried-found, tried-all}
 use mathlib.Core.Path.{_≡_, refl, ap, sym, _∙_}
-use mathlib.Core.List.{List, [], _∷_, _++_}
-use mathlib.Core.Logic.{⊎-elim}
-use Prim.Native.Nat.{ℕ, zero, suc, _+_, _-_, _*_, _<_, _≤_}
+use Prim.Native.Nat.{_-_}
 use native.Mathlib.Omega.{arith}
-use native.Mathlib.Numerals.{add-one}
-use lib.ListN.{length, getD, take, drop, set, length-set}
-use borrow.Author.Tests.{eq-eqb, ne-eqb, lt-ltb, le-ltb, le-leb, lt-leb}
+use lib.ListN.{length}
 use borrow.Author.Needs.{needs}
 use Rattle.choice.proofs.choose_slot.Statement.{statement}
 use Rattle.choice.proofs.choose_slot.Tie as tie
@@ -24,41 +20,34 @@ Inv-loop parts counts work base q heights bounds radices draws labels₀ p s lef
 abbrev μ-loop : tie.MeasureT-loop
 μ-loop parts counts work base q heights bounds radices draws labels₀ p s left m c k₀ labels k = length heights - k
 
--- src/lib.rt:46:13
 cast-m : tie.Need-cast-m Inv-loop μ-loop
 cast-m c =
     omega (arith, c .before .before .before .before .before .before .before .before .pre .0 .fewSlots)
 
--- src/lib.rt:47:13
 add-c : tie.Need-add-c Inv-loop μ-loop
 add-c c =
     let p = c .before .before .before .before .before .before .before .before .before .pre in
     omega (arith, p .0 .fewColours, p .1 .1 .0 .colourLow)
 
--- src/lib.rt:49:5
 loop-holds : tie.Need-loop-holds Inv-loop μ-loop
 loop-holds c =
     (refl, tried-none _ _)
 
--- src/lib.rt:50:13
 step-of-requires : tie.Need-step-of-requires Inv-loop μ-loop
 step-of-requires c κs =
     let p = c .before .before .before .before .before .before .before .before .before .before .before .pre in
     (p .0, (p .1 .1 .0, omega (arith, p .0 .fewSlots, c .loop-test .taken)))
 
--- src/lib.rt:51:12
 keeps-cost-requires : tie.Need-keeps-cost-requires Inv-loop μ-loop
 keeps-cost-requires c κs =
     let p = c .before .before .before .before .before .before .before .before .before .before .before .before .before .pre in
     let l = c .before .before .before .loop in
     (level-same _ _ _ _ _ _ _ _ (l .inv .0) (p .1 .0), (omega (arith, ap length (l .inv .0), p .1 .1 .3, c .before .before .loop-test .taken), omega (arith, p .1 .1 .0 .colourLow), omega (arith, c .before .step-of .ensures .0, p .1 .1 .1), p .1 .1 .2))
 
--- src/lib.rt:64:13
 same-length : tie.Need-same-length Inv-loop μ-loop
 same-length c =
     ap length (c .before .before .before .keeps-cost .ensures .1 ∙ c .before .before .before .before .before .before .before .loop .inv .0)
 
--- src/lib.rt:64:13
 returns : tie.Need-returns Inv-loop μ-loop
 returns c =
     let a = c .before .before .before .before .before .before .before .before .before .before .before .before .before .before .before .before .before .args in
@@ -67,15 +56,12 @@ returns c =
     let k = kept-by (instanceBy (a .q) (a .heights .now) (a .bounds .now) (a .radices .now) (a .draws .now)) _ _ _ _ _ _ (stripOf (a .p)) (pointOf (a .s)) _ _ _ _ _ _ _ _ (l .inv .0) (c .before .before .before .before .before .before .before .before .before .before .before .before .before .before .before .before .before .pre .1 .1 .3) (e .0) (e .1) (c .before .before .before .keeps-cost .ensures .0) in
     (tried-found _ _ _ (l .inv .1) (c .before .before .before .before .before .before .loop-test .taken) (sym k ∙ c .if1 .taken), c .before .before .before .keeps-cost .ensures .1 ∙ l .inv .0)
 
--- src/lib.rt:66:9
 add-k : tie.Need-add-k Inv-loop μ-loop
 add-k c = search needs
 
--- src/lib.rt:49:5
 loop-less : tie.Need-loop-less Inv-loop μ-loop
 loop-less c = search needs
 
--- src/lib.rt:49:5
 loop-again : tie.Need-loop-again Inv-loop μ-loop
 loop-again c =
     let a = c .before .before .before .before .before .before .before .before .before .before .before .before .before .before .before .before .before .args in
@@ -84,12 +70,10 @@ loop-again c =
     let k = kept-by (instanceBy (a .q) (a .heights .now) (a .bounds .now) (a .radices .now) (a .draws .now)) _ _ _ _ _ _ (stripOf (a .p)) (pointOf (a .s)) _ _ _ _ _ _ _ _ (l .inv .0) (c .before .before .before .before .before .before .before .before .before .before .before .before .before .before .before .before .before .pre .1 .1 .3) (e .0) (e .1) (c .before .before .before .keeps-cost .ensures .0) in
     (c .before .before .before .keeps-cost .ensures .1 ∙ l .inv .0, tried-more _ _ _ (l .inv .1) (c .before .before .before .before .before .before .loop-test .taken) (sym k ∙ c .if1 .left))
 
--- src/lib.rt:25:1
 same-length-2 : tie.Need-same-length-2 Inv-loop μ-loop
 same-length-2 c =
     ap length (c .before .loop .inv .0)
 
--- src/lib.rt:25:1
 returns-2 : tie.Need-returns-2 Inv-loop μ-loop
 returns-2 c =
     let l = c .before .loop in

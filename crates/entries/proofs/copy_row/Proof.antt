@@ -15,64 +15,52 @@ Inv-loop work₀ base from n v₀ work v = (v ≤ n) × Written work₀ work bas
 abbrev μ-loop : tie.MeasureT-loop
 μ-loop work₀ base from n v₀ work v = n - v
 
--- src/lib.rt:52:5
 loop-holds : tie.Need-loop-holds Inv-loop μ-loop
 loop-holds c =
     (omega arith, written-none _ _ _)
 
--- src/lib.rt:53:22
 add-t : tie.Need-add-t Inv-loop μ-loop
 add-t c =
     search needs
 
--- src/lib.rt:53:17
 mul-t : tie.Need-mul-t Inv-loop μ-loop
 mul-t c =
     omega (arith, c .before .loop .inv .1 .long)
 
--- src/lib.rt:53:17
 slice-read-t : tie.Need-slice-read-t Inv-loop μ-loop
 slice-read-t c =
     omega (arith, c .before .before .loop .inv .1 .long)
 
--- src/lib.rt:54:14
 add-work : tie.Need-add-work Inv-loop μ-loop
 add-work c =
     omega (arith, c .before .before .loop .inv .1 .long)
 
--- src/lib.rt:54:9
 mul-work : tie.Need-mul-work Inv-loop μ-loop
 mul-work c =
     omega (arith, c .before .before .loop .inv .1 .long)
 
--- src/lib.rt:54:9
 slice-write-work : tie.Need-slice-write-work Inv-loop μ-loop
 slice-write-work c =
     omega (arith, c .before .before .loop .inv .1 .long)
 
--- src/lib.rt:55:9
 add-v : tie.Need-add-v Inv-loop μ-loop
 add-v c =
     omega (arith, c .before .before .loop .inv .1 .long)
 
--- src/lib.rt:52:5
 loop-less : tie.Need-loop-less Inv-loop μ-loop
 loop-less c =
     search needs
 
--- src/lib.rt:52:5
 loop-again : tie.Need-loop-again Inv-loop μ-loop
 loop-again c =
     let l = c .before .before .loop in
     let a = c .before .before .before .args in
     (omega arith, written-more (a .work .now) (l .work) (a .base) (l .v) _ _ (omega arith) (l .inv .1 .after (a .from + l .v) (omega arith)) (l .inv .1))
 
--- src/lib.rt:46:1
 same-length : tie.Need-same-length Inv-loop μ-loop
 same-length c =
     c .before .loop .inv .1 .long
 
--- src/lib.rt:46:1
 returns : tie.Need-returns Inv-loop μ-loop
 returns c =
     let l = c .before .loop in

@@ -18,27 +18,22 @@ use Rattle.entries.proofs.open_slots.Reads as open-slots-reads
 use Rattle.rows.proofs.row_place.Reads as row-place-reads
 use Rattle.entries.proofs.start_row.Reads as start-row-reads
 
--- src/lib.rt:160:13
 cast-n : tie.Need-cast-n
 cast-n c = search needs
 
--- src/lib.rt:161:22
 row-place-requires : tie.Need-row-place-requires
 row-place-requires c κs =
     let f = c .before .before .before .before .before .before .before .pre .0 .framed in
     ((f .slotsFew, f .coloursFew, f .budgetsFew), c .before .before .before .before .before .before .before .pre .1)
 
--- src/lib.rt:161:16
 add-same : tie.Need-add-same
 add-same c =
     let p = c .before .before .before .before .before .before .before .before .pre in
     omega (arith, c .row-place .ensures, own-fits (p .0) (stripOf (c .before .before .before .before .before .before .before .before .args .p)) (p .1))
 
--- src/lib.rt:162:9
 is-inside-requires : tie.Need-is-inside-requires
 is-inside-requires c κs = search needs
 
--- src/lib.rt:163:9
 copy-row-requires : tie.Need-copy-row-requires
 copy-row-requires c κs =
     let p = c .before .before .before .before .before .before .before .before .before .before .before .pre in
@@ -46,11 +41,9 @@ copy-row-requires c κs =
     let f = own-fits (p .0) (stripOf (c .before .before .before .before .before .before .before .before .before .before .before .args .p)) (p .1) in
     (omega (arith, p .0 .apart), omega arith)
 
--- src/lib.rt:164:9
 same-length : tie.Need-same-length
 same-length c = search needs
 
--- src/lib.rt:164:9
 returns : tie.Need-returns
 returns c =
     let a = c .before .before .before .before .before .before .before .before .before .before .before .before .before .before .args in
@@ -59,13 +52,11 @@ returns c =
     let f = ap (λ (z : ℕ). a .low + z) (c .before .before .before .before .before .before .row-place .ensures) in
     (o .ensures .0, row-copied (a .q) (a .heights .now) (a .bounds .now) (a .parts .now) (a .counts .now) (a .left .now) (a .work .now) (o .last .0) (a .base) (a .low) _ (stripOf (a .p)) (pointOf (a .s)) g f (o .ensures .1))
 
--- src/lib.rt:166:36
 join-least-requires : tie.Need-join-least-requires
 join-least-requires c κs =
     let p = c .before .before .before .before .before .before .before .before .before .before .before .pre in
     (p .0 .framed, (p .1, p .0 .stands))
 
--- src/lib.rt:166:5
 start-row-requires : tie.Need-start-row-requires
 start-row-requires c κs =
     let p = c .before .before .before .before .before .before .before .before .before .before .before .before .pre in
@@ -73,23 +64,19 @@ start-row-requires c κs =
     let f = own-fits (p .0) (stripOf (c .before .before .before .before .before .before .before .before .before .before .before .before .args .p)) (p .1) in
     (omega (arith, p .0 .apart), omega arith)
 
--- src/lib.rt:167:8
 site-opens-requires : tie.Need-site-opens-requires
 site-opens-requires c κs =
     search needs
 
--- src/lib.rt:168:9
 open-slots-requires : tie.Need-open-slots-requires
 open-slots-requires c κs =
     let p = c .before .before .before .before .before .before .before .before .before .before .before .before .before .before .before .before .before .before .pre in
     (rw (c .before .before .before .before .before .start-row .kept .0) (p .0), p .1)
 
--- src/lib.rt:154:1
 same-length-2 : tie.Need-same-length-2
 same-length-2 c =
     c .before .before .open-slots .kept .0 ∙ c .before .before .before .before .before .before .before .before .start-row .kept .0
 
--- src/lib.rt:154:1
 returns-2 : tie.Need-returns-2
 returns-2 c =
     let a = c .before .before .before .before .before .before .before .before .before .before .before .before .before .before .before .before .before .before .before .before .before .args in
@@ -104,11 +91,9 @@ returns-2 c =
           (p .0 .apart) g h (c .before .before .before .before .before .before .before .before .before .join-least .ensures) f (r .ensures .0) (r .ensures .1) (o .ensures .1),
     )
 
--- src/lib.rt:154:1
 same-length-3 : tie.Need-same-length-3
 same-length-3 c = search needs
 
--- src/lib.rt:154:1
 returns-3 : tie.Need-returns-3
 returns-3 c =
     let a = c .before .before .before .before .before .before .before .before .before .before .before .before .before .before .before .before .before .args in

@@ -5,14 +5,10 @@ use Rattle.rows.specs.Rows.{stripOf, pointOf, rowIn}
 use Rattle.entries.specs.Rows.{singleTerm}
 use Rattle.entries.proofs.Single.{single-more, single-none}
 use mathlib.Core.Path.{ap₂}
-use mathlib.Core.Path.{_≡_, refl, ap, sym, _∙_}
-use mathlib.Core.List.{List, [], _∷_, _++_}
-use mathlib.Core.Logic.{⊎-elim}
-use Prim.Native.Nat.{ℕ, zero, suc, _+_, _-_, _*_, _<_, _≤_}
+use mathlib.Core.Path.{_≡_, _∙_}
+use Prim.Native.Nat.{_+_, _-_, _≤_}
 use native.Mathlib.Omega.{arith}
-use native.Mathlib.Numerals.{add-one}
-use lib.ListN.{length, getD, take, drop, set, length-set}
-use borrow.Author.Tests.{eq-eqb, ne-eqb, lt-ltb, le-ltb, le-leb, lt-leb}
+use lib.ListN.{length}
 use borrow.Author.Needs.{needs}
 use Rattle.entries.proofs.least_open.Statement.{statement}
 use Rattle.entries.proofs.least_open.Tie as tie
@@ -29,43 +25,35 @@ Inv-loop work q heights p s low window old m best₀ k₀ best k = (window .from
 abbrev μ-loop : tie.MeasureT-loop
 μ-loop work q heights p s low window old m best₀ k₀ best k = window .to - k
 
--- src/lib.rt:232:5
 loop-holds : tie.Need-loop-holds Inv-loop μ-loop
 loop-holds c =
     let a = c .before .before .args in
     let e : a .window .from - a .window .from ≡ 0 = omega arith in
     (omega arith, omega (arith, c .before .before .pre .1 .1 .0), rw e (single-none (a .old) _ (omega (arith, c .before .before .fits .old))))
 
--- src/lib.rt:233:13
 open-cost-requires : tie.Need-open-cost-requires Inv-loop μ-loop
 open-cost-requires c κs =
     c .before .before .before .before .before .pre .0 .0
 
--- src/lib.rt:234:13
 parts-cost-requires : tie.Need-parts-cost-requires Inv-loop μ-loop
 parts-cost-requires c κs =
     let p = c .before .before .before .before .before .before .pre in
     ((p .0 .2, p .1 .0), (p .0 .1, omega (arith, p .1 .1 .1, c .before .if1 .taken)))
 
--- src/lib.rt:235:29
 plus-of-requires : tie.Need-plus-of-requires Inv-loop μ-loop
 plus-of-requires c κs = search needs
 
--- src/lib.rt:235:9
 lesser-requires : tie.Need-lesser-requires Inv-loop μ-loop
 lesser-requires c κs = search needs
 
--- src/lib.rt:236:9
 add-k : tie.Need-add-k Inv-loop μ-loop
 add-k c =
     omega (arith, c .before .before .before .before .if1 .taken)
 
--- src/lib.rt:232:5
 loop-less : tie.Need-loop-less Inv-loop μ-loop
 loop-less c =
     omega (arith, c .before .before .before .before .if1 .taken)
 
--- src/lib.rt:232:5
 loop-again : tie.Need-loop-again Inv-loop μ-loop
 loop-again c =
     let a = c .before .before .before .before .before .before .before .before .before .args in
@@ -75,7 +63,6 @@ loop-again c =
     let t = c .before .plus-of .ensures ∙ ap₂ (plus topWord) (c .before .before .before .open-cost .ensures) (c .before .before .parts-cost .ensures) in
     (omega (arith, l .inv .0), omega (arith, c .before .before .before .before .if1 .taken), rw f (c .lesser .ensures ∙ single-more (a .old) (l .best) _ (l .k - a .window .from) _ (l .inv .2) (rw g t)))
 
--- src/lib.rt:214:1
 returns : tie.Need-returns Inv-loop μ-loop
 returns c =
     let l = c .before .before .loop in

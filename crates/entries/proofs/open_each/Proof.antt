@@ -15,7 +15,6 @@ Inv-loop work₀ q heights bounds parts counts left p s base low window k₀ wor
 abbrev μ-loop : tie.MeasureT-loop
 μ-loop work₀ q heights bounds parts counts left p s base low window k₀ work k = window .to - k
 
--- src/lib.rt:222:5
 loop-holds : tie.Need-loop-holds Inv-loop μ-loop
 loop-holds c =
     let a = c .before .before .before .before .before .before .args in
@@ -23,7 +22,6 @@ loop-holds c =
     let w = p .1 .1 .0 in
     (omega arith, omega (arith, w .ordered), tried-start (a .q) (a .heights .now) (a .bounds .now) (a .parts .now) (a .counts .now) (a .left .now) (a .work .now) (a .base) (a .low) (stripOf (a .p)) (pointOf (a .s)) (a .window) w (p .1 .1 .1) (λ i. omega (arith, c .before .before .before .before .before .slice-known .given i)))
 
--- src/lib.rt:223:9
 open-slot-requires : tie.Need-open-slot-requires Inv-loop μ-loop
 open-slot-requires c κs =
     let p = c .before .before .before .before .before .before .before .before .before .before .pre in
@@ -31,17 +29,14 @@ open-slot-requires c κs =
     let w = p .1 .1 .0 in
     (rw (l .inv .2 .long) (p .0), ((p .1 .0, omega (arith, c .before .if1 .taken, w .high (p .1 .1 .1))), window-gap (c .before .before .before .before .before .before .before .before .before .before .args .q) (c .before .before .before .before .before .before .before .before .before .before .args .heights .now) (c .before .before .before .before .before .before .before .before .before .before .args .bounds .now) (stripOf (c .before .before .before .before .before .before .before .before .before .before .args .p)) (pointOf (c .before .before .before .before .before .before .before .before .before .before .args .s)) w (l .k) (l .inv .0) (c .before .if1 .taken)))
 
--- src/lib.rt:224:9
 add-k : tie.Need-add-k Inv-loop μ-loop
 add-k c =
     omega (arith, c .before .before .before .before .if1 .taken)
 
--- src/lib.rt:222:5
 loop-less : tie.Need-loop-less Inv-loop μ-loop
 loop-less c =
     omega (arith, c .before .before .before .before .if1 .taken)
 
--- src/lib.rt:222:5
 loop-again : tie.Need-loop-again Inv-loop μ-loop
 loop-again c =
     let a = c .before .before .before .before .before .before .before .before .before .before .before .before .before .args in
@@ -57,12 +52,10 @@ loop-again c =
           (p .0 .apart) (l .inv .2) (o .kept .0) (o .ensures .0) (λ v h. rw f (o .ensures .1 v h))),
     )
 
--- src/lib.rt:201:1
 same-length : tie.Need-same-length Inv-loop μ-loop
 same-length c =
     c .before .before .loop .inv .2 .long
 
--- src/lib.rt:201:1
 returns : tie.Need-returns Inv-loop μ-loop
 returns c =
     let l = c .before .before .loop in

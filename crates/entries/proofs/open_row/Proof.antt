@@ -18,69 +18,56 @@ Inv-loop work₀ parts counts left base upper lower n cost v₀ work v = (v ≤ 
 abbrev μ-loop : tie.MeasureT-loop
 μ-loop work₀ parts counts left base upper lower n cost v₀ work v = n - v
 
--- src/lib.rt:97:5
 loop-holds : tie.Need-loop-holds Inv-loop μ-loop
 loop-holds c =
     (omega arith, written-none _ _ _)
 
--- src/lib.rt:98:17
 shared-slice-read-u : tie.Need-shared-slice-read-u Inv-loop μ-loop
 shared-slice-read-u c =
     search needs
 
--- src/lib.rt:98:17
 cast-u : tie.Need-cast-u Inv-loop μ-loop
 cast-u c =
     omega (arith, c .shared-slice-known4 .given (c .before .before .loop .v))
 
--- src/lib.rt:99:29
 add-opened : tie.Need-add-opened Inv-loop μ-loop
 add-opened c =
     search needs
 
--- src/lib.rt:99:24
 mul-opened : tie.Need-mul-opened Inv-loop μ-loop
 mul-opened c =
     omega (arith, c .before .before .loop .inv .1 .long)
 
--- src/lib.rt:99:24
 slice-read-opened : tie.Need-slice-read-opened Inv-loop μ-loop
 slice-read-opened c =
     omega (arith, c .before .before .before .loop .inv .1 .long)
 
--- src/lib.rt:99:13
 opened-requires : tie.Need-opened-requires Inv-loop μ-loop
 opened-requires c κs =
     let l = c .before .before .before .before .loop .inv .1 .long in
     let h = c .before .before .before .before .before .before .before .before .before .pre .1 in
     (c .before .before .before .before .before .before .before .before .before .pre .0, (omega arith, omega arith))
 
--- src/lib.rt:100:14
 add-work : tie.Need-add-work Inv-loop μ-loop
 add-work c =
     search needs
 
--- src/lib.rt:100:9
 mul-work : tie.Need-mul-work Inv-loop μ-loop
 mul-work c =
     omega (arith, c .before .before .before .before .before .loop .inv .1 .long)
 
--- src/lib.rt:100:9
 slice-write-work : tie.Need-slice-write-work Inv-loop μ-loop
 slice-write-work c =
     omega (arith, c .before .before .before .before .before .loop .inv .1 .long)
 
--- src/lib.rt:101:9
 add-v : tie.Need-add-v Inv-loop μ-loop
 add-v c =
     omega (arith, c .before .before .before .before .before .loop .inv .1 .long)
 
--- src/lib.rt:97:5
 loop-less : tie.Need-loop-less Inv-loop μ-loop
 loop-less c =
     search needs
 
--- src/lib.rt:97:5
 loop-again : tie.Need-loop-again Inv-loop μ-loop
 loop-again c =
     let l = c .before .before .before .before .before .loop in
@@ -95,12 +82,10 @@ loop-again c =
           ∙ ap₂ min (w .after (a .base + l .v) (omega arith)) (ap₂ (λ (f g : ℕ → ℕ). openBy (a .parts .now) (a .counts .now) (a .n) (a .cost) (getD (a .left .now) (l .v) 0) f g) up lo)) w,
     )
 
--- src/lib.rt:90:1
 same-length : tie.Need-same-length Inv-loop μ-loop
 same-length c =
     c .before .loop .inv .1 .long
 
--- src/lib.rt:90:1
 returns : tie.Need-returns Inv-loop μ-loop
 returns c =
     let l = c .before .loop in

@@ -16,77 +16,64 @@ use Rattle.strips.proofs.open_cost.Reads as open-cost-reads
 use Rattle.words.proofs.either.Reads as either-reads
 use Rattle.words.proofs.same.Reads as same-reads
 
--- src/lib.rt:179:9
 part-places-requires : tie.Need-part-places-requires
 part-places-requires c κs =
     let p = c .before .before .before .before .before .before .pre in
     let f = p .0 .framed in
     ((f .slotsFew, f .coloursFew, f .budgetsFew, omega (arith, p .0 .within, c .before .before .before .before .before .before .fits)), (p .1 .0 .0, p .0 .stands .colourLow, p .1 .0 .1))
 
--- src/lib.rt:182:13
 cast-n : tie.Need-cast-n
 cast-n c = search needs
 
--- src/lib.rt:183:16
 sub-last : tie.Need-sub-last
 sub-last c =
     omega (arith, c .before .before .before .before .before .before .before .before .pre .0 .framed .budgetsSome)
 
--- src/lib.rt:184:25
 add-same : tie.Need-add-same
 add-same c =
     let p = c .before .before .before .before .before .before .before .before .pre in
     let a = c .before .before .before .before .before .before .before .before .args in
     omega (arith, c .before .part-places .ensures .0, upper-fits (p .0) (stripOf (a .p)) (a .k) (p .1 .0 .0) (p .1 .0 .1), p .0 .framed .budgetsSome)
 
--- src/lib.rt:184:20
 mul-same : tie.Need-mul-same
 mul-same c =
     let p = c .before .before .before .before .before .before .before .before .pre in
     let a = c .before .before .before .before .before .before .before .before .args in
     omega (arith, c .before .part-places .ensures .0, upper-fits (p .0) (stripOf (a .p)) (a .k) (p .1 .0 .0) (p .1 .0 .1), p .0 .framed .budgetsSome)
 
--- src/lib.rt:184:20
 slice-read-same : tie.Need-slice-read-same
 slice-read-same c =
     let p = c .before .before .before .before .before .before .before .before .before .pre in
     let a = c .before .before .before .before .before .before .before .before .before .args in
     omega (arith, c .before .before .part-places .ensures .0, upper-fits (p .0) (stripOf (a .p)) (a .k) (p .1 .0 .0) (p .1 .0 .1), p .0 .framed .budgetsSome)
 
--- src/lib.rt:184:15
 same-requires : tie.Need-same-requires
 same-requires c κs = search needs
 
--- src/lib.rt:184:57
 add-same-2 : tie.Need-add-same-2
 add-same-2 c =
     let p = c .before .before .before .before .before .before .before .before .before .before .pre in
     let a = c .before .before .before .before .before .before .before .before .before .before .args in
     omega (arith, c .before .before .before .part-places .ensures .1, lower-fits (p .0) (stripOf (a .p)) (a .k) (p .1 .0 .0) (p .1 .0 .1), p .0 .framed .budgetsSome)
 
--- src/lib.rt:184:52
 mul-same-2 : tie.Need-mul-same-2
 mul-same-2 c =
     let p = c .before .before .before .before .before .before .before .before .before .before .pre in
     let a = c .before .before .before .before .before .before .before .before .before .before .args in
     omega (arith, c .before .before .before .part-places .ensures .1, lower-fits (p .0) (stripOf (a .p)) (a .k) (p .1 .0 .0) (p .1 .0 .1), p .0 .framed .budgetsSome)
 
--- src/lib.rt:184:52
 slice-read-same-2 : tie.Need-slice-read-same-2
 slice-read-same-2 c =
     let p = c .before .before .before .before .before .before .before .before .before .before .before .pre in
     let a = c .before .before .before .before .before .before .before .before .before .before .before .args in
     omega (arith, c .before .before .before .before .part-places .ensures .1, lower-fits (p .0) (stripOf (a .p)) (a .k) (p .1 .0 .0) (p .1 .0 .1), p .0 .framed .budgetsSome)
 
--- src/lib.rt:184:47
 same-requires-2 : tie.Need-same-requires-2
 same-requires-2 c κs = search needs
 
--- src/lib.rt:184:8
 either-requires : tie.Need-either-requires
 either-requires c κs = search needs
 
--- src/lib.rt:185:9
 returns : tie.Need-returns
 returns c =
     let a = c .before .before .before .before .before .before .before .before .before .before .before .before .before .before .args in
@@ -96,11 +83,9 @@ returns c =
       λ v h. slot-none (a .q) (a .heights .now) (a .bounds .now) (a .parts .now) (a .counts .now) (a .left .now) (a .work .now) (a .low) (stripOf (a .p)) (pointOf (a .s)) (a .k) v _ _ _ _ _ (omega (arith, c .before .before .before .before .before .before .before .before .before .before .before .before .before .slice-known .given (a .base + v))) (p .1 .1) (e .0) (e .1) (c .before .before .before .before .same .ensures) (c .before .before .same2 .ensures) (sym (c .before .either .ensures) ∙ c .if1 .taken),
     )
 
--- src/lib.rt:196:9
 open-cost-requires : tie.Need-open-cost-requires
 open-cost-requires c κs = search needs
 
--- src/lib.rt:187:5
 open-row-requires : tie.Need-open-row-requires
 open-row-requires c κs =
     let p = c .before .before .before .before .before .before .before .before .before .before .before .before .before .before .before .before .pre in
@@ -110,11 +95,9 @@ open-row-requires c κs =
     let e = c .before .before .before .before .before .before .before .before .before .part-places .ensures in
     (p .0 .listed, (p .0 .leftLong, omega (arith, p .0 .apart, e .0), omega (arith, p .0 .apart, e .1), omega (arith, e .0), omega (arith, e .1)))
 
--- src/lib.rt:159:1
 same-length : tie.Need-same-length
 same-length c = search needs
 
--- src/lib.rt:159:1
 returns-2 : tie.Need-returns-2
 returns-2 c =
     let a = c .before .before .before .before .before .before .before .before .before .before .before .before .before .before .before .before .before .before .before .args in

@@ -14,13 +14,11 @@ use Rattle.entries.proofs.least_open.Reads as least-open-reads
 use Rattle.entries.proofs.open_each.Reads as open-each-reads
 use Rattle.strips.proofs.open_window.Reads as open-window-reads
 
--- src/lib.rt:291:9
 open-window-requires : tie.Need-open-window-requires
 open-window-requires c κs =
     let p = c .before .before .before .before .before .before .pre in
     (p .0 .framed .rising, (p .1 .bLow, omega (arith, p .0 .stands .colourLow, p .0 .framed .coloursFew)))
 
--- src/lib.rt:293:9
 returns : tie.Need-returns
 returns c =
     let a = c .before .before .before .before .before .before .before .before .before .args in
@@ -28,29 +26,24 @@ returns c =
     let t = tried-empty (a .q) (a .heights .now) (a .bounds .now) (a .parts .now) (a .counts .now) (a .left .now) (a .work .now) (a .base) (a .low) (stripOf (a .p)) (pointOf (a .s)) (w .result) (w .ensures) (c .if1 .taken) (λ i. omega (arith, c .before .before .before .before .before .before .before .before .slice-known .given i)) in
     (t .others, t .row)
 
--- src/lib.rt:295:18
 cast-is-single : tie.Need-cast-is-single
 cast-is-single c = search needs
 
--- src/lib.rt:295:8
 is-single-requires : tie.Need-is-single-requires
 is-single-requires c κs =
     let p = c .before .before .before .before .before .before .before .before .before .before .pre in
     (p .0 .listed, p .0 .leftLong, p .0 .framed .budgetsSome)
 
--- src/lib.rt:296:65
 mul-least-open : tie.Need-mul-least-open
 mul-least-open c =
     let p = c .before .before .before .before .before .before .before .before .before .before .before .before .before .pre in
     omega (arith, p .0 .apart, p .0 .within, p .0 .framed .budgetsSome)
 
--- src/lib.rt:296:65
 slice-reshared-read-least-open : tie.Need-slice-reshared-read-least-open
 slice-reshared-read-least-open c =
     let p = c .before .before .before .before .before .before .before .before .before .before .before .before .before .pre in
     omega (arith, p .0 .apart, p .0 .within, p .0 .framed .budgetsSome)
 
--- src/lib.rt:296:13
 least-open-requires : tie.Need-least-open-requires
 least-open-requires c κs =
     let p = c .before .before .before .before .before .before .before .before .before .before .before .before .before .pre in
@@ -59,23 +52,19 @@ least-open-requires c κs =
     let l = c .before .before .before .before .if1 .left in
     ((record { narrow = f .narrow; heightLow = f .heightLow; yLow = p .0 .stands .yLow }, p .0 .stands .colourLow, record { slotsFew = f .slotsFew; coloursFew = f .coloursFew; budgetsFew = f .budgetsFew; budgetsSome = f .budgetsSome; within = p .0 .within }), (p .1, (l, w .high l)))
 
--- src/lib.rt:297:9
 mul-work : tie.Need-mul-work
 mul-work c =
     let p = c .before .before .before .before .before .before .before .before .before .before .before .before .before .before .pre in
     omega (arith, p .0 .apart, p .0 .within, p .0 .framed .budgetsSome)
 
--- src/lib.rt:297:9
 slice-write-work : tie.Need-slice-write-work
 slice-write-work c =
     let p = c .before .before .before .before .before .before .before .before .before .before .before .before .before .before .pre in
     omega (arith, p .0 .apart, p .0 .within, p .0 .framed .budgetsSome)
 
--- src/lib.rt:298:9
 same-length : tie.Need-same-length
 same-length c = search needs
 
--- src/lib.rt:298:9
 returns-2 : tie.Need-returns-2
 returns-2 c =
     let a = c .before .before .before .before .before .before .before .before .before .before .before .before .before .before .args in
@@ -84,17 +73,14 @@ returns-2 c =
     let w = c .before .before .before .before .before .before .before .open-window in
     single-row (a .q) (a .heights .now) (a .bounds .now) (a .parts .now) (a .counts .now) (a .left .now) (a .work .now) (a .base) (a .low) (stripOf (a .p)) (pointOf (a .s)) o (w .result) _ (omega (arith, p .0 .apart, p .0 .within, p .0 .framed .budgetsSome)) (w .ensures) (c .before .before .before .before .before .if1 .left) (c .least-open .ensures)
 
--- src/lib.rt:300:5
 open-each-requires : tie.Need-open-each-requires
 open-each-requires c κs =
     let p = c .before .before .before .before .before .before .before .before .before .before .before .before .before .pre in
     (p .0, (p .1, (c .before .before .before .before .before .before .open-window .ensures, c .before .before .before .before .if1 .left)))
 
--- src/lib.rt:273:1
 same-length-2 : tie.Need-same-length-2
 same-length-2 c = search needs
 
--- src/lib.rt:273:1
 returns-3 : tie.Need-returns-3
 returns-3 c = search needs
 

@@ -18,55 +18,44 @@ Inv-loop work₀ base from n cost v₀ work v = (v ≤ n) × Written work₀ wor
 abbrev μ-loop : tie.MeasureT-loop
 μ-loop work₀ base from n cost v₀ work v = n - v
 
--- src/lib.rt:66:5
 loop-holds : tie.Need-loop-holds Inv-loop μ-loop
 loop-holds c =
     (omega arith, written-none _ _ _)
 
--- src/lib.rt:67:43
 add-plus-of : tie.Need-add-plus-of Inv-loop μ-loop
 add-plus-of c = search needs
 
--- src/lib.rt:67:38
 mul-plus-of : tie.Need-mul-plus-of Inv-loop μ-loop
 mul-plus-of c =
     omega (arith, c .before .loop .inv .1 .long)
 
--- src/lib.rt:67:38
 slice-read-plus-of : tie.Need-slice-read-plus-of Inv-loop μ-loop
 slice-read-plus-of c =
     omega (arith, c .before .before .loop .inv .1 .long)
 
--- src/lib.rt:67:13
 plus-of-requires : tie.Need-plus-of-requires Inv-loop μ-loop
 plus-of-requires c κs = search needs
 
--- src/lib.rt:68:14
 add-work : tie.Need-add-work Inv-loop μ-loop
 add-work c =
     omega (arith, c .before .before .before .loop .inv .1 .long)
 
--- src/lib.rt:68:9
 mul-work : tie.Need-mul-work Inv-loop μ-loop
 mul-work c =
     omega (arith, c .before .before .before .loop .inv .1 .long)
 
--- src/lib.rt:68:9
 slice-write-work : tie.Need-slice-write-work Inv-loop μ-loop
 slice-write-work c =
     omega (arith, c .before .before .before .loop .inv .1 .long)
 
--- src/lib.rt:69:9
 add-v : tie.Need-add-v Inv-loop μ-loop
 add-v c =
     omega (arith, c .before .before .before .loop .inv .1 .long)
 
--- src/lib.rt:66:5
 loop-less : tie.Need-loop-less Inv-loop μ-loop
 loop-less c =
     search needs
 
--- src/lib.rt:66:5
 loop-again : tie.Need-loop-again Inv-loop μ-loop
 loop-again c =
     let l = c .before .before .before .loop in
@@ -75,12 +64,10 @@ loop-again c =
       written-more (a .work .now) (l .work) (a .base) (l .v) _ _ (omega arith) (c .plus-of .ensures ∙ ap (plus topWord (a .cost)) (l .inv .1 .after (a .from + l .v) (omega arith))) (l .inv .1),
     )
 
--- src/lib.rt:60:1
 same-length : tie.Need-same-length Inv-loop μ-loop
 same-length c =
     c .before .loop .inv .1 .long
 
--- src/lib.rt:60:1
 returns : tie.Need-returns Inv-loop μ-loop
 returns c =
     let l = c .before .loop in

@@ -7,22 +7,18 @@ use borrow.Author.Needs.{needs}
 use Rattle.goals.proofs.set_goals.Statement.{statement}
 use Rattle.goals.proofs.set_goals.Tie as tie
 
--- src/lib.rt:182:5
 aim-goals-requires : tie.Need-aim-goals-requires
 aim-goals-requires c κs = search needs
 
--- src/lib.rt:183:9
 labels-cost-requires : tie.Need-labels-cost-requires
 labels-cost-requires c κs =
     let a = c .before .before .before .before .before .before .before .before .before .before .before .before .before .before .args in
     let p = c .before .before .before .before .before .before .before .before .before .before .before .before .before .before .pre in
     fits-set (a .q) (a .heights .now) (a .bounds .now) (a .radices .now) (a .draws .now) (a .ys .now) (a .colours .now) (a .caps .now) _ (c .before .before .before .aim-goals .kept .1 .1 .1 .1 .1 .0 ∙ p .1 .0 ∙ sym (p .0 .caps-long)) (p .0)
 
--- src/lib.rt:195:9
 same-length : tie.Need-same-length
 same-length c = search needs
 
--- src/lib.rt:195:9
 returns : tie.Need-returns
 returns c =
     let a = c .before .before .before .before .before .before .before .before .before .before .before .before .before .before .before .before .args in
@@ -30,15 +26,12 @@ returns c =
     let g = c .before .before .before .before .before .aim-goals in
     goals-aimed (tableBy (a .q) (a .heights .now) (a .bounds .now) (a .radices .now) (a .ys .now) (a .colours .now)) (a .caps .now) _ (a .least) (c .before .labels-cost .result) (g .kept .1 .1 .1 .1 .1 .0 ∙ p .1 .0) (g .ensures) (c .before .labels-cost .ensures) (c .if1 .taken)
 
--- src/lib.rt:197:5
 copy-caps-requires : tie.Need-copy-caps-requires
 copy-caps-requires c κs = search needs
 
--- src/lib.rt:165:1
 same-length-2 : tie.Need-same-length-2
 same-length-2 c = search needs
 
--- src/lib.rt:165:1
 returns-2 : tie.Need-returns-2
 returns-2 c =
     let a = c .before .before .before .before .before .before .before .before .before .before .before .before .before .before .before .before .before .before .before .before .args in

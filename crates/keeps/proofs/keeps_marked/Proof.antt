@@ -20,40 +20,32 @@ abbrev μ-loop : tie.MeasureT-loop
 μ-loop q heights bounds radices draws ys colours caps bands ends work marks₀ m a₀ marks a =
     length heights + 1 - a
 
--- src/lib.rt:397:13
 cast-m : tie.Need-cast-m Inv-loop μ-loop
 cast-m c = search needs
 
--- src/lib.rt:398:12
 sub-marks : tie.Need-sub-marks Inv-loop μ-loop
 sub-marks c =
     omega (arith, c .before .before .before .before .before .before .before .before .before .before .before .before .pre .0 .some-budget)
 
--- src/lib.rt:398:11
 cast-marks : tie.Need-cast-marks Inv-loop μ-loop
 cast-marks c = search needs
 
--- src/lib.rt:398:5
 slice-write-marks : tie.Need-slice-write-marks Inv-loop μ-loop
 slice-write-marks c =
     let a = c .before .before .before .before .before .before .before .before .before .before .before .before .args in let p = c .before .before .before .before .before .before .before .before .before .before .before .before .pre in omega (arith, p .0 .some-budget, p .1 .0 .2, row-there (a .q) (a .heights .now) 0 0 (p .0 .some-budget) (omega arith) (omega arith))
 
--- src/lib.rt:400:5
 loop-holds : tie.Need-loop-holds Inv-loop μ-loop
 loop-holds c =
     let a = c .before .before .before .before .before .before .before .before .before .before .before .before .args in let p = c .before .before .before .before .before .before .before .before .before .before .before .before .pre in
     let long : a .q .budgets - 1 < length (a .marks .now) = omega (arith, p .0 .some-budget, p .1 .0 .2, row-there (a .q) (a .heights .now) 0 0 (p .0 .some-budget) (omega arith) (omega arith)) in
     (refl, root-reached (tableBy (a .q) (a .heights .now) (a .bounds .now) (a .radices .now) (a .ys .now) (a .colours .now)) (capsIn (a .caps .now)) (a .q .budgets) (a .marks .now) (p .0 .some-budget) long refl (p .1 .1 .1) (p .1 .1 .0), λ z. refl, λ z. absurd (omega arith))
 
--- src/lib.rt:415:13
 first-code-requires : tie.Need-first-code-requires Inv-loop μ-loop
 first-code-requires c κs = search needs
 
--- src/lib.rt:416:13
 last-code-requires : tie.Need-last-code-requires Inv-loop μ-loop
 last-code-requires c κs = search needs
 
--- src/lib.rt:401:12
 mark-place-requires : tie.Need-mark-place-requires Inv-loop μ-loop
 mark-place-requires c κs =
     let a = c .before .before .before .before .before .before .before .before .before .before .before .before .before .before .before .before .before .args in let p = c .before .before .before .before .before .before .before .before .before .before .before .before .before .before .before .before .before .pre in let l = c .before .before .before .before .loop in
@@ -61,27 +53,22 @@ mark-place-requires c κs =
     let n = codes-in (a .q .colours) (l .a) (c .before .first-code .result) (c .last-code .result) (c .before .first-code .ensures) (c .last-code .ensures) in
     (p .0, ((c .before .before .before .loop-test .taken, n .0, n .1, n .2, p .1 .0 .0), ((table-at (tableBy (a .q) (a .heights .now) (a .bounds .now) (a .radices .now) (a .ys .now) (a .colours .now)) (capsIn (a .caps .now)) (a .q .budgets) (a .work .now) (a .marks .now) (l .marks) (l .a) (c .before .first-code .result) (c .last-code .result) (p .0 .some-budget) long refl (c .before .first-code .ensures) (c .last-code .ensures) (p .1 .0 .1) (c .before .before .before .loop-test .taken), l .inv .0 ∙ length-set (c .before .before .before .before .before .before .before .before .before .before .before .before .before .before .before .before .before .args .marks .now) (c .before .before .before .before .before .before .before .before .before .before .before .before .before .before .before .before .before .args .q .budgets - 1) 1 ∙ p .1 .0 .2, p .1 .0 .3), l .inv .1)))
 
--- src/lib.rt:418:13
 same-length : tie.Need-same-length Inv-loop μ-loop
 same-length c =
     c .before .before .before .mark-place .kept .1 .1 .1 .1 .1 .1 .1 .1 .1 .1 .1 .0 ∙ c .before .before .before .before .before .before .before .before .loop .inv .0 ∙ length-set (c .before .before .before .before .before .before .before .before .before .before .before .before .before .before .before .before .before .before .before .before .before .args .marks .now) (c .before .before .before .before .before .before .before .before .before .before .before .before .before .before .before .before .before .before .before .before .before .args .q .budgets - 1) 1
 
--- src/lib.rt:418:13
 returns : tie.Need-returns Inv-loop μ-loop
 returns c =
     let a = c .before .before .before .before .before .before .before .before .before .before .before .before .before .before .before .before .before .before .before .before .before .args in let p = c .before .before .before .before .before .before .before .before .before .before .before .before .before .before .before .before .before .before .before .before .before .pre in sym (search-found (tableBy (a .q) (a .heights .now) (a .bounds .now) (a .radices .now) (a .ys .now) (a .colours .now)) (capsIn (a .caps .now)) (a .q .budgets) (c .before .before .before .mark-place .ensures .0 (c .if1 .taken)))
 
--- src/lib.rt:420:9
 add-a : tie.Need-add-a Inv-loop μ-loop
 add-a c =
     omega (arith, c .before .before .before .before .before .before .before .before .before .before .before .before .before .before .before .before .before .before .before .before .before .pre .0 .few-slots, c .before .before .before .before .before .before .before .loop-test .taken)
 
--- src/lib.rt:400:5
 loop-less : tie.Need-loop-less Inv-loop μ-loop
 loop-less c =
     omega (arith, c .before .before .before .before .before .before .before .loop-test .taken)
 
--- src/lib.rt:400:5
 loop-again : tie.Need-loop-again Inv-loop μ-loop
 loop-again c =
     let a = c .before .before .before .before .before .before .before .before .before .before .before .before .before .before .before .before .before .before .before .before .before .args in let p = c .before .before .before .before .before .before .before .before .before .before .before .before .before .before .before .before .before .before .before .before .before .pre in let l = c .before .before .before .before .before .before .before .before .loop in
@@ -93,12 +80,10 @@ loop-again c =
       λ z. rw add-one (search-on (tableBy (a .q) (a .heights .now) (a .bounds .now) (a .radices .now) (a .ys .now) (a .colours .now)) (capsIn (a .caps .now)) (a .q .budgets) (a .work .now) (a .marks .now) (l .marks) (l .a) (c .before .before .before .before .before .first-code .result) (c .before .before .before .before .last-code .result) (p .0 .some-budget) long refl (c .before .before .before .before .before .first-code .ensures) (c .before .before .before .before .last-code .ensures) _ (l .inv .2) (l .inv .3) f),
     )
 
--- src/lib.rt:378:1
 same-length-2 : tie.Need-same-length-2 Inv-loop μ-loop
 same-length-2 c =
     c .before .loop .inv .0 ∙ length-set (c .before .before .before .before .before .before .before .before .before .before .before .before .before .before .args .marks .now) (c .before .before .before .before .before .before .before .before .before .before .before .before .before .before .args .q .budgets - 1) 1
 
--- src/lib.rt:378:1
 returns-2 : tie.Need-returns-2 Inv-loop μ-loop
 returns-2 c =
     let a = c .before .before .before .before .before .before .before .before .before .before .before .before .before .before .args in let p = c .before .before .before .before .before .before .before .before .before .before .before .before .before .before .pre in let l = c .before .loop in sym (search-end (tableBy (a .q) (a .heights .now) (a .bounds .now) (a .radices .now) (a .ys .now) (a .colours .now)) (capsIn (a .caps .now)) (a .q .budgets) (l .marks) (l .a) (c .loop-test .left) (l .inv .3 (omega (arith, c .loop-test .left))))

@@ -1,13 +1,8 @@
 use lib.Seq.{set-set, set-getD}
 use Rattle.kept.proofs.Keeping.{level-set, keeps-by, never-keeps}
-use mathlib.Core.Path.{_≡_, refl, ap, sym, _∙_}
-use mathlib.Core.List.{List, [], _∷_, _++_}
-use mathlib.Core.Logic.{⊎-elim}
-use Prim.Native.Nat.{ℕ, zero, suc, _+_, _-_, _*_, _<_, _≤_}
-use native.Mathlib.Omega.{arith}
-use native.Mathlib.Numerals.{add-one}
-use lib.ListN.{length, getD, take, drop, set, length-set}
-use borrow.Author.Tests.{eq-eqb, ne-eqb, lt-ltb, le-ltb, le-leb, lt-leb}
+use mathlib.Core.Path.{refl, sym, _∙_}
+use Prim.Native.Nat.{_-_}
+use lib.ListN.{length-set}
 use borrow.Author.Needs.{needs}
 use Rattle.kept.proofs.keeps_cost.Statement.{statement}
 use Rattle.kept.proofs.keeps_cost.Tie as tie
@@ -17,54 +12,42 @@ use Rattle.rest.proofs.rest_of.Reads as rest-of-reads
 use Rattle.words.proofs.plus_of.Reads as plus-of-reads
 use Rattle.words.proofs.same.Reads as same-reads
 
--- src/lib.rt:32:9
 returns : tie.Need-returns
 returns c =
     (sym (never-keeps _ _ _ (c .if1 .taken) (c .before .before .before .before .before .pre .1 .3)), refl)
 
--- src/lib.rt:35:15
 mul-old : tie.Need-mul-old
 mul-old c = search needs
 
--- src/lib.rt:35:15
 slice-read-old : tie.Need-slice-read-old
 slice-read-old c = search needs
 
--- src/lib.rt:36:5
 mul-labels : tie.Need-mul-labels
 mul-labels c = search needs
 
--- src/lib.rt:36:5
 slice-write-labels : tie.Need-slice-write-labels
 slice-write-labels c = search needs
 
--- src/lib.rt:37:9
 rest-of-requires : tie.Need-rest-of-requires
 rest-of-requires c κs =
     let p = c .before .before .before .before .before .before .before .pre in
     (level-set _ _ _ _ _ _ _ _ _ (p .0) (p .1 .0) (p .1 .1), p .1 .2)
 
--- src/lib.rt:38:5
 mul-labels-2 : tie.Need-mul-labels-2
 mul-labels-2 c = search needs
 
--- src/lib.rt:38:5
 slice-write-labels-2 : tie.Need-slice-write-labels-2
 slice-write-labels-2 c = search needs
 
--- src/lib.rt:39:17
 plus-of-requires : tie.Need-plus-of-requires
 plus-of-requires c κs = search needs
 
--- src/lib.rt:39:5
 same-requires : tie.Need-same-requires
 same-requires c κs = search needs
 
--- src/lib.rt:13:1
 same-length : tie.Need-same-length
 same-length c = search needs
 
--- src/lib.rt:13:1
 returns-2 : tie.Need-returns-2
 returns-2 c =
     let a = c .before .before .before .before .before .before .before .before .before .before .args in

@@ -6,27 +6,22 @@ use borrow.Author.Needs.{needs}
 use Rattle.labels.proofs.after_slot.Statement.{statement}
 use Rattle.labels.proofs.after_slot.Tie as tie
 
--- src/lib.rt:109:9
 returns : tie.Need-returns
 returns c =
     let a = c .before .before .before .before .before .before .before .before .args in
     least-skip (tableBy (a .q) (a .heights .now) (a .bounds .now) (a .radices .now) (a .ys .now) (a .colours .now)) (capsIn (a .caps .now)) (a .s) (a .k) (c .before .before .before .before .before .before .before .before .pre .1)
 
--- src/lib.rt:112:9
 returns-2 : tie.Need-returns-2
 returns-2 c =
     let a = c .before .before .before .before .before .before .before .before .before .before .args in
     least-lost (tableBy (a .q) (a .heights .now) (a .bounds .now) (a .radices .now) (a .ys .now) (a .colours .now)) (capsIn (a .caps .now)) (a .s) _ (a .k) (suc (a .k)) refl
 
--- src/lib.rt:130:9
 sub-with-label : tie.Need-sub-with-label
 sub-with-label c = search needs
 
--- src/lib.rt:119:5
 with-label-requires : tie.Need-with-label-requires
 with-label-requires c κs = search needs
 
--- src/lib.rt:91:1
 returns-3 : tie.Need-returns-3
 returns-3 c = c .with-label .ensures
 

@@ -17,53 +17,42 @@ Inv-loop q heights bounds radices draws ys colours caps labels m all s₀ k₀ s
 abbrev μ-loop : tie.MeasureT-loop
 μ-loop q heights bounds radices draws ys colours caps labels m all s₀ k₀ s k = m - k
 
--- src/lib.rt:152:13
 cast-m : tie.Need-cast-m Inv-loop μ-loop
 cast-m c = search needs
 
--- src/lib.rt:153:15
 cast-all : tie.Need-cast-all Inv-loop μ-loop
 cast-all c = search needs
 
--- src/lib.rt:157:17
 sub-t16 : tie.Need-sub-t16 Inv-loop μ-loop
 sub-t16 c = search needs
 
--- src/lib.rt:161:5
 loop-holds : tie.Need-loop-holds Inv-loop μ-loop
 loop-holds c =
     let a = c .before .before .before .before .before .before .before .before .before .args in
     (omega arith, least-first (tableBy (a .q) (a .heights .now) (a .bounds .now) (a .radices .now) (a .ys .now) (a .colours .now)) (capsIn (a .caps .now)) _ refl refl refl refl)
 
--- src/lib.rt:173:13
 get-requires : tie.Need-get-requires Inv-loop μ-loop
 get-requires c κs = search needs
 
--- src/lib.rt:162:9
 after-slot-requires : tie.Need-after-slot-requires Inv-loop μ-loop
 after-slot-requires c κs = search needs
 
--- src/lib.rt:175:9
 add-k : tie.Need-add-k Inv-loop μ-loop
 add-k c = search needs
 
--- src/lib.rt:161:5
 loop-less : tie.Need-loop-less Inv-loop μ-loop
 loop-less c = search needs
 
--- src/lib.rt:161:5
 loop-again : tie.Need-loop-again Inv-loop μ-loop
 loop-again c =
     let a = c .before .before .before .before .before .before .before .before .before .before .before .before .before .args in let l = c .before .before .before .loop in
     (omega arith, rw add-one (le-trans (l .inv .1) (c .after-slot .ensures)))
 
--- src/lib.rt:178:9
 returns : tie.Need-returns Inv-loop μ-loop
 returns c =
     let a = c .before .before .before .before .before .before .before .before .before .before .before .before .before .args in let l = c .before .before .before .loop in
     least-none (tableBy (a .q) (a .heights .now) (a .bounds .now) (a .radices .now) (a .ys .now) (a .colours .now)) (capsIn (a .caps .now)) _ (l .s) (l .k) (l .inv .1)
 
--- src/lib.rt:180:9
 strip-between-requires : tie.Need-strip-between-requires Inv-loop μ-loop
 strip-between-requires c κs =
     let p = c .before .before .before .before .before .before .before .before .before .before .before .before .before .pre in (
@@ -71,11 +60,9 @@ strip-between-requires c κs =
       (record { few = omega arith; some = λ i l. absurd (omega arith); higher = λ i l. absurd (omega arith) }, record { few = omega arith; some = λ i l u. absurd (omega arith); lower = λ i l u. absurd (omega arith) }),
     )
 
--- src/lib.rt:181:5
 plus-of-requires : tie.Need-plus-of-requires Inv-loop μ-loop
 plus-of-requires c κs = search needs
 
--- src/lib.rt:138:1
 returns-2 : tie.Need-returns-2 Inv-loop μ-loop
 returns-2 c =
     let a = c .before .before .before .before .before .before .before .before .before .before .before .before .before .before .before .args in let l = c .before .before .before .before .before .loop in

@@ -8,27 +8,22 @@ use borrow.Author.Needs.{needs}
 use Rattle.labels.proofs.with_label.Statement.{statement}
 use Rattle.labels.proofs.with_label.Tie as tie
 
--- src/lib.rt:43:9
 may-stand-requires : tie.Need-may-stand-requires
 may-stand-requires c κs =
     let a = c .before .before .before .before .before .before .before .args in let p = c .before .before .before .before .before .before .before .pre in
     (p .0 .few-slots, omega (arith, p .1 .1, p .0 .few-colours), parted (a .q) (a .heights .now) (a .bounds .now) (a .radices .now) (a .draws .now) (a .ys .now) (a .colours .now) (a .caps .now) (p .0) (a .d) (p .1 .1))
 
--- src/lib.rt:55:9
 returns : tie.Need-returns
 returns c =
     let a = c .before .before .before .before .before .before .before .before .before .args in
     least-lost (tableBy (a .q) (a .heights .now) (a .bounds .now) (a .radices .now) (a .ys .now) (a .colours .now)) (capsIn (a .caps .now)) (a .s) _ (a .k) (suc (a .k)) refl
 
--- src/lib.rt:62:15
 cast-all : tie.Need-cast-all
 cast-all c = search needs
 
--- src/lib.rt:72:9
 add-strip-between : tie.Need-add-strip-between
 add-strip-between c = search needs
 
--- src/lib.rt:63:9
 strip-between-requires : tie.Need-strip-between-requires
 strip-between-requires c κs =
     let p = c .before .before .before .before .before .before .before .before .before .pre in (
@@ -36,33 +31,26 @@ strip-between-requires c κs =
       (record { few = omega arith; some = λ i l. absurd (omega arith); higher = λ i l. absurd (omega arith) }, record { few = omega arith; some = λ i l u. absurd (omega arith); lower = λ i l u. absurd (omega arith) }),
     )
 
--- src/lib.rt:77:16
 add-t17 : tie.Need-add-t17
 add-t17 c =
     let p = c .before .before .before .before .before .before .before .before .before .before .pre in omega (arith, p .1 .0, p .0 .few-slots)
 
--- src/lib.rt:78:15
 add-t18 : tie.Need-add-t18
 add-t18 c =
     let p = c .before .before .before .before .before .before .before .before .before .before .pre in omega (arith, p .1 .1, p .0 .few-colours)
 
--- src/lib.rt:79:33
 get-requires : tie.Need-get-requires
 get-requires c κs = search needs
 
--- src/lib.rt:79:17
 monus-requires : tie.Need-monus-requires
 monus-requires c κs = search needs
 
--- src/lib.rt:80:31
 link-cost-requires : tie.Need-link-cost-requires
 link-cost-requires c κs = search needs
 
--- src/lib.rt:80:15
 plus-of-requires : tie.Need-plus-of-requires
 plus-of-requires c κs = search needs
 
--- src/lib.rt:26:1
 returns-2 : tie.Need-returns-2
 returns-2 c =
     let a = c .before .before .before .before .before .before .before .before .before .before .before .before .before .before .args in let p = c .before .before .before .before .before .before .before .before .before .before .before .before .before .before .pre in

@@ -1,13 +1,9 @@
 use lib.Seq.{getD-set-same, getD-set-other}
 use Rattle.lists.proofs.Tests.{by-equal}
-use mathlib.Core.Path.{_≡_, refl, ap, sym, _∙_}
-use mathlib.Core.List.{List, [], _∷_, _++_}
-use mathlib.Core.Logic.{⊎-elim}
-use Prim.Native.Nat.{ℕ, zero, suc, _+_, _-_, _*_, _<_, _≤_}
+use mathlib.Core.Path.{_≡_, refl, _∙_}
+use Prim.Native.Nat.{ℕ, _-_, _<_, _≤_}
 use native.Mathlib.Omega.{arith}
-use native.Mathlib.Numerals.{add-one}
-use lib.ListN.{length, getD, take, drop, set, length-set}
-use borrow.Author.Tests.{eq-eqb, ne-eqb, lt-ltb, le-ltb, le-leb, lt-leb}
+use lib.ListN.{length, getD, length-set}
 use borrow.Author.Needs.{needs}
 use Rattle.links.proofs.fill_row.Statement.{statement}
 use Rattle.links.proofs.fill_row.Tie as tie
@@ -20,28 +16,22 @@ Inv-loop row₀ count cost v₀ row v = (length row ≡ length row₀) × (v ≤
 abbrev μ-loop : tie.MeasureT-loop
 μ-loop row₀ count cost v₀ row v = count - v
 
--- src/lib.rt:316:5
 loop-holds : tie.Need-loop-holds Inv-loop μ-loop
 loop-holds c =
     (refl, omega arith, λ k h. absurd (omega arith))
 
--- src/lib.rt:317:9
 mul-row : tie.Need-mul-row Inv-loop μ-loop
 mul-row c = search needs
 
--- src/lib.rt:317:9
 slice-write-row : tie.Need-slice-write-row Inv-loop μ-loop
 slice-write-row c = search needs
 
--- src/lib.rt:318:9
 add-v : tie.Need-add-v Inv-loop μ-loop
 add-v c = search needs
 
--- src/lib.rt:316:5
 loop-less : tie.Need-loop-less Inv-loop μ-loop
 loop-less c = search needs
 
--- src/lib.rt:316:5
 loop-again : tie.Need-loop-again Inv-loop μ-loop
 loop-again c =
     let l = c .before .loop in let a = c .before .before .args in (
@@ -52,11 +42,9 @@ loop-again c =
           (λ e. getD-set-other (l .row) (l .v) k (a .cost) 0 e ∙ l .inv .2 k (omega (arith, e))),
     )
 
--- src/lib.rt:311:1
 same-length : tie.Need-same-length Inv-loop μ-loop
 same-length c = search needs
 
--- src/lib.rt:311:1
 returns : tie.Need-returns Inv-loop μ-loop
 returns c =
     let l = c .before .loop in λ k h. l .inv .2 k (omega arith)

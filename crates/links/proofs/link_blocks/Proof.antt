@@ -1,13 +1,8 @@
-use Rattle.links.specs.Rows.{linked}
 use Rattle.links.proofs.Rows.{Blockwise, blocks-none, blocks-more, block-fits}
-use mathlib.Core.Path.{_≡_, refl, ap, sym, _∙_}
-use mathlib.Core.List.{List, [], _∷_, _++_}
-use mathlib.Core.Logic.{⊎-elim}
-use Prim.Native.Nat.{ℕ, zero, suc, _+_, _-_, _*_, _<_, _≤_}
+use mathlib.Core.Path.{_≡_, refl, _∙_}
+use Prim.Native.Nat.{_+_, _-_, _≤_}
 use native.Mathlib.Omega.{arith}
-use native.Mathlib.Numerals.{add-one}
-use lib.ListN.{length, getD, take, drop, set, length-set}
-use borrow.Author.Tests.{eq-eqb, ne-eqb, lt-ltb, le-ltb, le-leb, lt-leb}
+use lib.ListN.{length}
 use borrow.Author.Needs.{needs}
 use Rattle.links.proofs.link_blocks.Statement.{statement}
 use Rattle.links.proofs.link_blocks.Tie as tie
@@ -25,43 +20,35 @@ abbrev μ-loop : tie.MeasureT-loop
 ends : (c : tie.In-loop Inv-loop μ-loop) → c .before .loop .start + c .before .before .before .before .args .size ≤ c .before .before .before .before .args .budgets
 ends c = block-fits _ _ _ (c .before .loop .inv .2 .block) (c .before .before .before .before .pre .whole) (c .loop-test .taken)
 
--- src/lib.rt:210:17
 sub-count : tie.Need-sub-count Inv-loop μ-loop
 sub-count c =
     c .before .before .pre .low
 
--- src/lib.rt:212:5
 loop-holds : tie.Need-loop-holds Inv-loop μ-loop
 loop-holds c =
     let a = c .before .before .args in (refl, omega arith, blocks-none (a .row .now) (a .work .now) (a .from) (a .skip) (a .size) (a .cost))
 
--- src/lib.rt:213:26
 add-relax : tie.Need-add-relax Inv-loop μ-loop
 add-relax c =
     omega (arith, c .before .before .before .before .before .pre .low, c .before .before .before .before .before .pre .few, ends (c .before))
 
--- src/lib.rt:213:40
 add-relax-2 : tie.Need-add-relax-2 Inv-loop μ-loop
 add-relax-2 c =
     omega (arith, c .before .before .before .before .before .pre .there)
 
--- src/lib.rt:213:9
 relax-requires : tie.Need-relax-requires Inv-loop μ-loop
 relax-requires c κs =
     let p = c .before .before .before .before .before .pre in let e = ends (c .before) in
     (omega (arith, p .low, p .fits, c .before .before .loop .inv .0), omega (arith, p .low, p .there))
 
--- src/lib.rt:214:9
 add-start : tie.Need-add-start Inv-loop μ-loop
 add-start c =
     omega (arith, c .before .before .before .before .before .before .before .before .pre .few, ends (c .before .before .before .before))
 
--- src/lib.rt:212:5
 loop-less : tie.Need-loop-less Inv-loop μ-loop
 loop-less c =
     omega (arith, c .before .before .before .before .before .before .before .before .pre .some)
 
--- src/lib.rt:212:5
 loop-again : tie.Need-loop-again Inv-loop μ-loop
 loop-again c =
     let a = c .before .before .before .before .before .before .before .before .args in let l = c .before .before .before .before .before .loop in (
@@ -70,11 +57,9 @@ loop-again c =
       blocks-more (a .row .now) (l .row) (c .before .before .relax .last .0) (a .work .now) (a .from) (a .skip) (a .size) (a .cost) (l .start) (c .before .before .before .before .before .before .before .before .pre .low) (c .before .before .relax .ensures) (l .inv .2),
     )
 
--- src/lib.rt:206:1
 same-length : tie.Need-same-length Inv-loop μ-loop
 same-length c = search needs
 
--- src/lib.rt:206:1
 returns : tie.Need-returns Inv-loop μ-loop
 returns c =
     let l = c .before .loop in λ v h. l .inv .2 .done v (omega arith)

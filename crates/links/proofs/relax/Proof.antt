@@ -1,15 +1,10 @@
 use Prim.Native.Nat.{min}
-use Rattle.optimum.specs.CostWord.{topWord}
 use Rattle.links.specs.Rows.{relaxed}
 use Rattle.links.proofs.Rows.{run-none, run-more}
-use mathlib.Core.Path.{_≡_, refl, ap, sym, _∙_}
-use mathlib.Core.List.{List, [], _∷_, _++_}
-use mathlib.Core.Logic.{⊎-elim}
-use Prim.Native.Nat.{ℕ, zero, suc, _+_, _-_, _*_, _<_, _≤_}
+use mathlib.Core.Path.{_≡_, refl, ap, _∙_}
+use Prim.Native.Nat.{ℕ, _+_, _-_, _≤_}
 use native.Mathlib.Omega.{arith}
-use native.Mathlib.Numerals.{add-one}
-use lib.ListN.{length, getD, take, drop, set, length-set}
-use borrow.Author.Tests.{eq-eqb, ne-eqb, lt-ltb, le-ltb, le-leb, lt-leb}
+use lib.ListN.{length, getD, length-set}
 use borrow.Author.Needs.{needs}
 use Rattle.links.proofs.relax.Statement.{statement}
 use Rattle.links.proofs.relax.Tie as tie
@@ -23,72 +18,55 @@ Inv-loop row₀ work to from count cost room i₀ row i = (length row ≡ length
 abbrev μ-loop : tie.MeasureT-loop
 μ-loop row₀ work to from count cost room i₀ row i = count - i
 
--- src/lib.rt:196:16
 sub-room : tie.Need-sub-room Inv-loop μ-loop
 sub-room c = search needs
 
--- src/lib.rt:198:5
 loop-holds : tie.Need-loop-holds Inv-loop μ-loop
 loop-holds c =
     let a = c .before .before .args in (refl, omega arith, λ v. run-none (a .row .now) (a .work .now) (a .to) (a .from) (a .cost) v)
 
--- src/lib.rt:199:32
 add-lesser : tie.Need-add-lesser Inv-loop μ-loop
 add-lesser c = search needs
 
--- src/lib.rt:199:27
 mul-lesser : tie.Need-mul-lesser Inv-loop μ-loop
 mul-lesser c = search needs
 
--- src/lib.rt:199:27
 shared-slice-read-lesser : tie.Need-shared-slice-read-lesser Inv-loop μ-loop
 shared-slice-read-lesser c = search needs
 
--- src/lib.rt:199:13
 lesser-requires : tie.Need-lesser-requires Inv-loop μ-loop
 lesser-requires c κs = search needs
 
--- src/lib.rt:200:34
 add-lesser-2 : tie.Need-add-lesser-2 Inv-loop μ-loop
 add-lesser-2 c = search needs
 
--- src/lib.rt:200:30
 mul-lesser-2 : tie.Need-mul-lesser-2 Inv-loop μ-loop
 mul-lesser-2 c = search needs
 
--- src/lib.rt:200:30
 slice-read-lesser : tie.Need-slice-read-lesser Inv-loop μ-loop
 slice-read-lesser c = search needs
 
--- src/lib.rt:200:43
 add-lesser-3 : tie.Need-add-lesser-3 Inv-loop μ-loop
 add-lesser-3 c = search needs
 
--- src/lib.rt:200:23
 lesser-requires-2 : tie.Need-lesser-requires-2 Inv-loop μ-loop
 lesser-requires-2 c κs = search needs
 
--- src/lib.rt:200:13
 add-row : tie.Need-add-row Inv-loop μ-loop
 add-row c = search needs
 
--- src/lib.rt:200:9
 mul-row : tie.Need-mul-row Inv-loop μ-loop
 mul-row c = search needs
 
--- src/lib.rt:200:9
 slice-write-row : tie.Need-slice-write-row Inv-loop μ-loop
 slice-write-row c = search needs
 
--- src/lib.rt:201:9
 add-i : tie.Need-add-i Inv-loop μ-loop
 add-i c = search needs
 
--- src/lib.rt:198:5
 loop-less : tie.Need-loop-less Inv-loop μ-loop
 loop-less c = search needs
 
--- src/lib.rt:198:5
 loop-again : tie.Need-loop-again Inv-loop μ-loop
 loop-again c =
     let a = c .before .before .before .before .before .before .before .before .args in let l = c .before .before .before .before .before .loop in (
@@ -98,11 +76,9 @@ loop-again c =
           (c .lesser2 .ensures ∙ ap (λ (z : ℕ). min (getD (l .row) (a .to + l .i) 0) (a .cost + z)) (c .before .before .lesser .ensures)) (l .inv .2),
     )
 
--- src/lib.rt:192:1
 same-length : tie.Need-same-length Inv-loop μ-loop
 same-length c = search needs
 
--- src/lib.rt:192:1
 returns : tie.Need-returns Inv-loop μ-loop
 returns c =
     let l = c .before .loop in let e : l .i ≡ c .before .before .before .before .args .count = omega arith in rw e at (l .inv .2)

@@ -1,46 +1,33 @@
 use Rattle.links.proofs.Rows.{start-low}
-use mathlib.Core.Path.{_≡_, refl, ap, sym, _∙_}
-use mathlib.Core.List.{List, [], _∷_, _++_}
-use mathlib.Core.Logic.{⊎-elim}
-use Prim.Native.Nat.{ℕ, zero, suc, _+_, _-_, _*_, _<_, _≤_}
+use Prim.Native.Nat.{_-_}
 use native.Mathlib.Omega.{arith}
-use native.Mathlib.Numerals.{add-one}
-use lib.ListN.{length, getD, take, drop, set, length-set}
-use borrow.Author.Tests.{eq-eqb, ne-eqb, lt-ltb, le-ltb, le-leb, lt-leb}
 use borrow.Author.Needs.{needs}
 use Rattle.links.proofs.row_start.Statement.{statement}
 use Rattle.links.proofs.row_start.Tie as tie
 use Rattle.links.proofs.row_start.Reads as reads
 use Rattle.links.proofs.row_start.Lts as lts
 
--- src/lib.rt:229:17
 cast-codes : tie.Need-cast-codes
 cast-codes c = search needs
 
--- src/lib.rt:229:17
 add-codes : tie.Need-add-codes
 add-codes c = search needs
 
--- src/lib.rt:230:6
 mul-result : tie.Need-mul-result
 mul-result c =
     let a = c .before .args in let p = c .before .pre in omega (arith, start-low (a .q .colours) (a .q .budgets) (a .a) (a .code) (p .0) (p .1) (p .2) (p .3) .0)
 
--- src/lib.rt:230:6
 add-result : tie.Need-add-result
 add-result c =
     let a = c .before .args in let p = c .before .pre in omega (arith, start-low (a .q .colours) (a .q .budgets) (a .a) (a .code) (p .0) (p .1) (p .2) (p .3) .0)
 
--- src/lib.rt:230:47
 cast-result : tie.Need-cast-result
 cast-result c = search needs
 
--- src/lib.rt:230:5
 mul-result-2 : tie.Need-mul-result-2
 mul-result-2 c =
     let a = c .before .before .args in let p = c .before .before .pre in omega (arith, start-low (a .q .colours) (a .q .budgets) (a .a) (a .code) (p .0) (p .1) (p .2) (p .3) .1)
 
--- src/lib.rt:225:1
 returns : tie.Need-returns
 returns c = search needs
 

@@ -21,11 +21,9 @@ abbrev μ-loop : tie.MeasureT-loop
 μ-loop q heights bounds radices draws ys colours caps bands ends work marks₀ a code start m other₀ j₀ marks other j =
     length heights - (a + j)
 
--- src/lib.rt:237:13
 cast-m : tie.Need-cast-m Inv-loop μ-loop
 cast-m c = search needs
 
--- src/lib.rt:240:5
 loop-holds : tie.Need-loop-holds Inv-loop μ-loop
 loop-holds c =
     let a = c .before .before .before .before .before .before .before .before .before .before .before .args in let p = c .before .before .before .before .before .before .before .before .before .before .before .pre in (
@@ -35,30 +33,24 @@ loop-holds c =
       λ l. barred-none (a .heights .now) (a .ys .now) (a .colours .now) (a .a) (a .a + 0) (a .code),
     )
 
--- src/lib.rt:240:11
 add-loop : tie.Need-add-loop Inv-loop μ-loop
 add-loop c =
     omega (arith, c .before .before .before .before .before .before .before .before .before .before .before .before .pre .0 .few-slots, c .loop .inv .1)
 
--- src/lib.rt:241:50
 add-get : tie.Need-add-get Inv-loop μ-loop
 add-get c =
     omega (arith, c .before .before .before .before .before .before .before .before .before .before .before .before .before .pre .0 .few-slots, c .loop-test .taken)
 
--- src/lib.rt:241:39
 get-requires : tie.Need-get-requires Inv-loop μ-loop
 get-requires c κs = search needs
 
--- src/lib.rt:241:9
 other-in-requires : tie.Need-other-in-requires Inv-loop μ-loop
 other-in-requires c κs = search needs
 
--- src/lib.rt:243:13
 same-length : tie.Need-same-length Inv-loop μ-loop
 same-length c =
     c .before .before .before .before .loop .inv .0
 
--- src/lib.rt:243:13
 returns : tie.Need-returns Inv-loop μ-loop
 returns c =
     let a = c .before .before .before .before .before .before .before .before .before .before .before .before .before .before .before .before .args in let p = c .before .before .before .before .before .before .before .before .before .before .before .before .before .before .before .before .pre in let l = c .before .before .before .before .loop in
@@ -67,16 +59,13 @@ returns c =
     (barred-more (a .heights .now) (a .ys .now) (a .colours .now) (a .bands .now) (a .ends .now) (p .0 .rising) (p .1 .0 .2) (a .a) (a .code) (a .a + l .j) (l .other) (c .before .other-in .result) (c .before .before .get .result) (omega arith) (c .before .before .before .loop-test .taken) (c .before .before .get .ensures) (l .inv .3) (c .before .other-in .ensures))
     (l .inv .2 old r)
 
--- src/lib.rt:260:23
 add-get-2 : tie.Need-add-get-2 Inv-loop μ-loop
 add-get-2 c =
     omega (arith, c .before .before .before .before .before .before .before .before .before .before .before .before .before .before .before .before .before .pre .0 .few-slots, c .before .before .before .before .loop-test .taken)
 
--- src/lib.rt:260:13
 get-requires-2 : tie.Need-get-requires-2 Inv-loop μ-loop
 get-requires-2 c κs = search needs
 
--- src/lib.rt:245:9
 mark-slot-requires : tie.Need-mark-slot-requires Inv-loop μ-loop
 mark-slot-requires c κs =
     let a = c .before .before .before .before .before .before .before .before .before .before .before .before .before .before .before .before .before .before .args in let p = c .before .before .before .before .before .before .before .before .before .before .before .before .before .before .before .before .before .before .pre in let l = c .before .before .before .before .before .before .loop in
@@ -85,17 +74,14 @@ mark-slot-requires c κs =
     let b = barred-more (a .heights .now) (a .ys .now) (a .colours .now) (a .bands .now) (a .ends .now) (p .0 .rising) (p .1 .0 .2) (a .a) (a .code) (a .a + l .j) (l .other) (c .before .before .before .other-in .result) (c .before .before .before .before .get .result) (omega arith) t (c .before .before .before .before .get .ensures) (l .inv .3) (c .before .before .before .other-in .ensures) in
     (p .0, ((t, p .1 .0 .1, p .1 .0 .3, e, b), (p .1 .1 .0, l .inv .0 ∙ p .1 .1 .1, p .1 .1 .2)))
 
--- src/lib.rt:263:9
 add-j : tie.Need-add-j Inv-loop μ-loop
 add-j c =
     omega (arith, c .before .before .before .before .before .before .before .before .before .before .before .before .before .before .before .before .before .before .before .before .before .pre .0 .few-slots, c .before .before .before .before .before .before .before .before .loop-test .taken)
 
--- src/lib.rt:240:5
 loop-less : tie.Need-loop-less Inv-loop μ-loop
 loop-less c =
     omega (arith, c .before .before .before .before .before .before .before .before .loop-test .taken)
 
--- src/lib.rt:240:5
 loop-again : tie.Need-loop-again Inv-loop μ-loop
 loop-again c =
     let a = c .before .before .before .before .before .before .before .before .before .before .before .before .before .before .before .before .before .before .before .before .before .args in let p = c .before .before .before .before .before .before .before .before .before .before .before .before .before .before .before .before .before .before .before .before .before .pre in let l = c .before .before .before .before .before .before .before .before .before .loop in let t = c .before .before .before .before .before .before .before .before .loop-test .taken in
@@ -106,12 +92,10 @@ loop-again c =
       λ u. barred-down (a .heights .now) (a .ys .now) (a .colours .now) (p .0 .rising) (a .a) (a .code) (a .a + l .j) (a .a + (l .j + 1)) (c .before .before .before .before .before .before .other-in .result) (omega arith) u b,
     )
 
--- src/lib.rt:215:1
 same-length-2 : tie.Need-same-length-2 Inv-loop μ-loop
 same-length-2 c =
     c .before .loop .inv .0
 
--- src/lib.rt:215:1
 returns-2 : tie.Need-returns-2 Inv-loop μ-loop
 returns-2 c =
     let a = c .before .before .before .before .before .before .before .before .before .before .before .before .before .args in let p = c .before .before .before .before .before .before .before .before .before .before .before .before .before .pre in let l = c .before .loop in

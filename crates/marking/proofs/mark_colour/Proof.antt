@@ -9,98 +9,78 @@ use borrow.Author.Needs.{needs}
 use Rattle.marking.proofs.mark_colour.Statement.{statement}
 use Rattle.marking.proofs.mark_colour.Tie as tie
 
--- src/lib.rt:141:13
 add-k : tie.Need-add-k
 add-k c =
     let p = c .before .before .before .before .before .before .before .before .before .pre in omega (arith, p .0 .few-slots, p .1 .0 .0)
 
--- src/lib.rt:142:40
 add-is-far : tie.Need-add-is-far
 add-is-far c =
     let p = c .before .before .before .before .before .before .before .before .before .pre in omega (arith, p .0 .few-colours, p .1 .0 .2)
 
--- src/lib.rt:142:9
 is-far-requires : tie.Need-is-far-requires
 is-far-requires c κs = search needs
 
--- src/lib.rt:143:9
 returns : tie.Need-returns
 returns c =
     let a = c .before .before .before .before .before .before .before .before .before .before .before .args in let p = c .before .before .before .before .before .before .before .before .before .before .before .pre in
     λ old r. row-near (a .q) (a .heights .now) (a .bounds .now) (a .radices .now) (a .draws .now) (a .ys .now) (a .colours .now) (a .caps .now) (p .0) (a .a) (a .code) old (a .marks .now) (a .j) (a .d) (c .before .is-far .result) (c .before .is-far .ensures) (not-true (c .before .is-far .result) (c .if1 .taken)) r
 
--- src/lib.rt:145:74
 add-strip-between : tie.Need-add-strip-between
 add-strip-between c =
     let p = c .before .before .before .before .before .before .before .before .before .before .before .pre in omega (arith, p .0 .few-colours, p .1 .0 .2)
 
--- src/lib.rt:145:9
 strip-between-requires : tie.Need-strip-between-requires
 strip-between-requires c κs =
     let p = c .before .before .before .before .before .before .before .before .before .before .before .pre in
     ((p .0 .colours-long, p .0 .caps-long, omega (arith, p .1 .0 .0), omega (arith, p .0 .few-slots, p .1 .0 .0)), (p .1 .0 .3, p .1 .0 .4))
 
--- src/lib.rt:147:9
 returns-2 : tie.Need-returns-2
 returns-2 c =
     let a = c .before .before .before .before .before .before .before .before .before .before .before .before .before .args in let p = c .before .before .before .before .before .before .before .before .before .before .before .before .before .pre in
     λ old r. row-lost (a .q) (a .heights .now) (a .bounds .now) (a .radices .now) (a .draws .now) (a .ys .now) (a .colours .now) (a .caps .now) (p .0) (a .a) (a .code) old (a .marks .now) (a .j) (a .d) (c .before .strip-between .result) (c .before .strip-between .ensures) (c .if2 .taken) r
 
--- src/lib.rt:149:9
 get-requires : tie.Need-get-requires
 get-requires c κs = search needs
 
--- src/lib.rt:150:38
 get-requires-2 : tie.Need-get-requires-2
 get-requires-2 c κs = search needs
 
--- src/lib.rt:150:60
 get-requires-3 : tie.Need-get-requires-3
 get-requires-3 c κs = search needs
 
--- src/lib.rt:150:9
 block-size-requires : tie.Need-block-size-requires
 block-size-requires c κs =
     let a = c .before .before .before .before .before .before .before .before .before .before .before .before .before .before .before .before .args in let p = c .before .before .before .before .before .before .before .before .before .before .before .before .before .before .before .before .pre in
     product-of (a .q) (a .heights .now) (a .bounds .now) (a .radices .now) (a .draws .now) (a .ys .now) (a .colours .now) (a .caps .now) (p .0) (a .d) (p .1 .0 .2) (c .before .before .get .result) (c .get3 .result) (c .before .before .get .ensures) (c .get3 .ensures)
 
--- src/lib.rt:151:9
 row-start-requires : tie.Need-row-start-requires
 row-start-requires c κs =
     let p = c .before .before .before .before .before .before .before .before .before .before .before .before .before .before .before .before .before .pre in (omega (arith, p .0 .few-slots, p .1 .0 .0), omega (arith, p .0 .few-colours, p .1 .0 .1), p .0 .few-colours, p .0 .few-budgets)
 
--- src/lib.rt:152:27
 add-row-start : tie.Need-add-row-start
 add-row-start c =
     let p = c .before .before .before .before .before .before .before .before .before .before .before .before .before .before .before .before .before .before .pre in omega (arith, p .0 .few-slots, p .1 .0 .0)
 
--- src/lib.rt:152:34
 add-row-start-2 : tie.Need-add-row-start-2
 add-row-start-2 c =
     let p = c .before .before .before .before .before .before .before .before .before .before .before .before .before .before .before .before .before .before .pre in omega (arith, p .0 .few-colours, p .1 .0 .2)
 
--- src/lib.rt:152:9
 row-start-requires-2 : tie.Need-row-start-requires-2
 row-start-requires-2 c κs =
     let p = c .before .before .before .before .before .before .before .before .before .before .before .before .before .before .before .before .before .before .pre in (omega (arith, p .0 .few-slots, p .1 .0 .0), omega (arith, p .0 .few-colours, p .1 .0 .2), p .0 .few-colours, p .0 .few-budgets)
 
--- src/lib.rt:158:9
 cast-mark-blocks : tie.Need-cast-mark-blocks
 cast-mark-blocks c = search needs
 
--- src/lib.rt:159:9
 cast-mark-blocks-2 : tie.Need-cast-mark-blocks-2
 cast-mark-blocks-2 c = search needs
 
--- src/lib.rt:160:9
 cast-mark-blocks-3 : tie.Need-cast-mark-blocks-3
 cast-mark-blocks-3 c = search needs
 
--- src/lib.rt:161:9
 link-cost-requires : tie.Need-link-cost-requires
 link-cost-requires c κs = search needs
 
--- src/lib.rt:153:5
 mark-blocks-requires : tie.Need-mark-blocks-requires
 mark-blocks-requires c κs =
     let a = c .before .before .before .before .before .before .before .before .before .before .before .before .before .before .before .before .before .before .before .before .before .before .args in let p = c .before .before .before .before .before .before .before .before .before .before .before .before .before .before .before .before .before .before .before .before .before .before .pre in
@@ -114,12 +94,10 @@ mark-blocks-requires c κs =
       omega (arith, t, p .1 .1 .1),
     )
 
--- src/lib.rt:118:1
 same-length : tie.Need-same-length
 same-length c =
     c .before .before .mark-blocks .kept .0
 
--- src/lib.rt:118:1
 returns-3 : tie.Need-returns-3
 returns-3 c =
     let a = c .before .before .before .before .before .before .before .before .before .before .before .before .before .before .before .before .before .before .before .before .before .before .before .before .before .args in let p = c .before .before .before .before .before .before .before .before .before .before .before .before .before .before .before .before .before .before .before .before .before .before .before .before .before .pre in

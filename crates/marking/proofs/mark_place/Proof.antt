@@ -21,86 +21,69 @@ abbrev μ-loop : tie.MeasureT-loop
 μ-loop q heights bounds radices draws ys colours caps bands ends work marks₀ a first last rows start code₀ marks code =
     last + 1 - code
 
--- src/lib.rt:346:22
 add-monus : tie.Need-add-monus Inv-loop μ-loop
 add-monus c =
     let a = c .before .before .before .before .before .before .before .before .before .before .before .args in let p = c .before .before .before .before .before .before .before .before .before .before .before .pre in omega (arith, p .0 .few-colours, p .1 .0 .2)
 
--- src/lib.rt:346:16
 monus-requires : tie.Need-monus-requires Inv-loop μ-loop
 monus-requires c κs = search needs
 
--- src/lib.rt:346:16
 cast-rows : tie.Need-cast-rows Inv-loop μ-loop
 cast-rows c = search needs
 
--- src/lib.rt:347:30
 row-start-requires : tie.Need-row-start-requires Inv-loop μ-loop
 row-start-requires c κs =
     let a = c .before .before .before .before .before .before .before .before .before .before .before .before .before .args in let p = c .before .before .before .before .before .before .before .before .before .before .before .before .before .pre in (omega (arith, p .0 .few-slots, p .1 .0 .0), omega (arith, p .1 .0 .3), p .0 .few-colours, p .0 .few-budgets)
 
--- src/lib.rt:347:62
 cast-is-any-marked : tie.Need-cast-is-any-marked Inv-loop μ-loop
 cast-is-any-marked c = search needs
 
--- src/lib.rt:347:54
 mul-is-any-marked : tie.Need-mul-is-any-marked Inv-loop μ-loop
 mul-is-any-marked c =
     let a = c .before .before .before .before .before .before .before .before .before .before .before .before .before .before .before .args in let p = c .before .before .before .before .before .before .before .before .before .before .before .before .before .before .before .pre in omega (arith, rows-few (c .before .before .before .monus .result) (a .q .budgets) (omega (arith, c .before .before .before .monus .ensures, p .0 .few-colours, p .1 .0 .2)) (p .0 .few-budgets))
 
--- src/lib.rt:347:9
 is-any-marked-requires : tie.Need-is-any-marked-requires Inv-loop μ-loop
 is-any-marked-requires c κs =
     let a = c .before .before .before .before .before .before .before .before .before .before .before .before .before .before .before .args in let p = c .before .before .before .before .before .before .before .before .before .before .before .before .before .before .before .pre in
     place-in (a .q) (a .heights .now) (a .a) (a .first) (a .last) (c .before .row-start .result) (c .before .before .before .monus .result) (length (a .marks .now)) (p .0 .some-budget) (p .1 .0 .0) (p .1 .0 .1) (p .1 .0 .2) (c .before .row-start .ensures) (c .before .before .before .monus .ensures) (p .1 .1 .0 .1)
 
--- src/lib.rt:348:9
 same-length : tie.Need-same-length Inv-loop μ-loop
 same-length c = search needs
 
--- src/lib.rt:348:9
 returns : tie.Need-returns Inv-loop μ-loop
 returns c =
     let a = c .before .before .before .before .before .before .before .before .before .before .before .before .before .before .before .before .before .args in let p = c .before .before .before .before .before .before .before .before .before .before .before .before .before .before .before .before .before .pre in
     (λ z. clash z refl, λ z. place-over (a .q) (a .heights .now) (a .bounds .now) (a .radices .now) (a .ys .now) (a .colours .now) (a .caps .now) (a .a) (a .first) (a .marks .now) (a .last) (c .before .before .before .row-start .result) (c .before .before .before .before .before .monus .result) (c .before .is-any-marked .result) (p .1 .0 .1) (c .before .before .before .row-start .ensures) (c .before .before .before .before .before .monus .ensures) (c .before .is-any-marked .ensures) (not-true (c .before .is-any-marked .result) (c .if1 .taken)) (p .1 .1 .1))
 
--- src/lib.rt:350:9
 first-below-requires : tie.Need-first-below-requires Inv-loop μ-loop
 first-below-requires c κs =
     c .before .before .before .before .before .before .before .before .before .before .before .before .before .before .before .before .before .pre .0 .few-sites
 
--- src/lib.rt:352:5
 loop-holds : tie.Need-loop-holds Inv-loop μ-loop
 loop-holds c =
     let a = c .before .before .before .before .before .before .before .before .before .before .before .before .before .before .before .before .before .before .args in let p = c .before .before .before .before .before .before .before .before .before .before .before .before .before .before .before .before .before .before .pre in (refl, omega arith, place-none (tableBy (a .q) (a .heights .now) (a .bounds .now) (a .radices .now) (a .ys .now) (a .colours .now)) (capsIn (a .caps .now)) (a .q .budgets) (a .marks .now) (a .a) (a .first) (p .1 .1 .1))
 
--- src/lib.rt:353:12
 mark-row-requires : tie.Need-mark-row-requires Inv-loop μ-loop
 mark-row-requires c κs =
     let a = c .before .before .before .before .before .before .before .before .before .before .before .before .before .before .before .before .before .before .before .before .before .args in let p = c .before .before .before .before .before .before .before .before .before .before .before .before .before .before .before .before .before .before .before .before .before .pre in let l = c .before .before .loop in
     (p .0, ((p .1 .0 .0, omega (arith, p .1 .0 .2, c .before .loop-test .taken), p .1 .0 .4, c .before .before .before .first-below .ensures), ((p .1 .1 .0 .0 (l .code) (l .inv .1) (c .before .loop-test .taken), l .inv .0 ∙ p .1 .1 .0 .1, p .1 .1 .0 .2), l .inv .2 .reached)))
 
--- src/lib.rt:370:13
 same-length-2 : tie.Need-same-length-2 Inv-loop μ-loop
 same-length-2 c =
     c .before .before .before .mark-row .kept .1 .1 .1 .1 .1 .1 .1 .1 .1 .1 .1 .0 ∙ c .before .before .before .before .before .before .loop .inv .0
 
--- src/lib.rt:370:13
 returns-2 : tie.Need-returns-2 Inv-loop μ-loop
 returns-2 c =
     (λ z. c .before .before .before .mark-row .ensures .0 (c .if2 .taken), λ z. clash refl z)
 
--- src/lib.rt:372:9
 add-code : tie.Need-add-code Inv-loop μ-loop
 add-code c =
     let a = c .before .before .before .before .before .before .before .before .before .before .before .before .before .before .before .before .before .before .before .before .before .before .before .before .before .args in let p = c .before .before .before .before .before .before .before .before .before .before .before .before .before .before .before .before .before .before .before .before .before .before .before .before .before .pre in omega (arith, p .0 .few-colours, p .1 .0 .2, c .before .before .before .before .before .loop-test .taken)
 
--- src/lib.rt:352:5
 loop-less : tie.Need-loop-less Inv-loop μ-loop
 loop-less c =
     omega (arith, c .before .before .before .before .before .loop-test .taken)
 
--- src/lib.rt:352:5
 loop-again : tie.Need-loop-again Inv-loop μ-loop
 loop-again c =
     let a = c .before .before .before .before .before .before .before .before .before .before .before .before .before .before .before .before .before .before .before .before .before .before .before .before .before .args in let p = c .before .before .before .before .before .before .before .before .before .before .before .before .before .before .before .before .before .before .before .before .before .before .before .before .before .pre in let l = c .before .before .before .before .before .before .loop in (
@@ -109,12 +92,10 @@ loop-again c =
       rw add-one (place-more (tableBy (a .q) (a .heights .now) (a .bounds .now) (a .radices .now) (a .ys .now) (a .colours .now)) (capsIn (a .caps .now)) (a .q .budgets) (a .marks .now) (l .marks) _ (a .a) (a .first) (l .code) (omega (arith, p .1 .0 .2, c .before .before .before .before .before .loop-test .taken)) (l .inv .2) (c .before .before .before .mark-row .ensures .1 (c .if2 .left))),
     )
 
--- src/lib.rt:322:1
 same-length-3 : tie.Need-same-length-3 Inv-loop μ-loop
 same-length-3 c =
     c .before .loop .inv .0
 
--- src/lib.rt:322:1
 returns-3 : tie.Need-returns-3 Inv-loop μ-loop
 returns-3 c =
     let a = c .before .before .before .before .before .before .before .before .before .before .before .before .before .before .before .before .before .before .before .before .args in let p = c .before .before .before .before .before .before .before .before .before .before .before .before .before .before .before .before .before .before .before .before .pre in let l = c .before .loop in (λ z. clash z refl, λ z. place-last (tableBy (a .q) (a .heights .now) (a .bounds .now) (a .radices .now) (a .ys .now) (a .colours .now)) (capsIn (a .caps .now)) (a .q .budgets) (a .marks .now) (l .marks) (a .a) (a .first) (a .last) (l .code) (c .loop-test .left) (l .inv .2))

@@ -8,46 +8,37 @@ use borrow.Author.Needs.{needs}
 use Rattle.marking.proofs.mark_row.Statement.{statement}
 use Rattle.marking.proofs.mark_row.Tie as tie
 
--- src/lib.rt:292:9
 row-start-requires : tie.Need-row-start-requires
 row-start-requires c κs =
     let p = c .before .before .before .before .before .before .before .before .before .before .before .pre in (omega (arith, p .0 .few-slots, p .1 .0 .0), omega (arith, p .0 .few-colours, p .1 .0 .1), p .0 .few-colours, p .0 .few-budgets)
 
--- src/lib.rt:293:19
 cast-budgets : tie.Need-cast-budgets
 cast-budgets c = search needs
 
--- src/lib.rt:294:9
 is-any-marked-requires : tie.Need-is-any-marked-requires
 is-any-marked-requires c κs =
     let a = c .before .before .before .before .before .before .before .before .before .before .before .before .before .before .args in let p = c .before .before .before .before .before .before .before .before .before .before .before .before .before .before .pre in
     row-in (a .q) (a .heights .now) (a .a) (a .code) (c .before .before .row-start .result) (length (a .marks .now)) (p .0 .some-budget) (p .1 .0 .0) (p .1 .0 .1) (c .before .before .row-start .ensures) (omega (arith, p .1 .1 .0 .1))
 
--- src/lib.rt:295:9
 same-length : tie.Need-same-length
 same-length c = search needs
 
--- src/lib.rt:295:9
 returns : tie.Need-returns
 returns c =
     let a = c .before .before .before .before .before .before .before .before .before .before .before .before .before .before .before .before .args in let p = c .before .before .before .before .before .before .before .before .before .before .before .before .before .before .before .before .pre in
     (λ z. clash z refl, λ z. row-none (a .q) (a .heights .now) (a .bounds .now) (a .radices .now) (a .ys .now) (a .colours .now) (a .caps .now) (a .a) (a .code) (a .marks .now) (c .before .before .before .before .row-start .result) (c .before .is-any-marked .result) (c .before .before .before .before .row-start .ensures) (c .before .is-any-marked .ensures) (not-true (c .before .is-any-marked .result) (c .if1 .taken)) (p .1 .1 .1))
 
--- src/lib.rt:297:13
 cast-m : tie.Need-cast-m
 cast-m c = search needs
 
--- src/lib.rt:298:15
 cast-all : tie.Need-cast-all
 cast-all c = search needs
 
--- src/lib.rt:299:9
 strip-between-requires : tie.Need-strip-between-requires
 strip-between-requires c κs =
     let p = c .before .before .before .before .before .before .before .before .before .before .before .before .before .before .before .before .pre in
     ((p .0 .colours-long, p .0 .caps-long, p .1 .0 .0, omega (arith, p .0 .few-slots)), (p .1 .0 .3, record { few = omega arith; some = λ i l u. absurd (omega arith); lower = λ i l u. absurd (omega arith) }))
 
--- src/lib.rt:300:8
 is-any-ended-requires : tie.Need-is-any-ended-requires
 is-any-ended-requires c κs =
     let a = c .before .before .before .before .before .before .before .before .before .before .before .before .before .before .before .before .before .before .args in let p = c .before .before .before .before .before .before .before .before .before .before .before .before .before .before .before .before .before .before .pre in let own = c .before .before .before .before .before .before .row-start .result in let o = c .before .before .before .before .before .before .row-start .ensures in (
@@ -55,11 +46,9 @@ is-any-ended-requires c κs =
       row-in (a .q) (a .heights .now) (a .a) (a .code) own (length (a .work .now)) (p .0 .some-budget) (p .1 .0 .0) (p .1 .0 .1) o (p .1 .1 .0 .2),
     )
 
--- src/lib.rt:301:9
 same-length-2 : tie.Need-same-length-2
 same-length-2 c = search needs
 
--- src/lib.rt:301:9
 returns-2 : tie.Need-returns-2
 returns-2 c =
     let a = c .before .before .before .before .before .before .before .before .before .before .before .before .before .before .before .before .before .before .before .before .args in let p = c .before .before .before .before .before .before .before .before .before .before .before .before .before .before .before .before .before .before .before .before .pre in (
@@ -67,16 +56,13 @@ returns-2 c =
       λ z. clash refl z,
     )
 
--- src/lib.rt:303:5
 mark-below-requires : tie.Need-mark-below-requires
 mark-below-requires c κs =
     let a = c .before .before .before .before .before .before .before .before .before .before .before .before .before .before .before .before .before .before .before .before .before .args in let p = c .before .before .before .before .before .before .before .before .before .before .before .before .before .before .before .before .before .before .before .before .before .pre in (p .0, (p .1 .0, p .1 .1 .0))
 
--- src/lib.rt:268:1
 same-length-3 : tie.Need-same-length-3
 same-length-3 c = search needs
 
--- src/lib.rt:268:1
 returns-3 : tie.Need-returns-3
 returns-3 c =
     let a = c .before .before .before .before .before .before .before .before .before .before .before .before .before .before .before .before .before .before .before .before .before .before .before .before .args in let p = c .before .before .before .before .before .before .before .before .before .before .before .before .before .before .before .before .before .before .before .before .before .before .before .before .pre in (

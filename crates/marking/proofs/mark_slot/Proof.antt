@@ -20,15 +20,12 @@ abbrev μ-loop : tie.MeasureT-loop
 μ-loop q heights bounds radices draws ys colours caps work marks₀ a code j start end other last d₀ marks d =
     q .colours - d
 
--- src/lib.rt:189:9
 end-colour-requires : tie.Need-end-colour-requires Inv-loop μ-loop
 end-colour-requires c κs = search needs
 
--- src/lib.rt:190:9
 first-colour-requires : tie.Need-first-colour-requires Inv-loop μ-loop
 first-colour-requires c κs = search needs
 
--- src/lib.rt:191:5
 loop-holds : tie.Need-loop-holds Inv-loop μ-loop
 loop-holds c =
     let a = c .before .before .before .before .before .before .before .before .before .before .before .args in let p = c .before .before .before .before .before .before .before .before .before .before .before .pre in
@@ -38,39 +35,33 @@ loop-holds c =
       λ old r. colours-to (a .q) (a .heights .now) (a .bounds .now) (a .radices .now) (a .draws .now) (a .ys .now) (a .colours .now) (a .caps .now) (p .0) (a .a) (a .code) old (a .marks .now) (a .j) (c .first-colour .result) (omega arith) (λ d l. p .1 .0 .4 d (λ z. omega arith) (λ z. omega arith)) r,
     )
 
--- src/lib.rt:192:9
 mark-colour-requires : tie.Need-mark-colour-requires Inv-loop μ-loop
 mark-colour-requires c κs =
     let a = c .before .before .before .before .before .before .before .before .before .before .before .before .before .before .args in let p = c .before .before .before .before .before .before .before .before .before .before .before .before .before .before .pre in let l = c .before .before .loop in
     let s = colours-last (a .other) (a .q .colours) (c .before .before .before .before .end-colour .result) (c .before .before .before .before .end-colour .ensures) in
     (p .0, ((p .1 .0 .0, p .1 .0 .1, omega (arith, c .before .loop-test .taken, s .0), p .1 .0 .2, p .1 .0 .3), (p .1 .1 .0, l .inv .0 ∙ p .1 .1 .1, p .1 .1 .2)))
 
--- src/lib.rt:210:9
 add-d : tie.Need-add-d Inv-loop μ-loop
 add-d c =
     let a = c .before .before .before .before .before .before .before .before .before .before .before .before .before .before .before .before .before .args in let p = c .before .before .before .before .before .before .before .before .before .before .before .before .before .before .before .before .before .pre in
     let s = colours-last (a .other) (a .q .colours) (c .before .before .before .before .before .before .before .end-colour .result) (c .before .before .before .before .before .before .before .end-colour .ensures) in
     omega (arith, p .0 .few-colours, c .before .before .before .before .loop-test .taken, s .0)
 
--- src/lib.rt:191:5
 loop-less : tie.Need-loop-less Inv-loop μ-loop
 loop-less c =
     let a = c .before .before .before .before .before .before .before .before .before .before .before .before .before .before .before .before .before .args in let p = c .before .before .before .before .before .before .before .before .before .before .before .before .before .before .before .before .before .pre in
     let s = colours-last (a .other) (a .q .colours) (c .before .before .before .before .before .before .before .end-colour .result) (c .before .before .before .before .before .before .before .end-colour .ensures) in
     omega (arith, c .before .before .before .before .loop-test .taken, s .0)
 
--- src/lib.rt:191:5
 loop-again : tie.Need-loop-again Inv-loop μ-loop
 loop-again c =
     let a = c .before .before .before .before .before .before .before .before .before .before .before .before .before .before .before .before .before .args in let p = c .before .before .before .before .before .before .before .before .before .before .before .before .before .before .before .before .before .pre in let l = c .before .before .before .before .before .loop in
     let s = colours-last (a .other) (a .q .colours) (c .before .before .before .before .before .before .before .end-colour .result) (c .before .before .before .before .before .before .before .end-colour .ensures) in
     (c .before .before .mark-colour .kept .1 .1 .1 .1 .1 .1 .1 .1 .1 .0 ∙ l .inv .0, omega (arith, c .before .before .before .before .loop-test .taken, s .0), λ old r. rw add-one (c .before .before .mark-colour .ensures old (l .inv .2 old r)))
 
--- src/lib.rt:166:1
 same-length : tie.Need-same-length Inv-loop μ-loop
 same-length c = search needs
 
--- src/lib.rt:166:1
 returns : tie.Need-returns Inv-loop μ-loop
 returns c =
     let a = c .before .before .before .before .before .before .before .before .before .before .before .before .before .args in let p = c .before .before .before .before .before .before .before .before .before .before .before .before .before .pre in let l = c .before .loop in

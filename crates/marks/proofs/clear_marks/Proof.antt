@@ -17,41 +17,34 @@ Inv-loop work₀ rows n at₀ r₀ work at r = (r ≤ rows) × (at ≡ r * n) ×
 abbrev μ-loop : tie.MeasureT-loop
 μ-loop work₀ rows n at₀ r₀ work at r = rows - r
 
--- src/lib.rt:261:5
 loop-holds : tie.Need-loop-holds Inv-loop μ-loop
 loop-holds c =
     (omega arith, omega arith, refl, λ i h. refl, λ j h. absurd (omega arith))
 
--- src/lib.rt:262:9
 mul-work : tie.Need-mul-work Inv-loop μ-loop
 mul-work c =
     let l = c .before .loop in
     let p = c .before .before .pre in
     omega (arith, l .inv .1, l .inv .2, p .0, p .1, row-room (l .r) (c .before .before .args .rows) (c .before .before .args .n) (c .loop-test .taken))
 
--- src/lib.rt:262:9
 slice-write-work : tie.Need-slice-write-work Inv-loop μ-loop
 slice-write-work c =
     let l = c .before .loop in
     let p = c .before .before .pre in
     omega (arith, l .inv .1, l .inv .2, p .0, p .1, row-room (l .r) (c .before .before .args .rows) (c .before .before .args .n) (c .loop-test .taken))
 
--- src/lib.rt:263:9
 add-at : tie.Need-add-at Inv-loop μ-loop
 add-at c =
     let l = c .before .loop in
     let p = c .before .before .pre in
     omega (arith, l .inv .1, p .0, row-room (l .r) (c .before .before .args .rows) (c .before .before .args .n) (c .loop-test .taken))
 
--- src/lib.rt:264:9
 add-r : tie.Need-add-r Inv-loop μ-loop
 add-r c = search needs
 
--- src/lib.rt:261:5
 loop-less : tie.Need-loop-less Inv-loop μ-loop
 loop-less c = search needs
 
--- src/lib.rt:261:5
 loop-again : tie.Need-loop-again Inv-loop μ-loop
 loop-again c =
     let l = c .before .loop in
@@ -66,12 +59,10 @@ loop-again c =
           (λ u. getD-set-other (l .work) (l .at) (j * a .n) 0 0 (λ (e : j * a .n ≡ l .at). omega (arith, l .inv .1, row-room j (l .r) (a .n) u, c .before .before .pre .1)) ∙ l .inv .4 j u),
     )
 
--- src/lib.rt:255:1
 same-length : tie.Need-same-length Inv-loop μ-loop
 same-length c =
     c .before .loop .inv .2
 
--- src/lib.rt:255:1
 returns : tie.Need-returns Inv-loop μ-loop
 returns c =
     let l = c .before .loop in (λ r h. l .inv .4 r (omega (arith, c .loop-test .left)), l .inv .3)

@@ -20,44 +20,36 @@ Inv-loop work₀ q heights bounds s base low n ends p₀ at₀ work p at = (p .a
 abbrev μ-loop : tie.MeasureT-loop
 μ-loop work₀ q heights bounds s base low n ends p₀ at₀ work p at = endPlace (q .colours) (length heights + 2) 0 - endPlace (q .colours) (p .b) (p .cb)
 
--- src/lib.rt:194:13
 cast-n : tie.Need-cast-n Inv-loop μ-loop
 cast-n c = search needs
 
--- src/lib.rt:195:17
 cast-ends : tie.Need-cast-ends Inv-loop μ-loop
 cast-ends c = search needs
 
--- src/lib.rt:195:16
 add-ends : tie.Need-add-ends Inv-loop μ-loop
 add-ends c = search needs
 
--- src/lib.rt:199:12
 add-t14 : tie.Need-add-t14 Inv-loop μ-loop
 add-t14 c = search needs
 
--- src/lib.rt:202:25
 row-place-requires : tie.Need-row-place-requires Inv-loop μ-loop
 row-place-requires c κs =
     let p = c .before .before .before .before .before .pre in
     let f = p .0 .framed in
     ((f .slotsFew, f .coloursFew, f .budgetsFew), record { aLow = omega (arith, p .1 .0); caLow = omega (arith, p .1 .1); bLow = omega (arith, p .1 .0); cbLow = omega arith; dLow = refl })
 
--- src/lib.rt:202:18
 add-at : tie.Need-add-at Inv-loop μ-loop
 add-at c =
     let p = c .before .before .before .before .before .before .pre in
     let a = c .before .before .before .before .before .before .args in
     omega (arith, c .row-place .ensures, p .0 .apart, p .0 .within, row-fits (length (a .heights .now)) (a .q .colours) (a .q .budgets) _ (start-lies (length (a .heights .now)) (a .q .colours) (a .above .slot) (a .above .colour) (p .1 .0) (p .1 .1)))
 
--- src/lib.rt:203:5
 loop-holds : tie.Need-loop-holds Inv-loop μ-loop
 loop-holds c =
     let p = c .before .before .before .before .before .before .pre in
     let a = c .before .before .before .before .before .before .args in
     (refl, refl, omega arith, omega (arith, p .1 .0), ap (λ (z : ℕ). a .base + z) (c .row-place .ensures), refl, followed-none (a .q) (a .heights .now) (a .bounds .now) (a .base) (a .low) (pointOf (a .s)) (a .work .now) (a .above .slot) (a .above .colour) _ (p .1 .1) refl)
 
--- src/lib.rt:204:9
 follow-requires : tie.Need-follow-requires Inv-loop μ-loop
 follow-requires c κs =
     let p = c .before .before .before .before .before .before .before .before .before .before .pre in
@@ -65,7 +57,6 @@ follow-requires c κs =
     let r = lies-at (length (c .before .before .before .before .before .before .before .before .before .before .args .heights .now)) (c .before .before .before .before .before .before .before .before .before .before .args .q .colours) (stripOf (l .p)) (omega (arith, l .inv .0, p .1 .0)) (omega (arith, l .inv .1, p .1 .1)) (omega (arith, c .before .if1 .taken)) (l .inv .2) refl in
     ((p .0 .framed, p .0 .stands), ((rw (l .inv .5) (room-of (p .0)), r), omega (arith, at-low (p .0) _ r _ (l .inv .4), l .inv .5, p .0 .within)))
 
--- src/lib.rt:205:9
 add-at-2 : tie.Need-add-at-2 Inv-loop μ-loop
 add-at-2 c =
     let p = c .before .before .before .before .before .before .before .before .before .before .before .before .before .pre in
@@ -73,21 +64,18 @@ add-at-2 c =
     let r = lies-at (length (c .before .before .before .before .before .before .before .before .before .before .before .before .before .args .heights .now)) (c .before .before .before .before .before .before .before .before .before .before .before .before .before .args .q .colours) (stripOf (l .p)) (omega (arith, l .inv .0, p .1 .0)) (omega (arith, l .inv .1, p .1 .1)) (omega (arith, c .before .before .before .before .if1 .taken)) (l .inv .2) refl in
     omega (arith, at-low (p .0) _ r _ (l .inv .4), p .0 .within)
 
--- src/lib.rt:206:9
 next-below-requires : tie.Need-next-below-requires Inv-loop μ-loop
 next-below-requires c κs =
     let p = c .before .before .before .before .before .before .before .before .before .before .before .before .before .pre in
     let l = c .before .before .before .before .before .before .loop in
     (p .0 .framed .coloursFew, omega (arith, l .inv .3, p .0 .framed .slotsFew), l .inv .2)
 
--- src/lib.rt:203:5
 loop-less : tie.Need-loop-less Inv-loop μ-loop
 loop-less c =
     let p = c .before .before .before .before .before .before .before .before .before .before .before .before .before .before .pre in
     let l = c .before .before .before .before .before .before .before .loop in
     omega (arith, c .next-below .ensures .3, later-end (c .before .before .before .before .before .before .before .before .before .before .before .before .before .before .args .q .colours) (l .p .b) (l .p .cb) (length (c .before .before .before .before .before .before .before .before .before .before .before .before .before .before .args .heights .now) + 2) 0 (l .inv .2) (omega (arith, c .before .before .before .before .before .if1 .taken)))
 
--- src/lib.rt:203:5
 loop-again : tie.Need-loop-again Inv-loop μ-loop
 loop-again c =
     let p = c .before .before .before .before .before .before .before .before .before .before .before .before .before .before .pre in
@@ -105,12 +93,10 @@ loop-again c =
       rw (e .0, e .1, e .3) (followed-more (a .q) (a .heights .now) (a .bounds .now) (a .base) (a .low) (pointOf (a .s)) _ (l .work) (f .last .0) (stripOf (l .p)) _ (l .at) (p .0 .apart) r refl (l .inv .4) (p .0 .framed .budgetsSome) (l .inv .6) (f .ensures .0) (f .ensures .1)),
     )
 
--- src/lib.rt:179:1
 same-length : tie.Need-same-length Inv-loop μ-loop
 same-length c =
     c .before .before .loop .inv .5
 
--- src/lib.rt:179:1
 returns : tie.Need-returns Inv-loop μ-loop
 returns c =
     let l = c .before .before .loop in

@@ -10,23 +10,18 @@ use Rattle.marks.proofs.follow_end.Lts as lts
 use Rattle.marks.proofs.follow_below.Reads as follow-below-reads
 use Rattle.rows.proofs.is_upper_end.Reads as is-upper-end-reads
 
--- src/lib.rt:226:8
 is-upper-end-requires : tie.Need-is-upper-end-requires
 is-upper-end-requires c κs = search needs
 
--- src/lib.rt:227:9
 follow-below-requires : tie.Need-follow-below-requires
 follow-below-requires c κs = search needs
 
--- src/lib.rt:211:1
 same-length : tie.Need-same-length
 same-length c = search needs
 
--- src/lib.rt:211:1
 returns : tie.Need-returns
 returns c = search needs
 
--- src/lib.rt:211:1
 returns-2 : tie.Need-returns-2
 returns-2 c =
     let a = c .before .before .before .before .before .args in

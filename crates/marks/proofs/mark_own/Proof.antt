@@ -10,40 +10,33 @@ use Rattle.marks.proofs.mark_own.Reads as reads
 use Rattle.marks.proofs.mark_own.Lts as lts
 use Rattle.rows.proofs.row_place.Reads as row-place-reads
 
--- src/lib.rt:57:9
 returns : tie.Need-returns
 returns c =
     (marking-none _ _ _, λ e. clash e (not-f _ (c .if1 .taken)))
 
--- src/lib.rt:59:20
 row-place-requires : tie.Need-row-place-requires
 row-place-requires c κs =
     let r = c .before .before .pre .0 in
     ((r .slotsFew, r .coloursFew, r .budgetsFew), c .before .before .pre .1)
 
--- src/lib.rt:59:14
 add-at : tie.Need-add-at
 add-at c =
     let p = c .before .before .before .pre in
     omega (arith, c .row-place .ensures, own-room (p .0) _ (p .1))
 
--- src/lib.rt:60:5
 mul-work : tie.Need-mul-work
 mul-work c =
     let p = c .before .before .before .pre in
     omega (arith, c .row-place .ensures, own-room (p .0) _ (p .1))
 
--- src/lib.rt:60:5
 slice-write-work : tie.Need-slice-write-work
 slice-write-work c =
     let p = c .before .before .before .pre in
     omega (arith, c .row-place .ensures, own-room (p .0) _ (p .1))
 
--- src/lib.rt:51:1
 same-length : tie.Need-same-length
 same-length c = search needs
 
--- src/lib.rt:51:1
 returns-2 : tie.Need-returns-2
 returns-2 c =
     let p = c .before .before .before .pre in

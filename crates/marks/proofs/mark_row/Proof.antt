@@ -21,61 +21,49 @@ use Rattle.strips.proofs.open_window.Reads as open-window-reads
 use Rattle.strips.proofs.site_opens.Reads as site-opens-reads
 use Rattle.words.proofs.less.Reads as less-reads
 
--- src/lib.rt:124:9
 is-inside-requires : tie.Need-is-inside-requires
 is-inside-requires c κs = search needs
 
--- src/lib.rt:125:9
 mark-own-requires : tie.Need-mark-own-requires
 mark-own-requires c κs =
     c .before .before .before .before .before .before .pre .1
 
--- src/lib.rt:126:9
 same-length : tie.Need-same-length
 same-length c = search needs
 
--- src/lib.rt:126:9
 returns : tie.Need-returns
 returns c =
     let a = c .before .before .before .before .before .before .before .before .before .args in
     let o = c .before .before .mark-own .ensures in
     (o .0, marked-out (a .q) (a .heights .now) (a .bounds .now) (stripOf (a .p)) (pointOf (a .s)) (c .before .before .mark-own .last .0) (a .low) (sym (c .before .before .before .before .before .is-inside .ensures) ∙ not-f _ (c .before .before .before .before .if1 .taken)) (o .1 refl))
 
--- src/lib.rt:128:22
 join-least-requires : tie.Need-join-least-requires
 join-least-requires c κs =
     let p = c .before .before .before .before .before .pre in (p .0 .0, (p .1 .1, p .0 .1))
 
--- src/lib.rt:128:9
 less-requires : tie.Need-less-requires
 less-requires c κs = search needs
 
--- src/lib.rt:129:5
 mark-own-requires-2 : tie.Need-mark-own-requires-2
 mark-own-requires-2 c κs =
     c .before .before .before .before .before .before .before .before .pre .1
 
--- src/lib.rt:130:8
 site-opens-requires : tie.Need-site-opens-requires
 site-opens-requires c κs =
     let p = c .before .before .before .before .before .before .before .before .before .before .before .pre in omega (arith, p .0 .1 .colourLow, p .0 .0 .bounded)
 
--- src/lib.rt:131:44
 open-window-requires : tie.Need-open-window-requires
 open-window-requires c κs =
     let p = c .before .before .before .before .before .before .before .before .before .before .before .before .before .before .pre in (p .0 .0 .rising, (p .1 .1 .bLow, omega (arith, p .0 .1 .colourLow, p .0 .0 .coloursFew)))
 
--- src/lib.rt:131:9
 mark-window-requires : tie.Need-mark-window-requires
 mark-window-requires c κs =
     let p = c .before .before .before .before .before .before .before .before .before .before .before .before .before .before .before .pre in
     ((rw (c .before .before .before .before .before .before .mark-own2 .kept .0) (p .1 .0), p .1 .1), (p .0 .1 .colourLow, c .open-window .ensures .high))
 
--- src/lib.rt:109:1
 same-length-2 : tie.Need-same-length-2
 same-length-2 c = search needs
 
--- src/lib.rt:109:1
 returns-2 : tie.Need-returns-2
 returns-2 c =
     let a = c .before .before .before .before .before .before .before .before .before .before .before .before .before .before .before .before .before .before .args in
@@ -89,11 +77,9 @@ returns-2 c =
           (λ s. (c .before .before .before .open-window .ensures, w .1)),
     )
 
--- src/lib.rt:109:1
 same-length-3 : tie.Need-same-length-3
 same-length-3 c = search needs
 
--- src/lib.rt:109:1
 returns-3 : tie.Need-returns-3
 returns-3 c =
     let a = c .before .before .before .before .before .before .before .before .before .before .before .before .before .args in

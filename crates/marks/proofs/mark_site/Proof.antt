@@ -12,47 +12,37 @@ use Rattle.marks.proofs.mark_site.Reads as reads
 use Rattle.marks.proofs.mark_site.Lts as lts
 use Rattle.marks.proofs.follow_level.Reads as follow-level-reads
 
--- src/lib.rt:286:12
 mul-t11 : tie.Need-mul-t11
 mul-t11 c = search needs
 
--- src/lib.rt:286:12
 shared-slice-read-t13 : tie.Need-shared-slice-read-t13
 shared-slice-read-t13 c = search needs
 
--- src/lib.rt:287:12
 mul-t14 : tie.Need-mul-t14
 mul-t14 c = search needs
 
--- src/lib.rt:287:12
 shared-slice-read-t16 : tie.Need-shared-slice-read-t16
 shared-slice-read-t16 c = search needs
 
--- src/lib.rt:288:12
 mul-t17 : tie.Need-mul-t17
 mul-t17 c = search needs
 
--- src/lib.rt:288:12
 shared-slice-read-t19 : tie.Need-shared-slice-read-t19
 shared-slice-read-t19 c = search needs
 
--- src/lib.rt:290:47
 mul-follow-level : tie.Need-mul-follow-level
 mul-follow-level c =
     let p = c .before .before .before .before .before .before .before .before .before .before .pre in
     omega (arith, level-room (c .before .before .before .before .before .before .before .before .before .before .args .j) (length (c .before .before .before .before .before .before .before .before .before .before .args .xs .now)) (c .before .before .before .before .before .before .before .before .before .before .args .size) _ _ refl (p .1 .2) (p .1 .1))
 
--- src/lib.rt:290:58
 add-follow-level : tie.Need-add-follow-level
 add-follow-level c = search needs
 
--- src/lib.rt:290:57
 mul-follow-level-2 : tie.Need-mul-follow-level-2
 mul-follow-level-2 c =
     let p = c .before .before .before .before .before .before .before .before .before .before .pre in
     omega (arith, level-room (c .before .before .before .before .before .before .before .before .before .before .args .j) (length (c .before .before .before .before .before .before .before .before .before .before .args .xs .now)) (c .before .before .before .before .before .before .before .before .before .before .args .size) _ _ refl (p .1 .2) (p .1 .1))
 
--- src/lib.rt:290:5
 follow-level-requires : tie.Need-follow-level-requires
 follow-level-requires c κs =
     let p = c .before .before .before .before .before .before .before .before .before .before .pre in
@@ -65,11 +55,9 @@ follow-level-requires c κs =
       within = omega (arith, p .1 .0, r .1);
     }
 
--- src/lib.rt:269:1
 same-length : tie.Need-same-length
 same-length c = search needs
 
--- src/lib.rt:269:1
 returns : tie.Need-returns
 returns c =
     let p = c .before .before .before .before .before .before .before .before .before .before .before .before .before .pre in

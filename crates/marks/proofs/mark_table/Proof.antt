@@ -25,44 +25,36 @@ Inv-loop work₀ q heights bounds xs ys cs rows n size j₀ work j = (size ≡ l
 abbrev μ-loop : tie.MeasureT-loop
 μ-loop work₀ q heights bounds xs ys cs rows n size j₀ work j = length xs - j
 
--- src/lib.rt:309:13
 cast-n : tie.Need-cast-n Inv-loop μ-loop
 cast-n c = search needs
 
--- src/lib.rt:310:16
 mul-size : tie.Need-mul-size Inv-loop μ-loop
 mul-size c =
     let p = c .before .before .before .before .before .before .before .pre in
     let a = c .before .before .before .before .before .before .before .args in
     omega (arith, level-small _ _ _ (p .0 .0), ap (λ (z : ℕ). z * a .q .budgets) (p .1 .0))
 
--- src/lib.rt:311:24
 add-clear-marks : tie.Need-add-clear-marks Inv-loop μ-loop
 add-clear-marks c = search needs
 
--- src/lib.rt:311:23
 mul-clear-marks : tie.Need-mul-clear-marks Inv-loop μ-loop
 mul-clear-marks c =
     let p = c .before .before .before .before .before .before .before .before .pre in
     let a = c .before .before .before .before .before .before .before .before .args in
     omega (arith, mul-le-mul {n₂ = 33} {m₂ = 202500} (few _ (p .0 .1 .sitesFew)) (few-rows _ _ _ (p .1 .0) (rows-few _ _ (p .0 .0 .slotsFew) (p .0 .0 .coloursFew))))
 
--- src/lib.rt:311:5
 clear-marks-requires : tie.Need-clear-marks-requires Inv-loop μ-loop
 clear-marks-requires c κs =
     let p = c .before .before .before .before .before .before .before .before .pre in
     let a = c .before .before .before .before .before .before .before .before .args in
     (count-words (length (a .xs .now) + 1) (a .rows) (a .q .budgets) _ _ (ap (λ (z : ℕ). z * a .q .budgets) (p .1 .0)) (p .1 .1), p .0 .0 .budgetsSome)
 
--- src/lib.rt:315:13
 cast-t19 : tie.Need-cast-t19 Inv-loop μ-loop
 cast-t19 c = search needs
 
--- src/lib.rt:315:12
 add-t20 : tie.Need-add-t20 Inv-loop μ-loop
 add-t20 c = search needs
 
--- src/lib.rt:318:5
 mark-own-requires : tie.Need-mark-own-requires Inv-loop μ-loop
 mark-own-requires c κs =
     let p = c .before .before .before .before .before .before .before .before .before .before .before .before .pre in
@@ -77,7 +69,6 @@ mark-own-requires c κs =
       record { aLow = omega arith; caLow = omega arith; bLow = omega arith; cbLow = omega arith; dLow = refl },
     )
 
--- src/lib.rt:320:5
 loop-holds : tie.Need-loop-holds Inv-loop μ-loop
 loop-holds c =
     let a = c .before .before .before .before .before .before .before .before .before .before .before .before .before .before .before .args in
@@ -85,24 +76,20 @@ loop-holds c =
     let e = ap (λ (z : ℕ). z * a .q .budgets) (p .1 .0) in
     (e, omega arith, refl, λ f g. reach-first (a .q) (a .heights .now) (a .bounds .now) f (a .xs .now) (a .ys .now) (a .cs .now) g (c .before .before .mark-own .last .0) (a .rows * a .q .budgets) (whole-marked (a .q) (a .heights .now) (a .bounds .now) (c .before .before .mark-own .last .0) (c .before .before .mark-own .ensures .1 refl)), λ i h. refl)
 
--- src/lib.rt:321:9
 mark-site-requires : tie.Need-mark-site-requires Inv-loop μ-loop
 mark-site-requires c κs =
     let p = c .before .before .before .before .before .before .before .before .before .before .before .before .before .before .before .before .before .before .pre in
     let l = c .before .before .loop in
     (p .0, (l .inv .0, enough _ _ _ _ _ (l .inv .0) (p .1 .1) (l .inv .2 ∙ c .before .before .before .before .before .mark-own .kept .0 ∙ c .before .before .before .before .before .before .before .before .before .clear-marks .kept .0), c .before .loop-test .taken))
 
--- src/lib.rt:322:9
 add-j : tie.Need-add-j Inv-loop μ-loop
 add-j c =
     omega (arith, c .before .before .before .before .loop-test .taken, c .before .before .before .before .before .before .before .before .before .before .before .before .before .before .before .before .before .before .before .before .before .pre .0 .1 .sitesFew)
 
--- src/lib.rt:320:5
 loop-less : tie.Need-loop-less Inv-loop μ-loop
 loop-less c =
     omega (arith, c .before .before .before .before .loop-test .taken)
 
--- src/lib.rt:320:5
 loop-again : tie.Need-loop-again Inv-loop μ-loop
 loop-again c =
     let a = c .before .before .before .before .before .before .before .before .before .before .before .before .before .before .before .before .before .before .before .before .before .args in
@@ -116,12 +103,10 @@ loop-again c =
       λ i h. m .ensures .0 .others .after i (past-level (l .j) (length (a .xs .now)) _ i (c .before .before .before .before .loop-test .taken) h) ∙ l .inv .4 i h,
     )
 
--- src/lib.rt:294:1
 same-length : tie.Need-same-length Inv-loop μ-loop
 same-length c =
     c .before .loop .inv .2 ∙ c .before .before .before .before .mark-own .kept .0 ∙ c .before .before .before .before .before .before .before .before .clear-marks .kept .0
 
--- src/lib.rt:294:1
 returns : tie.Need-returns Inv-loop μ-loop
 returns c =
     let a = c .before .before .before .before .before .before .before .before .before .before .before .before .before .before .before .before .before .args in

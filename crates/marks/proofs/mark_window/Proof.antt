@@ -19,12 +19,10 @@ Inv-loop work₀ q m p s low window k₀ work k = (window .from ≤ k) × (k ≤
 abbrev μ-loop : tie.MeasureT-loop
 μ-loop work₀ q m p s low window k₀ work k = window .to - k
 
--- src/lib.rt:102:5
 loop-holds : tie.Need-loop-holds Inv-loop μ-loop
 loop-holds c =
     (omega arith, inl (omega arith), marking-none _ _ _, refl, λ i a b. absurd (omega arith))
 
--- src/lib.rt:103:9
 mark-parts-requires : tie.Need-mark-parts-requires Inv-loop μ-loop
 mark-parts-requires c κs =
     let p = c .before .before .before .before .before .pre in
@@ -32,17 +30,14 @@ mark-parts-requires c κs =
     let t = c .before .if1 .taken in
     ((rw (l .inv .3) (p .0 .0), p .0 .1), (p .1 .0, omega (arith, t, p .1 .1 (omega (arith, t, l .inv .0)))))
 
--- src/lib.rt:104:9
 add-k : tie.Need-add-k Inv-loop μ-loop
 add-k c =
     omega (arith, c .before .before .before .before .if1 .taken)
 
--- src/lib.rt:102:5
 loop-less : tie.Need-loop-less Inv-loop μ-loop
 loop-less c =
     omega (arith, c .before .before .before .before .if1 .taken)
 
--- src/lib.rt:102:5
 loop-again : tie.Need-loop-again Inv-loop μ-loop
 loop-again c =
     let l = c .before .before .before .before .before .before .loop in
@@ -55,12 +50,10 @@ loop-again c =
       λ i a b. by-equal i (l .k) (λ e. rw e (f .ensures .1)) (λ n. parts-kept _ _ _ _ _ _ _ _ (f .ensures .0) (l .inv .4 i a (omega arith))),
     )
 
--- src/lib.rt:87:1
 same-length : tie.Need-same-length Inv-loop μ-loop
 same-length c =
     c .before .before .loop .inv .3
 
--- src/lib.rt:87:1
 returns : tie.Need-returns Inv-loop μ-loop
 returns c =
     let l = c .before .before .loop in

@@ -34,47 +34,37 @@ fits c =
     let a = c .before .before .before .args in
     omega (arith, more c, mask-word (a .radices .now) (a .v) (c .before .loop .w - 1) (c .before .before .before .pre .1))
 
--- src/lib.rt:124:17
 add-w : tie.Need-add-w Inv-loop μ-loop
 add-w c = search needs
 
--- src/lib.rt:125:5
 loop-holds : tie.Need-loop-holds Inv-loop μ-loop
 loop-holds c =
     (omega arith, mask-none _ _)
 
--- src/lib.rt:126:9
 sub-w : tie.Need-sub-w Inv-loop μ-loop
 sub-w c = search needs
 
--- src/lib.rt:127:16
 mul-mask : tie.Need-mul-mask Inv-loop μ-loop
 mul-mask c =
     omega (arith, fits c)
 
--- src/lib.rt:127:34
 is-below-requires : tie.Need-is-below-requires Inv-loop μ-loop
 is-below-requires c κs = search needs
 
--- src/lib.rt:127:27
 bit-of-requires : tie.Need-bit-of-requires Inv-loop μ-loop
 bit-of-requires c κs = search needs
 
--- src/lib.rt:127:16
 add-mask : tie.Need-add-mask Inv-loop μ-loop
 add-mask c =
     omega (arith, fits (c .before .before), c .bit-of .ensures, bit-small (c .before .is-below .result))
 
--- src/lib.rt:125:5
 loop-less : tie.Need-loop-less Inv-loop μ-loop
 loop-less c = search needs
 
--- src/lib.rt:125:5
 loop-again : tie.Need-loop-again Inv-loop μ-loop
 loop-again c =
     (omega arith, rw (c .bit-of .ensures, c .before .is-below .ensures) (more (c .before .before)))
 
--- src/lib.rt:118:1
 returns : tie.Need-returns Inv-loop μ-loop
 returns c =
     let l = c .before .loop in

@@ -3,16 +3,13 @@ use borrow.Author.Needs.{needs}
 use Rattle.onemark.proofs.mark_after.Statement.{statement}
 use Rattle.onemark.proofs.mark_after.Tie as tie
 
--- src/lib.rt:38:8
 both-requires : tie.Need-both-requires
 both-requires c κs = search needs
 
--- src/lib.rt:39:9
 returns : tie.Need-returns
 returns c =
     rw (sym (c .before .both .ensures), c .if1 .taken)
 
--- src/lib.rt:35:1
 returns-2 : tie.Need-returns-2
 returns-2 c =
     rw (sym (c .before .both .ensures), c .if1 .left)

@@ -1,13 +1,9 @@
 use Rattle.rows.specs.Rows.{stripOf, pointOf}
 use Rattle.parts.proofs.Marking.{upper-room, lower-room, parts-marked}
-use mathlib.Core.Path.{_≡_, refl, ap, sym, _∙_}
-use mathlib.Core.List.{List, [], _∷_, _++_}
-use mathlib.Core.Logic.{⊎-elim}
-use Prim.Native.Nat.{ℕ, zero, suc, _+_, _-_, _*_, _<_, _≤_}
+use mathlib.Core.Path.{refl}
+use Prim.Native.Nat.{_-_}
 use native.Mathlib.Omega.{arith}
-use native.Mathlib.Numerals.{add-one}
-use lib.ListN.{length, getD, take, drop, set, length-set}
-use borrow.Author.Tests.{eq-eqb, ne-eqb, lt-ltb, le-ltb, le-leb, lt-leb}
+use lib.ListN.{length-set}
 use borrow.Author.Needs.{needs}
 use Rattle.parts.proofs.mark_parts.Statement.{statement}
 use Rattle.parts.proofs.mark_parts.Tie as tie
@@ -15,46 +11,39 @@ use Rattle.parts.proofs.mark_parts.Reads as reads
 use Rattle.parts.proofs.mark_parts.Lts as lts
 use Rattle.rows.proofs.part_places.Reads as part-places-reads
 
--- src/lib.rt:30:9
 part-places-requires : tie.Need-part-places-requires
 part-places-requires c κs =
     let p = c .before .pre in
     let r = p .0 .0 in
     ((r .slotsFew, r .coloursFew, r .budgetsFew, omega (arith, r .within, c .before .fits)), (p .0 .1, p .1 .0, p .1 .1))
 
--- src/lib.rt:33:5
 mul-work : tie.Need-mul-work
 mul-work c =
     let p = c .before .before .pre in
     let a = c .before .before .args in
     omega (arith, upper-room (p .0 .0) (stripOf (a .p)) (pointOf (a .s)) (a .k) (p .0 .1) (p .1 .0) (p .1 .1) _ _ (c .part-places .ensures .0) (c .part-places .ensures .1))
 
--- src/lib.rt:33:5
 slice-write-work : tie.Need-slice-write-work
 slice-write-work c =
     let p = c .before .before .pre in
     let a = c .before .before .args in
     upper-room (p .0 .0) (stripOf (a .p)) (pointOf (a .s)) (a .k) (p .0 .1) (p .1 .0) (p .1 .1) _ _ (c .part-places .ensures .0) (c .part-places .ensures .1)
 
--- src/lib.rt:34:5
 mul-work-2 : tie.Need-mul-work-2
 mul-work-2 c =
     let p = c .before .before .pre in
     let a = c .before .before .args in
     omega (arith, lower-room (p .0 .0) (stripOf (a .p)) (pointOf (a .s)) (a .k) (p .0 .1) (p .1 .0) (p .1 .1) _ _ (c .part-places .ensures .0) (c .part-places .ensures .1))
 
--- src/lib.rt:34:5
 slice-write-work-2 : tie.Need-slice-write-work-2
 slice-write-work-2 c =
     let p = c .before .before .pre in
     let a = c .before .before .args in
     rw (length-set (a .work .now) (c .part-places .result .upper) 1) (lower-room (p .0 .0) (stripOf (a .p)) (pointOf (a .s)) (a .k) (p .0 .1) (p .1 .0) (p .1 .1) _ _ (c .part-places .ensures .0) (c .part-places .ensures .1))
 
--- src/lib.rt:24:1
 same-length : tie.Need-same-length
 same-length c = search needs
 
--- src/lib.rt:24:1
 returns : tie.Need-returns
 returns c =
     let p = c .before .before .pre in

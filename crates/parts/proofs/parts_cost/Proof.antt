@@ -1,13 +1,7 @@
 use Rattle.rows.specs.Rows.{stripOf, pointOf}
 use Rattle.parts.proofs.Marking.{upper-room, lower-room, parts-cost}
-use mathlib.Core.Path.{_≡_, refl, ap, sym, _∙_}
-use mathlib.Core.List.{List, [], _∷_, _++_}
-use mathlib.Core.Logic.{⊎-elim}
-use Prim.Native.Nat.{ℕ, zero, suc, _+_, _-_, _*_, _<_, _≤_}
+use Prim.Native.Nat.{_-_}
 use native.Mathlib.Omega.{arith}
-use native.Mathlib.Numerals.{add-one}
-use lib.ListN.{length, getD, take, drop, set, length-set}
-use borrow.Author.Tests.{eq-eqb, ne-eqb, lt-ltb, le-ltb, le-leb, lt-leb}
 use borrow.Author.Needs.{needs}
 use Rattle.parts.proofs.parts_cost.Statement.{statement}
 use Rattle.parts.proofs.parts_cost.Tie as tie
@@ -16,46 +10,39 @@ use Rattle.parts.proofs.parts_cost.Lts as lts
 use Rattle.rows.proofs.part_places.Reads as part-places-reads
 use Rattle.words.proofs.plus_of.Reads as plus-of-reads
 
--- src/lib.rt:17:9
 part-places-requires : tie.Need-part-places-requires
 part-places-requires c κs =
     let p = c .before .pre in
     let r = p .0 .0 in
     ((r .slotsFew, r .coloursFew, r .budgetsFew, omega (arith, r .within, c .before .fits)), (p .0 .1, p .1 .0, p .1 .1))
 
--- src/lib.rt:20:20
 mul-plus-of : tie.Need-mul-plus-of
 mul-plus-of c =
     let p = c .before .before .pre in
     let a = c .before .before .args in
     omega (arith, upper-room (p .0 .0) (stripOf (a .p)) (pointOf (a .s)) (a .k) (p .0 .1) (p .1 .0) (p .1 .1) _ _ (c .part-places .ensures .0) (c .part-places .ensures .1))
 
--- src/lib.rt:20:20
 shared-slice-read-plus-of : tie.Need-shared-slice-read-plus-of
 shared-slice-read-plus-of c =
     let p = c .before .before .before .pre in
     let a = c .before .before .before .args in
     upper-room (p .0 .0) (stripOf (a .p)) (pointOf (a .s)) (a .k) (p .0 .1) (p .1 .0) (p .1 .1) _ _ (c .before .part-places .ensures .0) (c .before .part-places .ensures .1)
 
--- src/lib.rt:20:33
 mul-plus-of-2 : tie.Need-mul-plus-of-2
 mul-plus-of-2 c =
     let p = c .before .before .before .pre in
     let a = c .before .before .before .args in
     omega (arith, lower-room (p .0 .0) (stripOf (a .p)) (pointOf (a .s)) (a .k) (p .0 .1) (p .1 .0) (p .1 .1) _ _ (c .before .part-places .ensures .0) (c .before .part-places .ensures .1))
 
--- src/lib.rt:20:33
 shared-slice-read-plus-of-2 : tie.Need-shared-slice-read-plus-of-2
 shared-slice-read-plus-of-2 c =
     let p = c .before .before .before .before .pre in
     let a = c .before .before .before .before .args in
     lower-room (p .0 .0) (stripOf (a .p)) (pointOf (a .s)) (a .k) (p .0 .1) (p .1 .0) (p .1 .1) _ _ (c .before .before .part-places .ensures .0) (c .before .before .part-places .ensures .1)
 
--- src/lib.rt:20:5
 plus-of-requires : tie.Need-plus-of-requires
 plus-of-requires c κs = search needs
 
--- src/lib.rt:12:1
 returns : tie.Need-returns
 returns c =
     let p = c .before .before .before .before .before .pre in

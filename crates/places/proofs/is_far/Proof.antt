@@ -1,12 +1,7 @@
 use Rattle.places.proofs.Places.{far-edge, far-bottom, far-label}
-use mathlib.Core.Path.{_≡_, refl, ap, sym, _∙_}
-use mathlib.Core.List.{List, [], _∷_, _++_}
-use mathlib.Core.Logic.{⊎-elim}
-use Prim.Native.Nat.{ℕ, zero, suc, _+_, _-_, _*_, _<_, _≤_}
+use mathlib.Core.Path.{sym, _∙_}
+use Prim.Native.Nat.{_-_}
 use native.Mathlib.Omega.{arith}
-use native.Mathlib.Numerals.{add-one}
-use lib.ListN.{length, getD, take, drop, set, length-set}
-use borrow.Author.Tests.{eq-eqb, ne-eqb, lt-ltb, le-ltb, le-leb, lt-leb}
 use borrow.Author.Needs.{needs}
 use Rattle.places.proofs.is_far.Statement.{statement}
 use Rattle.places.proofs.is_far.Tie as tie
@@ -16,41 +11,32 @@ use Rattle.drops.proofs.apart_of.Reads as apart-of-reads
 use Rattle.words.proofs.at_most.Reads as at-most-reads
 use Rattle.words.proofs.get.Reads as get-reads
 
--- src/lib.rt:72:9
 returns : tie.Need-returns
 returns c =
     sym (far-edge _ _ _ _ _ (c .if1 .taken))
 
--- src/lib.rt:74:13
 sub-i : tie.Need-sub-i
 sub-i c = search needs
 
--- src/lib.rt:75:25
 cast-if2 : tie.Need-cast-if2
 cast-if2 c = search needs
 
--- src/lib.rt:76:9
 returns-2 : tie.Need-returns-2
 returns-2 c =
     sym (far-bottom _ _ _ _ _ (omega arith) (c .if2 .taken))
 
--- src/lib.rt:78:29
 get-requires : tie.Need-get-requires
 get-requires c κs = search needs
 
--- src/lib.rt:78:46
 get-requires-2 : tie.Need-get-requires-2
 get-requires-2 c κs = search needs
 
--- src/lib.rt:78:20
 apart-of-requires : tie.Need-apart-of-requires
 apart-of-requires c κs = search needs
 
--- src/lib.rt:78:5
 at-most-requires : tie.Need-at-most-requires
 at-most-requires c κs = search needs
 
--- src/lib.rt:68:1
 returns-3 : tie.Need-returns-3
 returns-3 c =
     c .at-most .ensures ∙ rw (c .before .apart-of .ensures, c .before .before .get2 .ensures, c .before .before .before .get .ensures) (sym (far-label _ _ _ _ _ (omega arith) (omega arith)))

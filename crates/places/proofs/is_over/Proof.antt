@@ -1,12 +1,7 @@
 use Rattle.places.proofs.Places.{over-edge, over-label}
-use mathlib.Core.Path.{_≡_, refl, ap, sym, _∙_}
-use mathlib.Core.List.{List, [], _∷_, _++_}
-use mathlib.Core.Logic.{⊎-elim}
-use Prim.Native.Nat.{ℕ, zero, suc, _+_, _-_, _*_, _<_, _≤_}
+use mathlib.Core.Path.{sym, _∙_}
+use Prim.Native.Nat.{_-_}
 use native.Mathlib.Omega.{arith}
-use native.Mathlib.Numerals.{add-one}
-use lib.ListN.{length, getD, take, drop, set, length-set}
-use borrow.Author.Tests.{eq-eqb, ne-eqb, lt-ltb, le-ltb, le-leb, lt-leb}
 use borrow.Author.Needs.{needs}
 use Rattle.places.proofs.is_over.Statement.{statement}
 use Rattle.places.proofs.is_over.Tie as tie
@@ -15,24 +10,19 @@ use Rattle.places.proofs.is_over.Lts as lts
 use Rattle.words.proofs.at_most.Reads as at-most-reads
 use Rattle.words.proofs.get.Reads as get-reads
 
--- src/lib.rt:42:9
 returns : tie.Need-returns
 returns c =
     sym (over-edge _ _ _ (c .if1 .taken))
 
--- src/lib.rt:44:26
 sub-get : tie.Need-sub-get
 sub-get c = search needs
 
--- src/lib.rt:44:13
 get-requires : tie.Need-get-requires
 get-requires c κs = search needs
 
--- src/lib.rt:44:5
 at-most-requires : tie.Need-at-most-requires
 at-most-requires c κs = search needs
 
--- src/lib.rt:38:1
 returns-2 : tie.Need-returns-2
 returns-2 c =
     c .at-most .ensures ∙ rw (c .before .get .ensures) (sym (over-label _ _ _ (omega arith)))

@@ -1,12 +1,8 @@
-use Rattle.rest.proofs.Rows.{row, Row}
-use mathlib.Core.Path.{_≡_, refl, ap, sym, _∙_}
-use mathlib.Core.List.{List, [], _∷_, _++_}
-use mathlib.Core.Logic.{⊎-elim}
-use Prim.Native.Nat.{ℕ, zero, suc, _+_, _-_, _*_, _<_, _≤_}
+use Rattle.rest.proofs.Rows.{row}
+use mathlib.Core.Path.{refl, _∙_}
+use Prim.Native.Nat.{_-_}
 use native.Mathlib.Omega.{arith}
-use native.Mathlib.Numerals.{add-one}
-use lib.ListN.{length, getD, take, drop, set, length-set}
-use borrow.Author.Tests.{eq-eqb, ne-eqb, lt-ltb, le-ltb, le-leb, lt-leb}
+use borrow.Author.Tests.{eq-eqb, ne-eqb}
 use borrow.Author.Needs.{needs}
 use Rattle.rest.proofs.fold_at.Statement.{statement}
 use Rattle.rest.proofs.fold_at.Tie as tie
@@ -15,32 +11,26 @@ use Rattle.rest.proofs.fold_at.Lts as lts
 use Rattle.rest.proofs.join_row.Reads as join-row-reads
 use Rattle.rest.proofs.row_of.Reads as row-of-reads
 
--- src/lib.rt:74:9
 returns : tie.Need-returns
 returns c =
     rw (eq-eqb _ 0 (c .if1 .taken)) refl
 
--- src/lib.rt:76:22
 row-of-requires : tie.Need-row-of-requires
 row-of-requires c κs =
     c .before .before .before .before .before .pre .0
 
--- src/lib.rt:76:15
 add-row : tie.Need-add-row
 add-row c =
     omega (arith, c .row-of .ensures, row _ _ _ _ _ _ _ (c .before .before .before .before .before .before .pre .0) .inside, c .before .before .before .before .before .before .pre .1)
 
--- src/lib.rt:77:5
 join-row-requires : tie.Need-join-row-requires
 join-row-requires c κs =
     let p = c .before .before .before .before .before .before .before .pre in
     (rw (p .1 .0) (p .1 .1), omega (arith, c .before .row-of .ensures, row _ _ _ _ _ _ _ (p .0) .inside, p .1 .0, p .1 .2))
 
--- src/lib.rt:68:1
 same-length : tie.Need-same-length
 same-length c = search needs
 
--- src/lib.rt:68:1
 returns-2 : tie.Need-returns-2
 returns-2 c =
     c .before .before .join-row .ensures ∙ rw (ne-eqb _ 0 (c .before .before .before .before .before .if1 .left), c .before .before .before .before .row-of .ensures) refl

@@ -1,13 +1,9 @@
 use Rattle.rest.proofs.Rows.{last-strip}
-use Rattle.rest.proofs.Rows.{row, Row, join-long, Folding, folding-none, folding-more, folding-all}
-use mathlib.Core.Path.{_≡_, refl, ap, sym, _∙_}
-use mathlib.Core.List.{List, [], _∷_, _++_}
-use mathlib.Core.Logic.{⊎-elim}
-use Prim.Native.Nat.{ℕ, zero, suc, _+_, _-_, _*_, _<_, _≤_}
+use Rattle.rest.proofs.Rows.{row, Folding, folding-none, folding-more, folding-all}
+use mathlib.Core.Path.{sym, _∙_}
+use Prim.Native.Nat.{_-_}
 use native.Mathlib.Omega.{arith}
-use native.Mathlib.Numerals.{add-one}
-use lib.ListN.{length, getD, take, drop, set, length-set}
-use borrow.Author.Tests.{eq-eqb, ne-eqb, lt-ltb, le-ltb, le-leb, lt-leb}
+use lib.ListN.{length}
 use borrow.Author.Needs.{needs}
 use Rattle.rest.proofs.fold_rows.Statement.{statement}
 use Rattle.rest.proofs.fold_rows.Tie as tie
@@ -24,30 +20,24 @@ Inv-loop parts counts work base q labels acc₀ m a₀ ca₀ i₀ acc a ca i = F
 abbrev μ-loop : tie.MeasureT-loop
 μ-loop parts counts work base q labels acc₀ m a₀ ca₀ i₀ acc a ca i = length labels - i
 
--- src/lib.rt:90:5
 loop-holds : tie.Need-loop-holds Inv-loop μ-loop
 loop-holds c =
     folding-none _ _ _ _ _ _ _ _ (c .before .before .before .before .before .pre .1)
 
--- src/lib.rt:91:17
 mul-e : tie.Need-mul-e Inv-loop μ-loop
 mul-e c = search needs
 
--- src/lib.rt:91:17
 shared-slice-read-e : tie.Need-shared-slice-read-e Inv-loop μ-loop
 shared-slice-read-e c = search needs
 
--- src/lib.rt:92:17
 cast-b : tie.Need-cast-b Inv-loop μ-loop
 cast-b c =
     omega (arith, c .before .before .before .before .before .before .before .before .pre .0 .fewSlots)
 
--- src/lib.rt:92:17
 add-b : tie.Need-add-b Inv-loop μ-loop
 add-b c =
     omega (arith, c .before .before .before .before .before .before .before .before .pre .0 .fewSlots)
 
--- src/lib.rt:93:9
 fold-at-requires : tie.Need-fold-at-requires Inv-loop μ-loop
 fold-at-requires c κs =
     let p = c .before .before .before .before .before .before .before .before .before .pre .0 in let f = c .before .before .before .loop .inv in (
@@ -63,64 +53,52 @@ fold-at-requires c κs =
       (f .long, p .splits, p .within),
     )
 
--- src/lib.rt:95:9
 choose-requires : tie.Need-choose-requires Inv-loop μ-loop
 choose-requires c κs = search needs
 
--- src/lib.rt:96:9
 choose-requires-2 : tie.Need-choose-requires-2 Inv-loop μ-loop
 choose-requires-2 c κs = search needs
 
--- src/lib.rt:97:9
 add-i : tie.Need-add-i Inv-loop μ-loop
 add-i c =
     search needs
 
--- src/lib.rt:90:5
 loop-less : tie.Need-loop-less Inv-loop μ-loop
 loop-less c = search needs
 
--- src/lib.rt:90:5
 loop-again : tie.Need-loop-again Inv-loop μ-loop
 loop-again c =
     let l = c .before .before .before .before .before .before .before .before .loop in
     folding-more _ _ _ _ _ _ _ _ _ _ _ _ _ _ _ (l .inv) (c .before .before .before .before .before .before .before .loop-test .taken) (omega (arith, c .before .before .before .before .before .before .before .before .before .before .before .before .before .before .pre .0 .coloured (l .i)))
     (c .before .before .before .before .fold-at .ensures) (c .before .choose .ensures) (c .choose2 .ensures)
 
--- src/lib.rt:99:15
 cast-end : tie.Need-cast-end Inv-loop μ-loop
 cast-end c =
     omega (arith, c .before .before .before .before .before .before .before .pre .0 .fewSlots)
 
--- src/lib.rt:99:15
 add-end : tie.Need-add-end Inv-loop μ-loop
 add-end c =
     omega (arith, c .before .before .before .before .before .before .before .pre .0 .fewSlots)
 
--- src/lib.rt:100:22
 row-of-requires : tie.Need-row-of-requires Inv-loop μ-loop
 row-of-requires c κs =
     last-strip _ _ _ _ _ _ _ _ _ _ _ _ (c .before .before .before .before .before .before .before .pre .0) (c .before .loop .inv)
 
--- src/lib.rt:100:15
 add-row : tie.Need-add-row Inv-loop μ-loop
 add-row c =
     let p = c .before .before .before .before .before .before .before .before .pre .0 in
     omega (arith, c .row-of .ensures, row _ _ _ _ _ _ _ (last-strip _ _ _ _ _ _ _ _ _ _ _ _ p (c .before .before .loop .inv)) .inside, p .within)
 
--- src/lib.rt:101:5
 join-row-requires : tie.Need-join-row-requires Inv-loop μ-loop
 join-row-requires c κs =
     let p = c .before .before .before .before .before .before .before .before .before .pre .0 in let f = c .before .before .before .loop .inv in
     (rw (f .long) (p .splits), omega (arith, c .before .row-of .ensures, row _ _ _ _ _ _ _ (last-strip _ _ _ _ _ _ _ _ _ _ _ _ p f) .inside, p .within, f .long))
 
--- src/lib.rt:81:1
 same-length : tie.Need-same-length Inv-loop μ-loop
 same-length c =
     let f = c .before .before .before .before .before .before .loop .inv in
     c .before .before .join-row .kept .1 .1 .0 ∙ f .long ∙ sym (c .before .before .before .before .before .before .before .before .before .before .before .before .pre .1)
 
--- src/lib.rt:81:1
 returns : tie.Need-returns Inv-loop μ-loop
 returns c =
     c .before .before .join-row .ensures ∙ rw (c .before .before .before .before .row-of .ensures) (folding-all _ _ _ _ _ _ _ _ _ _ _ _ (c .before .before .before .before .before .before .loop .inv) (c .before .before .before .before .before .loop-test .left))

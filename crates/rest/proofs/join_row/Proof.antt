@@ -1,12 +1,7 @@
 use Rattle.rest.proofs.Rows.{Joined, joined-none, joined-more, joined-all}
-use mathlib.Core.Path.{_≡_, refl, ap, sym, _∙_}
-use mathlib.Core.List.{List, [], _∷_, _++_}
-use mathlib.Core.Logic.{⊎-elim}
-use Prim.Native.Nat.{ℕ, zero, suc, _+_, _-_, _*_, _<_, _≤_}
+use mathlib.Core.Path.{_≡_}
+use Prim.Native.Nat.{_-_}
 use native.Mathlib.Omega.{arith}
-use native.Mathlib.Numerals.{add-one}
-use lib.ListN.{length, getD, take, drop, set, length-set}
-use borrow.Author.Tests.{eq-eqb, ne-eqb, lt-ltb, le-ltb, le-leb, lt-leb}
 use borrow.Author.Needs.{needs}
 use Rattle.rest.proofs.join_row.Statement.{statement}
 use Rattle.rest.proofs.join_row.Tie as tie
@@ -20,46 +15,37 @@ Inv-loop parts counts acc₀ work row n v₀ acc v = Joined parts counts acc₀ 
 abbrev μ-loop : tie.MeasureT-loop
 μ-loop parts counts acc₀ work row n v₀ acc v = v
 
--- src/lib.rt:31:5
 loop-holds : tie.Need-loop-holds Inv-loop μ-loop
 loop-holds c =
     joined-none _ _ _ _ _
 
--- src/lib.rt:32:9
 sub-v : tie.Need-sub-v Inv-loop μ-loop
 sub-v c = search needs
 
--- src/lib.rt:33:18
 least-share-requires : tie.Need-least-share-requires Inv-loop μ-loop
 least-share-requires c κs =
     let j = c .before .before .loop .inv in let p = c .before .before .before .before .before .before .before .pre in
     (p .0, (omega (arith, j .within), omega (arith, j .long), p .1))
 
--- src/lib.rt:33:9
 mul-acc : tie.Need-mul-acc Inv-loop μ-loop
 mul-acc c =
     let j = c .before .before .before .loop .inv in omega (arith, j .within, j .long, c .before .before .before .before .before .before .before .before .pre .0 .few)
 
--- src/lib.rt:33:9
 slice-write-acc : tie.Need-slice-write-acc Inv-loop μ-loop
 slice-write-acc c =
     let j = c .before .before .before .loop .inv in omega (arith, j .within, j .long)
 
--- src/lib.rt:31:5
 loop-less : tie.Need-loop-less Inv-loop μ-loop
 loop-less c = search needs
 
--- src/lib.rt:31:5
 loop-again : tie.Need-loop-again Inv-loop μ-loop
 loop-again c =
     let l = c .before .before .before .loop in joined-more _ _ _ _ _ _ (l .v) _ _ (l .inv) (omega arith) (c .before .before .before .before .before .before .before .before .pre .0) (c .least-share .ensures)
 
--- src/lib.rt:25:1
 same-length : tie.Need-same-length Inv-loop μ-loop
 same-length c =
     c .before .loop .inv .long
 
--- src/lib.rt:25:1
 returns : tie.Need-returns Inv-loop μ-loop
 returns c =
     let l = c .before .loop in

@@ -1,14 +1,9 @@
 use Rattle.search.specs.Share.{just}
 use Rattle.optimum.specs.OneSided.{topWord}
 use Rattle.rest.proofs.Rows.{Filled, filled-none, filled-more, filled-all}
-use mathlib.Core.Path.{_≡_, refl, ap, sym, _∙_}
-use mathlib.Core.List.{List, [], _∷_, _++_}
-use mathlib.Core.Logic.{⊎-elim}
-use Prim.Native.Nat.{ℕ, zero, suc, _+_, _-_, _*_, _<_, _≤_}
+use Prim.Native.Nat.{_-_}
 use native.Mathlib.Omega.{arith}
-use native.Mathlib.Numerals.{add-one}
-use lib.ListN.{length, getD, take, drop, set, length-set}
-use borrow.Author.Tests.{eq-eqb, ne-eqb, lt-ltb, le-ltb, le-leb, lt-leb}
+use lib.ListN.{length, length-set}
 use borrow.Author.Needs.{needs}
 use Rattle.rest.proofs.start_row.Statement.{statement}
 use Rattle.rest.proofs.start_row.Tie as tie
@@ -22,45 +17,36 @@ Inv-loop acc₀ i₀ acc i = Filled (just topWord 0 0) acc₀ acc i
 abbrev μ-loop : tie.MeasureT-loop
 μ-loop acc₀ i₀ acc i = length acc - i
 
--- src/lib.rt:109:5
 loop-holds : tie.Need-loop-holds Inv-loop μ-loop
 loop-holds c =
     filled-none _ _
 
--- src/lib.rt:110:18
 choose-requires : tie.Need-choose-requires Inv-loop μ-loop
 choose-requires c κs = search needs
 
--- src/lib.rt:110:9
 mul-acc : tie.Need-mul-acc Inv-loop μ-loop
 mul-acc c = search needs
 
--- src/lib.rt:110:9
 slice-write-acc : tie.Need-slice-write-acc Inv-loop μ-loop
 slice-write-acc c = search needs
 
--- src/lib.rt:111:9
 add-i : tie.Need-add-i Inv-loop μ-loop
 add-i c = search needs
 
--- src/lib.rt:109:5
 loop-less : tie.Need-loop-less Inv-loop μ-loop
 loop-less c =
     simp length-set (omega arith)
 
--- src/lib.rt:109:5
 loop-again : tie.Need-loop-again Inv-loop μ-loop
 unfolding just
 loop-again c =
     let l = c .before .before .loop in
     filled-more _ _ _ _ _ (l .inv) (c .before .loop-test .taken) (c .choose .ensures)
 
--- src/lib.rt:105:1
 same-length : tie.Need-same-length Inv-loop μ-loop
 same-length c =
     c .before .loop .inv .long
 
--- src/lib.rt:105:1
 returns : tie.Need-returns Inv-loop μ-loop
 returns c =
     filled-all _ _ _ _ (c .before .loop .inv) (c .loop-test .left)

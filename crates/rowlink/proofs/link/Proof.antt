@@ -1,44 +1,31 @@
 use Rattle.links.proofs.Rows.{one-linked, one-left}
-use mathlib.Core.Path.{_≡_, refl, ap, sym, _∙_}
-use mathlib.Core.List.{List, [], _∷_, _++_}
-use mathlib.Core.Logic.{⊎-elim}
-use Prim.Native.Nat.{ℕ, zero, suc, _+_, _-_, _*_, _<_, _≤_}
+use Prim.Native.Nat.{_-_}
 use native.Mathlib.Omega.{arith}
-use native.Mathlib.Numerals.{add-one}
-use lib.ListN.{length, getD, take, drop, set, length-set}
-use borrow.Author.Tests.{eq-eqb, ne-eqb, lt-ltb, le-ltb, le-leb, lt-leb}
 use borrow.Author.Needs.{needs}
 use Rattle.rowlink.proofs.link.Statement.{statement}
 use Rattle.rowlink.proofs.link.Tie as tie
 
--- src/lib.rt:457:9
 link-blocks-requires : tie.Need-link-blocks-requires
 link-blocks-requires c κs = search needs
 
--- src/lib.rt:458:9
 same-length : tie.Need-same-length
 same-length c = search needs
 
--- src/lib.rt:458:9
 returns : tie.Need-returns
 returns c = search needs
 
--- src/lib.rt:461:9
 relax-requires : tie.Need-relax-requires
 relax-requires c κs =
     let p = c .before .before .before .before .before .pre in let o = c .before .before .if1 .left in (omega (arith, p .fits, o), omega (arith, p .there, o))
 
--- src/lib.rt:444:1
 same-length-2 : tie.Need-same-length-2
 same-length-2 c = search needs
 
--- src/lib.rt:444:1
 returns-2 : tie.Need-returns-2
 returns-2 c =
     let a = c .before .before .before .before .before .before .before .before .args in let o = c .before .before .before .before .before .if1 .left in
     λ v h. one-linked (a .row .now) (c .before .before .relax .last .0) (a .work .now) (a .from) (a .skip) (a .size) (a .cost) (c .before .before .before .before .if2 .taken) (c .before .before .relax .ensures) v (omega arith)
 
--- src/lib.rt:444:1
 returns-3 : tie.Need-returns-3
 returns-3 c =
     let a = c .before .before .before .before .args in let o = c .before .if1 .left in let n = c .if2 .left in let s = c .before .before .before .before .pre .some in

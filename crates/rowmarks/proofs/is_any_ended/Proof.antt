@@ -14,50 +14,39 @@ Inv-loop marks work at count cost i₀ i = (i ≤ count) × ((k : ℕ) → k < i
 abbrev μ-loop : tie.MeasureT-loop
 μ-loop marks work at count cost i₀ i = count - i
 
--- src/lib.rt:106:5
 loop-holds : tie.Need-loop-holds Inv-loop μ-loop
 loop-holds c =
     (omega arith, λ k l m e. omega arith)
 
--- src/lib.rt:107:27
 add-both : tie.Need-add-both Inv-loop μ-loop
 add-both c = search needs
 
--- src/lib.rt:107:21
 shared-slice-read-both : tie.Need-shared-slice-read-both Inv-loop μ-loop
 shared-slice-read-both c = search needs
 
--- src/lib.rt:107:41
 add-both-2 : tie.Need-add-both-2 Inv-loop μ-loop
 add-both-2 c = search needs
 
--- src/lib.rt:107:36
 mul-both : tie.Need-mul-both Inv-loop μ-loop
 mul-both c = search needs
 
--- src/lib.rt:107:36
 shared-slice-read-both-2 : tie.Need-shared-slice-read-both-2 Inv-loop μ-loop
 shared-slice-read-both-2 c = search needs
 
--- src/lib.rt:107:12
 both-requires : tie.Need-both-requires Inv-loop μ-loop
 both-requires c κs = search needs
 
--- src/lib.rt:108:13
 returns : tie.Need-returns Inv-loop μ-loop
 returns c =
     let a = c .before .before .before .before .before .before .before .before .args in let l = c .before .before .before .before .before .loop in
     ended-some (a .marks .now) (a .work .now) (a .at) (l .i) (a .count) (a .cost) (c .before .both .result) (omega arith) (c .before .both .ensures) (c .if1 .taken)
 
--- src/lib.rt:110:9
 add-i : tie.Need-add-i Inv-loop μ-loop
 add-i c = search needs
 
--- src/lib.rt:106:5
 loop-less : tie.Need-loop-less Inv-loop μ-loop
 loop-less c = search needs
 
--- src/lib.rt:106:5
 loop-again : tie.Need-loop-again Inv-loop μ-loop
 loop-again c =
     let a = c .before .before .before .before .before .before .before .before .args in let l = c .before .before .before .before .before .loop in (
@@ -65,7 +54,6 @@ loop-again c =
       ended-more (a .marks .now) (a .work .now) (a .at) (l .i) (a .cost) (c .before .both .result) (c .before .both .ensures) (c .if1 .left) (l .inv .1),
     )
 
--- src/lib.rt:101:1
 returns-2 : tie.Need-returns-2 Inv-loop μ-loop
 returns-2 c =
     let a = c .before .before .before .before .args in let l = c .before .loop in ended-none (a .marks .now) (a .work .now) (a .at) (a .count) (a .cost) (λ k h. l .inv .1 k (omega arith))

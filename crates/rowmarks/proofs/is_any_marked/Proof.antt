@@ -14,32 +14,25 @@ Inv-loop marks at count seen₀ i₀ seen i = (i ≤ count) × (seen ≡ false �
 abbrev μ-loop : tie.MeasureT-loop
 μ-loop marks at count seen₀ i₀ seen i = count - i
 
--- src/lib.rt:93:5
 loop-holds : tie.Need-loop-holds Inv-loop μ-loop
 loop-holds c =
     (omega arith, λ e k l. absurd (omega arith))
 
--- src/lib.rt:94:39
 add-either : tie.Need-add-either Inv-loop μ-loop
 add-either c = search needs
 
--- src/lib.rt:94:33
 shared-slice-read-either : tie.Need-shared-slice-read-either Inv-loop μ-loop
 shared-slice-read-either c = search needs
 
--- src/lib.rt:94:9
 either-requires : tie.Need-either-requires Inv-loop μ-loop
 either-requires c κs = search needs
 
--- src/lib.rt:95:9
 add-i : tie.Need-add-i Inv-loop μ-loop
 add-i c = search needs
 
--- src/lib.rt:93:5
 loop-less : tie.Need-loop-less Inv-loop μ-loop
 loop-less c = search needs
 
--- src/lib.rt:93:5
 loop-again : tie.Need-loop-again Inv-loop μ-loop
 loop-again c =
     let a = c .before .before .before .before .before .args in let l = c .before .before .before .loop in (
@@ -47,7 +40,6 @@ loop-again c =
       any-more (a .marks .now) (a .at) (l .i) (l .seen) (c .either .result) (c .either .ensures) (l .inv .1),
     )
 
--- src/lib.rt:87:1
 returns : tie.Need-returns Inv-loop μ-loop
 returns c =
     let l = c .before .loop in λ e k h. l .inv .1 e k (omega arith)

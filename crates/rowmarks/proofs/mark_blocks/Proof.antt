@@ -19,46 +19,37 @@ abbrev μ-loop : tie.MeasureT-loop
 ends : (c : tie.In-loop Inv-loop μ-loop) → c .before .loop .start + c .before .before .before .before .args .size ≤ c .before .before .before .before .args .budgets
 ends c = block-fits _ _ _ (c .before .loop .inv .2) (c .before .before .before .before .pre .0 .whole) (c .loop-test .taken)
 
--- src/lib.rt:71:17
 sub-count : tie.Need-sub-count Inv-loop μ-loop
 sub-count c =
     c .before .before .pre .0 .low
 
--- src/lib.rt:73:5
 loop-holds : tie.Need-loop-holds Inv-loop μ-loop
 loop-holds c =
     let a = c .before .before .args in (refl, omega arith, (0, omega arith), linked-none (a .marks .now) (a .work .now) (a .own) (a .to) (a .skip) (a .size) (a .cost))
 
--- src/lib.rt:77:13
 add-mark-run : tie.Need-add-mark-run Inv-loop μ-loop
 add-mark-run c = search needs
 
--- src/lib.rt:77:13
 add-mark-run-2 : tie.Need-add-mark-run-2 Inv-loop μ-loop
 add-mark-run-2 c =
     let p = c .before .before .before .before .before .pre in omega (arith, p .0 .low, p .0 .few, p .1, p .2, ends (c .before))
 
--- src/lib.rt:78:13
 add-mark-run-3 : tie.Need-add-mark-run-3 Inv-loop μ-loop
 add-mark-run-3 c = search needs
 
--- src/lib.rt:74:9
 mark-run-requires : tie.Need-mark-run-requires Inv-loop μ-loop
 mark-run-requires c κs =
     let p = c .before .before .before .before .before .pre in let e = ends (c .before) in
     (omega (arith, p .0 .low, p .1), omega (arith, p .0 .low, p .2, c .before .before .loop .inv .0), omega (arith, p .0 .low, p .0 .there))
 
--- src/lib.rt:82:9
 add-start : tie.Need-add-start Inv-loop μ-loop
 add-start c =
     omega (arith, c .before .before .before .before .before .before .before .before .pre .0 .few, ends (c .before .before .before .before))
 
--- src/lib.rt:73:5
 loop-less : tie.Need-loop-less Inv-loop μ-loop
 loop-less c =
     omega (arith, c .before .before .before .before .before .before .before .before .pre .0 .some)
 
--- src/lib.rt:73:5
 loop-again : tie.Need-loop-again Inv-loop μ-loop
 loop-again c =
     let a = c .before .before .before .before .before .before .before .before .args in let p = c .before .before .before .before .before .before .before .before .pre in let l = c .before .before .before .before .before .loop in let e = ends (c .before .before .before .before) in (
@@ -68,11 +59,9 @@ loop-again c =
       linked-more (a .marks .now) (l .marks) (c .before .before .mark-run .last .0) (a .work .now) (a .own) (a .to) (l .start) (a .skip) (a .size) (a .cost) (p .0 .low) (omega (arith, p .1)) (l .inv .2) (c .before .before .mark-run .ensures) (l .inv .3),
     )
 
--- src/lib.rt:58:1
 same-length : tie.Need-same-length Inv-loop μ-loop
 same-length c = search needs
 
--- src/lib.rt:58:1
 returns : tie.Need-returns Inv-loop μ-loop
 returns c =
     let l = c .before .loop in let e : l .start ≡ c .before .before .before .before .args .budgets = omega arith in rw e at (l .inv .3)

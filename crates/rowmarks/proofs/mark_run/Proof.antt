@@ -14,76 +14,58 @@ Inv-loop marks₀ work own to count cost i₀ marks i = (length marks ≡ length
 abbrev μ-loop : tie.MeasureT-loop
 μ-loop marks₀ work own to count cost i₀ marks i = count - i
 
--- src/lib.rt:50:5
 loop-holds : tie.Need-loop-holds Inv-loop μ-loop
 loop-holds c =
     let a = c .before .before .args in (refl, omega arith, run-none (a .marks .now) (a .work .now) (a .own) (a .to) (a .cost))
 
--- src/lib.rt:51:38
 add-plus-of : tie.Need-add-plus-of Inv-loop μ-loop
 add-plus-of c = search needs
 
--- src/lib.rt:51:33
 mul-plus-of : tie.Need-mul-plus-of Inv-loop μ-loop
 mul-plus-of c = search needs
 
--- src/lib.rt:51:33
 shared-slice-read-plus-of : tie.Need-shared-slice-read-plus-of Inv-loop μ-loop
 shared-slice-read-plus-of c = search needs
 
--- src/lib.rt:51:13
 plus-of-requires : tie.Need-plus-of-requires Inv-loop μ-loop
 plus-of-requires c κs = search needs
 
--- src/lib.rt:52:42
 add-mark-after : tie.Need-add-mark-after Inv-loop μ-loop
 add-mark-after c = search needs
 
--- src/lib.rt:52:36
 slice-read-mark-after : tie.Need-slice-read-mark-after Inv-loop μ-loop
 slice-read-mark-after c = search needs
 
--- src/lib.rt:52:57
 add-mark-after-2 : tie.Need-add-mark-after-2 Inv-loop μ-loop
 add-mark-after-2 c = search needs
 
--- src/lib.rt:52:51
 slice-read-mark-after-2 : tie.Need-slice-read-mark-after-2 Inv-loop μ-loop
 slice-read-mark-after-2 c = search needs
 
--- src/lib.rt:52:72
 add-mark-after-3 : tie.Need-add-mark-after-3 Inv-loop μ-loop
 add-mark-after-3 c = search needs
 
--- src/lib.rt:52:67
 mul-mark-after : tie.Need-mul-mark-after Inv-loop μ-loop
 mul-mark-after c = search needs
 
--- src/lib.rt:52:67
 shared-slice-read-mark-after : tie.Need-shared-slice-read-mark-after Inv-loop μ-loop
 shared-slice-read-mark-after c = search needs
 
--- src/lib.rt:52:25
 mark-after-requires : tie.Need-mark-after-requires Inv-loop μ-loop
 mark-after-requires c κs = search needs
 
--- src/lib.rt:52:15
 add-marks : tie.Need-add-marks Inv-loop μ-loop
 add-marks c = search needs
 
--- src/lib.rt:52:9
 slice-write-marks : tie.Need-slice-write-marks Inv-loop μ-loop
 slice-write-marks c = search needs
 
--- src/lib.rt:53:9
 add-i : tie.Need-add-i Inv-loop μ-loop
 add-i c = search needs
 
--- src/lib.rt:50:5
 loop-less : tie.Need-loop-less Inv-loop μ-loop
 loop-less c = search needs
 
--- src/lib.rt:50:5
 loop-again : tie.Need-loop-again Inv-loop μ-loop
 loop-again c =
     let a = c .before .before .before .before .before .before .before .before .before .before .args in let l = c .before .before .before .before .before .before .before .loop in (
@@ -95,11 +77,9 @@ loop-again c =
           (l .inv .2),
     )
 
--- src/lib.rt:45:1
 same-length : tie.Need-same-length Inv-loop μ-loop
 same-length c = search needs
 
--- src/lib.rt:45:1
 returns : tie.Need-returns Inv-loop μ-loop
 returns c =
     let l = c .before .loop in let e : l .i ≡ c .before .before .before .before .args .count = omega arith in rw e at (l .inv .2)

@@ -17,82 +17,65 @@ Inv-loop heights labels y m a₀ ca₀ i₀ a ca i = (i ≤ length labels) × Lo
 abbrev μ-loop : tie.MeasureT-loop
 μ-loop heights labels y m a₀ ca₀ i₀ a ca i = length labels - i
 
--- src/lib.rt:175:5
 loop-holds : tie.Need-loop-holds Inv-loop μ-loop
 loop-holds c =
     (omega arith, looking-none _ _ _)
 
--- src/lib.rt:176:17
 mul-e : tie.Need-mul-e Inv-loop μ-loop
 mul-e c = search needs
 
--- src/lib.rt:176:17
 shared-slice-read-e : tie.Need-shared-slice-read-e Inv-loop μ-loop
 shared-slice-read-e c = search needs
 
--- src/lib.rt:178:17
 cast-b : tie.Need-cast-b Inv-loop μ-loop
 cast-b c =
     omega (arith, c .before .before .before .before .before .pre)
 
--- src/lib.rt:178:17
 add-b : tie.Need-add-b Inv-loop μ-loop
 add-b c =
     omega (arith, c .before .before .before .before .before .pre)
 
--- src/lib.rt:179:35
 mul-both : tie.Need-mul-both Inv-loop μ-loop
 mul-both c =
     omega (arith, c .before .before .before .before .before .pre)
 
--- src/lib.rt:179:35
 shared-slice-read-both : tie.Need-shared-slice-read-both Inv-loop μ-loop
 shared-slice-read-both c =
     omega (arith, c .before .before .before .before .before .before .pre)
 
--- src/lib.rt:179:12
 both-requires : tie.Need-both-requires Inv-loop μ-loop
 both-requires c κs = search needs
 
--- src/lib.rt:180:13
 returns : tie.Need-returns Inv-loop μ-loop
 returns c =
     let l = c .before .before .before .before .before .loop in
     looking-here _ _ _ _ _ _ (l .inv .1) (omega (arith, c .before .before .before .before .before .before .before .before .pre)) (sym (c .before .both .ensures) ∙ c .if1 .taken)
 
--- src/lib.rt:182:9
 choose-requires : tie.Need-choose-requires Inv-loop μ-loop
 choose-requires c κs = search needs
 
--- src/lib.rt:183:9
 choose-requires-2 : tie.Need-choose-requires-2 Inv-loop μ-loop
 choose-requires-2 c κs = search needs
 
--- src/lib.rt:184:9
 add-i : tie.Need-add-i Inv-loop μ-loop
 add-i c = search needs
 
--- src/lib.rt:175:5
 loop-less : tie.Need-loop-less Inv-loop μ-loop
 loop-less c = search needs
 
--- src/lib.rt:175:5
 loop-again : tie.Need-loop-again Inv-loop μ-loop
 loop-again c =
     let l = c .before .before .before .before .before .before .before .loop in
     (omega arith, rw (c .before .choose .ensures, c .choose2 .ensures) (looking-more _ _ _ _ _ _ (l .inv .1) (omega (arith, c .before .before .before .before .before .before .before .before .before .before .pre)) (sym (c .before .before .before .both .ensures) ∙ c .before .before .if1 .left)))
 
--- src/lib.rt:186:15
 cast-end : tie.Need-cast-end Inv-loop μ-loop
 cast-end c =
     omega (arith, c .before .before .before .before .pre)
 
--- src/lib.rt:186:15
 add-end : tie.Need-add-end Inv-loop μ-loop
 add-end c =
     omega (arith, c .before .before .before .before .pre)
 
--- src/lib.rt:167:1
 returns-2 : tie.Need-returns-2 Inv-loop μ-loop
 returns-2 c =
     let l = c .before .loop in

@@ -7,13 +7,11 @@ use Rattle.rows.proofs.is_upper_end.Tie as tie
 use Rattle.rows.proofs.is_upper_end.Reads as reads
 use Rattle.rows.proofs.is_upper_end.Lts as lts
 
--- src/lib.rt:45:9
 returns : tie.Need-returns
 unfolding upperEnd
 returns c =
     rw (eq-eqb _ _ (c .before .if1 .taken)) refl
 
--- src/lib.rt:41:1
 returns-2 : tie.Need-returns-2
 unfolding upperEnd
 returns-2 c =

@@ -10,43 +10,35 @@ use Rattle.rows.proofs.part_places.Reads as reads
 use Rattle.rows.proofs.part_places.Lts as lts
 use Rattle.rows.proofs.row_place.Reads as row-place-reads
 
--- src/lib.rt:139:13
 add-c : tie.Need-add-c
 add-c c = search needs
 
--- src/lib.rt:143:12
 add-t10 : tie.Need-add-t10
 add-t10 c = search needs
 
--- src/lib.rt:147:12
 add-t10-2 : tie.Need-add-t10-2
 add-t10-2 c = search needs
 
--- src/lib.rt:153:22
 row-place-requires : tie.Need-row-place-requires
 row-place-requires c κs =
     let p = c .before .pre in
     ((p .0 .0, p .0 .1, p .0 .2), upper-lies _ _ (stripOf (c .before .args .p)) (pointOf (c .before .args .s)) (c .before .args .k) (p .1 .0) (p .1 .1) (p .1 .2))
 
--- src/lib.rt:153:16
 add-t12 : tie.Need-add-t12
 add-t12 c =
     let p = c .before .before .pre in
     omega (arith, c .row-place .ensures, p .0 .3, row-fits _ _ (c .before .before .args .q .budgets) _ (upper-lies _ _ (stripOf (c .before .before .args .p)) (pointOf (c .before .before .args .s)) (c .before .before .args .k) (p .1 .0) (p .1 .1) (p .1 .2)))
 
--- src/lib.rt:154:22
 row-place-requires-2 : tie.Need-row-place-requires-2
 row-place-requires-2 c κs =
     let p = c .before .before .pre in
     ((p .0 .0, p .0 .1, p .0 .2), lower-lies _ _ (stripOf (c .before .before .args .p)) (pointOf (c .before .before .args .s)) (c .before .before .args .k) (p .1 .0) (p .1 .1) (p .1 .2))
 
--- src/lib.rt:154:16
 add-t14 : tie.Need-add-t14
 add-t14 c =
     let p = c .before .before .before .pre in
     omega (arith, c .row-place2 .ensures, p .0 .3, row-fits _ _ (c .before .before .before .args .q .budgets) _ (lower-lies _ _ (stripOf (c .before .before .before .args .p)) (pointOf (c .before .before .before .args .s)) (c .before .before .before .args .k) (p .1 .0) (p .1 .1) (p .1 .2)))
 
--- src/lib.rt:134:1
 returns : tie.Need-returns
 returns c =
     let l = c .before .before .before .args .low in

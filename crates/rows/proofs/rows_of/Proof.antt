@@ -7,40 +7,33 @@ use Rattle.rows.proofs.rows_of.Tie as tie
 use Rattle.rows.proofs.rows_of.Reads as reads
 use Rattle.rows.proofs.rows_of.Lts as lts
 
--- src/lib.rt:16:20
 cast-colours : tie.Need-cast-colours
 cast-colours c = search needs
 
--- src/lib.rt:16:19
 add-colours : tie.Need-add-colours
 add-colours c = search needs
 
--- src/lib.rt:17:16
 add-ends : tie.Need-add-ends
 add-ends c = search needs
 
--- src/lib.rt:18:5
 mul-result : tie.Need-mul-result
 mul-result c =
     let p = c .before .pre in let q = c .before .args .q .colours in let m = c .before .args .m in
     let x : m + 2 ≤ 50 = omega (arith, p .0) in let y : q + 1 ≤ 9 = omega (arith, p .1) in
     omega (arith, mul-le-mul {n₂ = 50} {m₂ = 9} x y)
 
--- src/lib.rt:18:5
 mul-result-2 : tie.Need-mul-result-2
 mul-result-2 c =
     let p = c .before .pre in let q = c .before .args .q .colours in let m = c .before .args .m in
     let x : m + 2 ≤ 50 = omega (arith, p .0) in let y : q + 1 ≤ 9 = omega (arith, p .1) in
     omega (arith, mul-le-mul {n₂ = 450} {m₂ = 50} (mul-le-mul {n₂ = 50} {m₂ = 9} x y) x)
 
--- src/lib.rt:18:5
 mul-result-3 : tie.Need-mul-result-3
 mul-result-3 c =
     let p = c .before .pre in let q = c .before .args .q .colours in let m = c .before .args .m in
     let x : m + 2 ≤ 50 = omega (arith, p .0) in let y : q + 1 ≤ 9 = omega (arith, p .1) in
     omega (arith, mul-le-mul {n₂ = 22500} {m₂ = 9} (mul-le-mul {n₂ = 450} {m₂ = 50} (mul-le-mul {n₂ = 50} {m₂ = 9} x y) x) y)
 
--- src/lib.rt:12:1
 returns : tie.Need-returns
 returns c = search needs
 

@@ -14,69 +14,54 @@ Inv-loop heights ys colours k first top bottom codes₀ i₀ codes i = Codes hei
 abbrev μ-loop : tie.MeasureT-loop
 μ-loop heights ys colours k first top bottom codes₀ i₀ codes i = length ys - i
 
--- src/lib.rt:96:9
 top-of-requires : tie.Need-top-of-requires Inv-loop μ-loop
 top-of-requires c κs = search needs
 
--- src/lib.rt:97:9
 get-requires : tie.Need-get-requires Inv-loop μ-loop
 get-requires c κs = search needs
 
--- src/lib.rt:100:5
 loop-holds : tie.Need-loop-holds Inv-loop μ-loop
 loop-holds c =
     let a = c .before .before .before .before .before .args in codes-none (a .heights .now) (a .ys .now) (a .colours .now) (a .k) (a .k)
 
--- src/lib.rt:101:22
 mul-if1 : tie.Need-mul-if1 Inv-loop μ-loop
 mul-if1 c = search needs
 
--- src/lib.rt:101:22
 shared-slice-read-if1 : tie.Need-shared-slice-read-if1 Inv-loop μ-loop
 shared-slice-read-if1 c = search needs
 
--- src/lib.rt:102:13
 returns : tie.Need-returns Inv-loop μ-loop
 returns c =
     c .before .before .before .loop .inv
 
--- src/lib.rt:104:49
 mul-codes-after : tie.Need-mul-codes-after Inv-loop μ-loop
 mul-codes-after c = search needs
 
--- src/lib.rt:104:49
 shared-slice-read-codes-after : tie.Need-shared-slice-read-codes-after Inv-loop μ-loop
 shared-slice-read-codes-after c = search needs
 
--- src/lib.rt:104:56
 mul-codes-after-2 : tie.Need-mul-codes-after-2 Inv-loop μ-loop
 mul-codes-after-2 c = search needs
 
--- src/lib.rt:104:56
 shared-slice-read-codes-after-2 : tie.Need-shared-slice-read-codes-after-2 Inv-loop μ-loop
 shared-slice-read-codes-after-2 c =
     omega (arith, c .before .before .before .before .loop-test .taken, c .before .before .before .before .before .before .before .before .before .before .before .pre)
 
--- src/lib.rt:104:9
 codes-after-requires : tie.Need-codes-after-requires Inv-loop μ-loop
 codes-after-requires c κs = search needs
 
--- src/lib.rt:105:9
 add-i : tie.Need-add-i Inv-loop μ-loop
 add-i c = search needs
 
--- src/lib.rt:100:5
 loop-less : tie.Need-loop-less Inv-loop μ-loop
 loop-less c = search needs
 
--- src/lib.rt:100:5
 loop-again : tie.Need-loop-again Inv-loop μ-loop
 loop-again c =
     let a = c .before .before .before .before .before .before .before .before .before .before .before .before .args in let l = c .before .before .before .before .before .before .loop in
     c .codes-after .ensures (a .heights .now) (a .ys .now) (a .colours .now) (a .k) (a .k) (l .inv)
     (λ p u. record { site = l .i; there = c .before .before .before .before .before .loop-test .taken; coded = refl; below = λ j e. rw (sym (c .before .before .before .before .before .before .before .before .top-of .ensures j e)) p; above = rw (sym (c .before .before .before .before .before .before .before .get .ensures)) u })
 
--- src/lib.rt:92:1
 returns-2 : tie.Need-returns-2 Inv-loop μ-loop
 returns-2 c =
     c .before .loop .inv

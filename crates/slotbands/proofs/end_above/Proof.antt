@@ -13,52 +13,41 @@ Inv-loop heights ys k bottom n₀ n = (n ≤ length ys) × ((i : ℕ) → n ≤ 
 abbrev μ-loop : tie.MeasureT-loop
 μ-loop heights ys k bottom n₀ n = n
 
--- src/lib.rt:286:9
 get-requires : tie.Need-get-requires Inv-loop μ-loop
 get-requires c κs = search needs
 
--- src/lib.rt:288:5
 loop-holds : tie.Need-loop-holds Inv-loop μ-loop
 loop-holds c =
     (omega arith, λ i l u. absurd (omega arith))
 
--- src/lib.rt:289:15
 sub-if1 : tie.Need-sub-if1 Inv-loop μ-loop
 sub-if1 c = search needs
 
--- src/lib.rt:289:12
 mul-if1 : tie.Need-mul-if1 Inv-loop μ-loop
 mul-if1 c = search needs
 
--- src/lib.rt:289:12
 shared-slice-read-if1 : tie.Need-shared-slice-read-if1 Inv-loop μ-loop
 shared-slice-read-if1 c = search needs
 
--- src/lib.rt:290:20
 cast-result : tie.Need-cast-result Inv-loop μ-loop
 cast-result c = search needs
 
--- src/lib.rt:290:13
 returns : tie.Need-returns Inv-loop μ-loop
 returns c =
     let l = c .before .before .before .loop in let p = c .before .before .before .before .before .before .before .pre in
     record { few = l .inv .0; some = λ i h u. p .1; lower = λ i h u. rw (sym (c .before .before .before .before .get .ensures)) (l .inv .1 i h u) }
 
--- src/lib.rt:292:9
 sub-n : tie.Need-sub-n Inv-loop μ-loop
 sub-n c = search needs
 
--- src/lib.rt:288:5
 loop-less : tie.Need-loop-less Inv-loop μ-loop
 loop-less c = search needs
 
--- src/lib.rt:288:5
 loop-again : tie.Need-loop-again Inv-loop μ-loop
 loop-again c =
     let l = c .before .before .before .loop in
     (omega arith, λ i h u. by-equal i (l .n - 1) (λ e. rw e (omega arith)) (λ z. l .inv .1 i (omega (arith, z)) u))
 
--- src/lib.rt:282:1
 returns-2 : tie.Need-returns-2 Inv-loop μ-loop
 returns-2 c =
     let l = c .before .loop in let p = c .before .before .before .before .before .pre in

@@ -13,61 +13,48 @@ Inv-loop heights ys a top i₀ i = (i ≤ length ys) × ((j : ℕ) → j < i →
 abbrev μ-loop : tie.MeasureT-loop
 μ-loop heights ys a top i₀ i = length ys - i
 
--- src/lib.rt:268:9
 returns : tie.Need-returns Inv-loop μ-loop
 returns c =
     record { few = omega arith; some = λ i h. absurd (omega arith); higher = λ i h. absurd (omega arith) }
 
--- src/lib.rt:270:28
 sub-get : tie.Need-sub-get Inv-loop μ-loop
 sub-get c = search needs
 
--- src/lib.rt:270:9
 get-requires : tie.Need-get-requires Inv-loop μ-loop
 get-requires c κs = search needs
 
--- src/lib.rt:272:5
 loop-holds : tie.Need-loop-holds Inv-loop μ-loop
 loop-holds c =
     (omega arith, λ j l. absurd (omega arith))
 
--- src/lib.rt:273:19
 mul-if2 : tie.Need-mul-if2 Inv-loop μ-loop
 mul-if2 c = search needs
 
--- src/lib.rt:273:19
 shared-slice-read-if2 : tie.Need-shared-slice-read-if2 Inv-loop μ-loop
 shared-slice-read-if2 c = search needs
 
--- src/lib.rt:274:20
 cast-result : tie.Need-cast-result Inv-loop μ-loop
 cast-result c = search needs
 
--- src/lib.rt:274:13
 returns-2 : tie.Need-returns-2 Inv-loop μ-loop
 returns-2 c =
     let l = c .before .before .before .loop in
     record { few = l .inv .0; some = λ i h. omega (arith, c .before .before .before .before .before .if1 .left); higher = λ i h. rw (sym (c .before .before .before .before .get .ensures)) (l .inv .1 i h) }
 
--- src/lib.rt:276:9
 add-i : tie.Need-add-i Inv-loop μ-loop
 add-i c = search needs
 
--- src/lib.rt:272:5
 loop-less : tie.Need-loop-less Inv-loop μ-loop
 loop-less c = search needs
 
--- src/lib.rt:272:5
 loop-again : tie.Need-loop-again Inv-loop μ-loop
 loop-again c =
     let l = c .before .before .before .loop in
     (omega arith, λ j h. by-equal j (l .i) (λ e. rw e (omega arith)) (λ z. l .inv .1 j (omega (arith, z))))
 
--- src/lib.rt:278:5
 cast-result-2 : tie.Need-cast-result-2 Inv-loop μ-loop
 cast-result-2 c = search needs
 
--- src/lib.rt:263:1
 returns-3 : tie.Need-returns-3 Inv-loop μ-loop
 returns-3 c =
     let l = c .before .loop in

@@ -14,58 +14,46 @@ Inv-loop heights ys colours bands₀ ends₀ first₀ k₀ bands ends first k = 
 abbrev μ-loop : tie.MeasureT-loop
 μ-loop heights ys colours bands₀ ends₀ first₀ k₀ bands ends first k = length heights - k
 
--- src/lib.rt:118:5
 loop-holds : tie.Need-loop-holds Inv-loop μ-loop
 loop-holds c =
     let a = c .before .before .before .before .before .args in (refl, refl, omega arith, marks-none (a .heights .now) (a .ys .now) (a .colours .now) (a .bands .now) (a .ends .now))
 
--- src/lib.rt:119:42
 cast-end-above : tie.Need-cast-end-above Inv-loop μ-loop
 cast-end-above c =
     omega (arith, c .before .before .before .before .before .before .before .pre .0 .0, c .loop-test .taken)
 
--- src/lib.rt:119:13
 end-above-requires : tie.Need-end-above-requires Inv-loop μ-loop
 end-above-requires c κs =
     (c .before .before .before .before .before .before .before .pre .0 .1, c .loop-test .taken)
 
--- src/lib.rt:120:53
 cast-band-codes : tie.Need-cast-band-codes Inv-loop μ-loop
 cast-band-codes c =
     omega (arith, c .before .before .before .before .before .before .before .before .pre .0 .0, c .before .loop-test .taken)
 
--- src/lib.rt:120:20
 band-codes-requires : tie.Need-band-codes-requires Inv-loop μ-loop
 band-codes-requires c κs =
     c .before .before .before .before .before .before .before .before .pre .0 .2
 
--- src/lib.rt:120:9
 mul-bands : tie.Need-mul-bands Inv-loop μ-loop
 mul-bands c = search needs
 
--- src/lib.rt:120:9
 slice-write-bands : tie.Need-slice-write-bands Inv-loop μ-loop
 slice-write-bands c =
     omega (arith, c .before .before .before .before .before .before .before .before .before .pre .1 .0, c .before .before .before .loop .inv .0, c .before .before .loop-test .taken)
 
--- src/lib.rt:121:9
 mul-ends : tie.Need-mul-ends Inv-loop μ-loop
 mul-ends c = search needs
 
--- src/lib.rt:121:9
 slice-write-ends : tie.Need-slice-write-ends Inv-loop μ-loop
 slice-write-ends c =
     omega (arith, c .before .before .before .before .before .before .before .before .before .pre .1 .1, c .before .before .before .loop .inv .1, c .before .before .loop-test .taken)
 
--- src/lib.rt:123:9
 add-k : tie.Need-add-k Inv-loop μ-loop
 add-k c = search needs
 
--- src/lib.rt:118:5
 loop-less : tie.Need-loop-less Inv-loop μ-loop
 loop-less c = search needs
 
--- src/lib.rt:118:5
 loop-again : tie.Need-loop-again Inv-loop μ-loop
 loop-again c =
     let a = c .before .before .before .before .before .before .before .before .before .args in let l = c .before .before .before .loop in let p = c .before .before .before .before .before .before .before .before .before .pre in
@@ -77,17 +65,14 @@ loop-again c =
       marks-more (a .heights .now) (a .ys .now) (a .colours .now) (l .bands) (l .ends) (l .k) (c .band-codes .result) (c .before .end-above .result) h u (c .band-codes .ensures) (c .before .end-above .ensures) (l .inv .3),
     )
 
--- src/lib.rt:111:1
 same-length : tie.Need-same-length Inv-loop μ-loop
 same-length c =
     c .before .loop .inv .0
 
--- src/lib.rt:111:1
 same-length-2 : tie.Need-same-length-2 Inv-loop μ-loop
 same-length-2 c =
     c .before .loop .inv .1
 
--- src/lib.rt:111:1
 returns : tie.Need-returns Inv-loop μ-loop
 returns c =
     let l = c .before .loop in let e : l .k ≡ length (c .before .before .before .before .before .before .before .args .heights .now) = omega arith in rw e at (l .inv .3)

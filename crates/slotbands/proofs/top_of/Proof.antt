@@ -5,19 +5,15 @@ use borrow.Author.Needs.{needs}
 use Rattle.slotbands.proofs.top_of.Statement.{statement}
 use Rattle.slotbands.proofs.top_of.Tie as tie
 
--- src/lib.rt:257:9
 returns : tie.Need-returns
 returns c = search needs
 
--- src/lib.rt:259:18
 sub-get : tie.Need-sub-get
 sub-get c = search needs
 
--- src/lib.rt:259:5
 get-requires : tie.Need-get-requires
 get-requires c κs = search needs
 
--- src/lib.rt:253:1
 returns-2 : tie.Need-returns-2
 returns-2 c =
     let a = c .before .before .before .args in

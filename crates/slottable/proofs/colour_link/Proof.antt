@@ -7,93 +7,74 @@ use borrow.Author.Needs.{needs}
 use Rattle.slottable.proofs.colour_link.Statement.{statement}
 use Rattle.slottable.proofs.colour_link.Tie as tie
 
--- src/lib.rt:267:13
 add-k : tie.Need-add-k
 add-k c =
     let p = c .before .before .before .before .before .before .before .before .before .pre in omega (arith, p .0 .few-slots, p .1 .0 .0)
 
--- src/lib.rt:268:40
 add-is-far : tie.Need-add-is-far
 add-is-far c =
     let p = c .before .before .before .before .before .before .before .before .before .pre in omega (arith, p .0 .few-colours, p .1 .0 .1)
 
--- src/lib.rt:268:9
 is-far-requires : tie.Need-is-far-requires
 is-far-requires c κs = search needs
 
--- src/lib.rt:269:9
 returns : tie.Need-returns
 returns c =
     let a = c .before .before .before .before .before .before .before .before .before .before .before .args in let p = c .before .before .before .before .before .before .before .before .before .before .before .pre in
     row-near (a .q) (a .heights .now) (a .bounds .now) (a .radices .now) (a .draws .now) (a .ys .now) (a .colours .now) (a .caps .now) (p .0) (a .d) (p .1 .0 .1) (a .a) (a .code) (a .j) (a .row .now) (c .before .is-far .result) (c .before .is-far .ensures) (not-true (c .before .is-far .result) (c .if1 .taken)) (p .1 .1 .1)
 
--- src/lib.rt:271:74
 add-strip-between : tie.Need-add-strip-between
 add-strip-between c =
     let p = c .before .before .before .before .before .before .before .before .before .before .before .pre in omega (arith, p .0 .few-colours, p .1 .0 .1)
 
--- src/lib.rt:271:9
 strip-between-requires : tie.Need-strip-between-requires
 strip-between-requires c κs =
     let p = c .before .before .before .before .before .before .before .before .before .before .before .pre in
     ((p .0 .colours-long, p .0 .caps-long, omega (arith, p .1 .0 .0), omega (arith, p .0 .few-slots, p .1 .0 .0)), (p .1 .0 .4, p .1 .0 .5))
 
--- src/lib.rt:273:9
 returns-2 : tie.Need-returns-2
 returns-2 c =
     let a = c .before .before .before .before .before .before .before .before .before .before .before .before .before .args in let p = c .before .before .before .before .before .before .before .before .before .before .before .before .before .pre in
     row-lost (a .q) (a .heights .now) (a .bounds .now) (a .radices .now) (a .draws .now) (a .ys .now) (a .colours .now) (a .caps .now) (p .0) (a .d) (p .1 .0 .1) (a .a) (a .code) (a .j) (a .row .now) (c .before .strip-between .result) (c .before .strip-between .ensures) (c .if2 .taken) (p .1 .1 .1)
 
--- src/lib.rt:275:9
 get-requires : tie.Need-get-requires
 get-requires c κs = search needs
 
--- src/lib.rt:276:38
 get-requires-2 : tie.Need-get-requires-2
 get-requires-2 c κs = search needs
 
--- src/lib.rt:276:60
 get-requires-3 : tie.Need-get-requires-3
 get-requires-3 c κs = search needs
 
--- src/lib.rt:276:9
 block-size-requires : tie.Need-block-size-requires
 block-size-requires c κs =
     let a = c .before .before .before .before .before .before .before .before .before .before .before .before .before .before .before .before .args in let p = c .before .before .before .before .before .before .before .before .before .before .before .before .before .before .before .before .pre in
     product-of (a .q) (a .heights .now) (a .bounds .now) (a .radices .now) (a .draws .now) (a .ys .now) (a .colours .now) (a .caps .now) (p .0) (a .d) (p .1 .0 .1) (c .before .before .get .result) (c .get3 .result) (c .before .before .get .ensures) (c .get3 .ensures)
 
--- src/lib.rt:277:29
 add-row-start : tie.Need-add-row-start
 add-row-start c =
     omega (arith, c .before .before .before .before .before .before .before .before .before .before .before .before .before .before .before .before .before .pre .0 .few-slots, c .before .before .before .before .before .before .before .before .before .before .before .before .before .before .before .before .before .pre .1 .0)
 
--- src/lib.rt:277:36
 add-row-start-2 : tie.Need-add-row-start-2
 add-row-start-2 c =
     omega (arith, c .before .before .before .before .before .before .before .before .before .before .before .before .before .before .before .before .before .pre .0 .few-colours, c .before .before .before .before .before .before .before .before .before .before .before .before .before .before .before .before .before .pre .1 .0)
 
--- src/lib.rt:277:9
 row-start-requires : tie.Need-row-start-requires
 row-start-requires c κs =
     let p = c .before .before .before .before .before .before .before .before .before .before .before .before .before .before .before .before .before .pre in (omega (arith, p .0 .few-slots, p .1 .0), omega (arith, p .0 .few-colours, p .1 .0), p .0 .few-colours, p .0 .few-budgets)
 
--- src/lib.rt:278:27
 cast-link : tie.Need-cast-link
 cast-link c = search needs
 
--- src/lib.rt:278:47
 cast-link-2 : tie.Need-cast-link-2
 cast-link-2 c = search needs
 
--- src/lib.rt:278:62
 cast-link-3 : tie.Need-cast-link-3
 cast-link-3 c = search needs
 
--- src/lib.rt:278:77
 link-cost-requires : tie.Need-link-cost-requires
 link-cost-requires c κs = search needs
 
--- src/lib.rt:278:5
 link-requires : tie.Need-link-requires
 link-requires c κs =
     let a = c .before .before .before .before .before .before .before .before .before .before .before .before .before .before .before .before .before .before .before .before .before .args in let p = c .before .before .before .before .before .before .before .before .before .before .before .before .before .before .before .before .before .before .before .before .before .pre in
@@ -102,12 +83,10 @@ link-requires c κs =
     (c .before .before .before .before .before .before .before .get .ensures) s (p .1 .0 .2)
     (omega (arith, c .before .before .before .row-start .ensures, p .1 .0 .3, row-there (a .q) (a .heights .now) (a .a + a .j + 1) (a .d + 1) (p .0 .some-budget) (omega (arith, p .1 .0)) (omega (arith, p .1 .0))))
 
--- src/lib.rt:245:1
 same-length : tie.Need-same-length
 same-length c =
     c .before .before .link .kept .0
 
--- src/lib.rt:245:1
 returns-3 : tie.Need-returns-3
 returns-3 c =
     let a = c .before .before .before .before .before .before .before .before .before .before .before .before .before .before .before .before .before .before .before .before .before .before .before .before .args in let p = c .before .before .before .before .before .before .before .before .before .before .before .before .before .before .before .before .before .before .before .before .before .before .before .before .pre in

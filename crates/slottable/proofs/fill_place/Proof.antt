@@ -16,7 +16,6 @@ Inv-loop q heights bounds radices draws ys colours caps bands ends work₀ a fir
 abbrev μ-loop : tie.MeasureT-loop
 μ-loop q heights bounds radices draws ys colours caps bands ends work₀ a first last start row₀ code₀ work row code = last + 1 - code
 
--- src/lib.rt:221:5
 first-below-requires : tie.Need-first-below-requires Inv-loop μ-loop
 first-below-requires c κs =
     c .before .before .before .before .before .before .before .before .before .before .pre .0 .few-sites
@@ -26,32 +25,26 @@ loop-holds c =
     let a = c .before .before .before .before .before .before .before .before .before .before .before .args in
     (refl, length-replicate {A = ℕ} 64 0, omega arith, right-none (tableBy (a .q) (a .heights .now) (a .bounds .now) (a .radices .now) (a .ys .now) (a .colours .now)) (capsIn (a .caps .now)) (a .q .budgets) (a .a) (a .work .now) (a .first) (c .before .before .before .before .before .before .before .before .before .before .before .pre .1 .1), refl)
 
--- src/lib.rt:234:13
 slice-aggregate-table-row : tie.Need-slice-aggregate-table-row Inv-loop μ-loop
 slice-aggregate-table-row c =
     sym (c .before .before .before .loop .inv .1)
 
--- src/lib.rt:222:9
 table-row-requires : tie.Need-table-row-requires Inv-loop μ-loop
 table-row-requires c κs =
     let p = c .before .before .before .before .before .before .before .before .before .before .before .before .before .before .before .pre in let l = c .before .before .before .loop in
     (p .0, ((p .1 .0 .0, omega (arith, p .0 .few-budgets, l .inv .1), omega (arith, p .1 .0 .1, l .inv .0), p .1 .0 .2, c .before .before .before .before .first-below .ensures), l .inv .3 .below))
 
--- src/lib.rt:238:25
 slice-aggregate-store-row : tie.Need-slice-aggregate-store-row Inv-loop μ-loop
 slice-aggregate-store-row c =
     sym (c .before .before .before .table-row .kept .1 .1 .1 .1 .1 .1 .1 .1 .1 .1 .1 .0 ∙ c .before .before .before .before .before .before .before .loop .inv .1)
 
--- src/lib.rt:238:31
 row-start-requires : tie.Need-row-start-requires Inv-loop μ-loop
 row-start-requires c κs =
     let p = c .before .before .before .before .before .before .before .before .before .before .before .before .before .before .before .before .before .before .before .pre in (omega (arith, p .0 .few-slots, p .1 .0 .0), omega (arith, p .0 .few-colours, p .1 .0 .3, c .before .before .before .before .before .before .loop-test .taken), p .0 .few-colours, p .0 .few-budgets)
 
--- src/lib.rt:238:54
 cast-store-row : tie.Need-cast-store-row Inv-loop μ-loop
 cast-store-row c = search needs
 
--- src/lib.rt:238:9
 store-row-requires : tie.Need-store-row-requires Inv-loop μ-loop
 store-row-requires c κs =
     let a = c .before .before .before .before .before .before .before .before .before .before .before .before .before .before .before .before .before .before .before .before .before .args in let p = c .before .before .before .before .before .before .before .before .before .before .before .before .before .before .before .before .before .before .before .before .before .pre in let l = c .before .before .before .before .before .before .before .before .before .loop in (
@@ -59,18 +52,15 @@ store-row-requires c κs =
       omega (arith, p .0 .few-budgets, c .before .before .before .before .before .table-row .kept .1 .1 .1 .1 .1 .1 .1 .1 .1 .1 .1 .0, l .inv .1),
     )
 
--- src/lib.rt:239:9
 add-code : tie.Need-add-code Inv-loop μ-loop
 add-code c =
     let p = c .before .before .before .before .before .before .before .before .before .before .before .before .before .before .before .before .before .before .before .before .before .before .before .before .pre in
     omega (arith, p .0 .few-colours, p .1 .0 .3, c .before .before .before .before .before .before .before .before .before .before .before .loop-test .taken)
 
--- src/lib.rt:221:5
 loop-less : tie.Need-loop-less Inv-loop μ-loop
 loop-less c =
     omega (arith, c .before .before .before .before .before .before .before .before .before .before .before .loop-test .taken)
 
--- src/lib.rt:221:5
 loop-again : tie.Need-loop-again Inv-loop μ-loop
 loop-again c =
     let a = c .before .before .before .before .before .before .before .before .before .before .before .before .before .before .before .before .before .before .before .before .before .before .before .before .args in let p = c .before .before .before .before .before .before .before .before .before .before .before .before .before .before .before .before .before .before .before .before .before .before .before .before .pre in let l = c .before .before .before .before .before .before .before .before .before .before .before .before .loop in
@@ -85,12 +75,10 @@ loop-again c =
           (omega (arith, c .before .before .before .before .row-start .ensures, row-there (a .q) (a .heights .now) (a .a) (l .code) (p .0 .some-budget) (omega (arith, p .1 .0 .0)) t)) ∙ l .inv .4,
     )
 
--- src/lib.rt:197:1
 same-length : tie.Need-same-length Inv-loop μ-loop
 same-length c =
     c .before .loop .inv .0
 
--- src/lib.rt:197:1
 returns : tie.Need-returns Inv-loop μ-loop
 returns c =
     let a = c .before .before .before .before .before .before .before .before .before .before .before .before .before .args in let l = c .before .loop in

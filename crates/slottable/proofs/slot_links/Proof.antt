@@ -15,15 +15,12 @@ Inv-loop q heights bounds radices draws ys colours caps work row₀ a code j sta
 abbrev μ-loop : tie.MeasureT-loop
 μ-loop q heights bounds radices draws ys colours caps work row₀ a code j start end other last d₀ row d = q .colours - d
 
--- src/lib.rt:552:9
 end-colour-requires : tie.Need-end-colour-requires Inv-loop μ-loop
 end-colour-requires c κs = search needs
 
--- src/lib.rt:553:9
 first-colour-requires : tie.Need-first-colour-requires Inv-loop μ-loop
 first-colour-requires c κs = search needs
 
--- src/lib.rt:554:5
 loop-holds : tie.Need-loop-holds Inv-loop μ-loop
 loop-holds c =
     let a = c .before .before .before .before .before .before .before .before .before .before .before .args in let p = c .before .before .before .before .before .before .before .before .before .before .before .pre in
@@ -34,39 +31,33 @@ loop-holds c =
           (λ d l. p .1 .0 .5 d (λ z. omega arith) (λ z. omega arith)) (p .1 .1 .1),
     )
 
--- src/lib.rt:555:9
 colour-link-requires : tie.Need-colour-link-requires Inv-loop μ-loop
 colour-link-requires c κs =
     let a = c .before .before .before .before .before .before .before .before .before .before .before .before .before .before .args in let p = c .before .before .before .before .before .before .before .before .before .before .before .before .before .before .pre in let l = c .before .before .loop in
     let s = colours-last (a .other) (a .q .colours) (c .before .before .before .before .end-colour .result) (c .before .before .before .before .end-colour .ensures) in
     (p .0, ((p .1 .0 .0, omega (arith, c .before .loop-test .taken, s .0), omega (arith, p .1 .0 .1, l .inv .0), p .1 .0 .2, p .1 .0 .3, p .1 .0 .4), (p .1 .1 .0, l .inv .2)))
 
--- src/lib.rt:573:9
 add-d : tie.Need-add-d Inv-loop μ-loop
 add-d c =
     let a = c .before .before .before .before .before .before .before .before .before .before .before .before .before .before .before .before .before .args in let p = c .before .before .before .before .before .before .before .before .before .before .before .before .before .before .before .before .before .pre in
     let s = colours-last (a .other) (a .q .colours) (c .before .before .before .before .before .before .before .end-colour .result) (c .before .before .before .before .before .before .before .end-colour .ensures) in
     omega (arith, p .0 .few-colours, c .before .before .before .before .loop-test .taken, s .0)
 
--- src/lib.rt:554:5
 loop-less : tie.Need-loop-less Inv-loop μ-loop
 loop-less c =
     let a = c .before .before .before .before .before .before .before .before .before .before .before .before .before .before .before .before .before .args in
     let s = colours-last (a .other) (a .q .colours) (c .before .before .before .before .before .before .before .end-colour .result) (c .before .before .before .before .before .before .before .end-colour .ensures) in
     omega (arith, c .before .before .before .before .loop-test .taken, s .0)
 
--- src/lib.rt:554:5
 loop-again : tie.Need-loop-again Inv-loop μ-loop
 loop-again c =
     let a = c .before .before .before .before .before .before .before .before .before .before .before .before .before .before .before .before .before .args in let l = c .before .before .before .before .before .loop in
     let s = colours-last (a .other) (a .q .colours) (c .before .before .before .before .before .before .before .end-colour .result) (c .before .before .before .before .before .before .before .end-colour .ensures) in
     (c .before .before .colour-link .kept .1 .1 .1 .1 .1 .1 .1 .1 .1 .0 ∙ l .inv .0, omega (arith, c .before .before .before .before .loop-test .taken, s .0), rw add-one (c .before .before .colour-link .ensures))
 
--- src/lib.rt:528:1
 same-length : tie.Need-same-length Inv-loop μ-loop
 same-length c = search needs
 
--- src/lib.rt:528:1
 returns : tie.Need-returns Inv-loop μ-loop
 returns c =
     let a = c .before .before .before .before .before .before .before .before .before .before .before .before .before .args in let p = c .before .before .before .before .before .before .before .before .before .before .before .before .before .pre in let l = c .before .loop in

@@ -17,32 +17,26 @@ Inv-loop q heights bounds radices draws ys colours caps bands ends work row₀ a
 abbrev μ-loop : tie.MeasureT-loop
 μ-loop q heights bounds radices draws ys colours caps bands ends work row₀ a code start m all last other₀ j₀ row other j = length heights - (a + j)
 
--- src/lib.rt:610:13
 cast-m : tie.Need-cast-m Inv-loop μ-loop
 cast-m c =
     omega (arith, c .before .before .before .before .before .before .before .before .before .before .before .pre .0 .few-slots)
 
--- src/lib.rt:612:15
 cast-all : tie.Need-cast-all Inv-loop μ-loop
 cast-all c =
     omega (arith, c .before .before .before .before .before .before .before .before .before .before .before .pre .0 .few-sites)
 
--- src/lib.rt:613:9
 strip-between-requires : tie.Need-strip-between-requires Inv-loop μ-loop
 strip-between-requires c κs =
     let p = c .before .before .before .before .before .before .before .before .before .before .before .pre in
     ((p .0 .colours-long, p .0 .caps-long, p .1 .0 .0, omega (arith, p .0 .few-slots)), (p .1 .0 .4, record { few = omega arith; some = λ i l u. absurd (omega arith); lower = λ i l u. absurd (omega arith) }))
 
--- src/lib.rt:614:19
 cast-fill-row : tie.Need-cast-fill-row Inv-loop μ-loop
 cast-fill-row c = search needs
 
--- src/lib.rt:614:5
 fill-row-requires : tie.Need-fill-row-requires Inv-loop μ-loop
 fill-row-requires c κs =
     c .before .before .before .before .before .before .before .before .before .before .before .before .before .before .pre .1 .0 .1
 
--- src/lib.rt:617:5
 loop-holds : tie.Need-loop-holds Inv-loop μ-loop
 loop-holds c =
     let a = c .before .before .before .before .before .before .before .before .before .before .before .before .before .before .before .before .before .args in let p = c .before .before .before .before .before .before .before .before .before .before .before .before .before .before .before .before .before .pre in (
@@ -52,30 +46,24 @@ loop-holds c =
       λ l. barred-none (a .heights .now) (a .ys .now) (a .colours .now) (a .a) (a .a + 0) (a .code),
     )
 
--- src/lib.rt:617:11
 add-loop : tie.Need-add-loop Inv-loop μ-loop
 add-loop c =
     omega (arith, c .before .before .before .before .before .before .before .before .before .before .before .before .before .before .before .before .before .before .pre .0 .few-slots)
 
--- src/lib.rt:618:50
 add-get : tie.Need-add-get Inv-loop μ-loop
 add-get c =
     omega (arith, c .before .before .before .before .before .before .before .before .before .before .before .before .before .before .before .before .before .before .before .pre .0 .few-slots)
 
--- src/lib.rt:618:39
 get-requires : tie.Need-get-requires Inv-loop μ-loop
 get-requires c κs = search needs
 
--- src/lib.rt:618:9
 other-in-requires : tie.Need-other-in-requires Inv-loop μ-loop
 other-in-requires c κs = search needs
 
--- src/lib.rt:620:13
 same-length : tie.Need-same-length Inv-loop μ-loop
 same-length c =
     c .before .before .before .before .loop .inv .0 ∙ c .before .before .before .before .before .before .before .fill-row .kept .0
 
--- src/lib.rt:620:13
 returns : tie.Need-returns Inv-loop μ-loop
 returns c =
     let a = c .before .before .before .before .before .before .before .before .before .before .before .before .before .before .before .before .before .before .before .before .before .before .args in let p = c .before .before .before .before .before .before .before .before .before .before .before .before .before .before .before .before .before .before .before .before .before .before .pre in let l = c .before .before .before .before .loop in
@@ -83,16 +71,13 @@ returns c =
     (barred-more (a .heights .now) (a .ys .now) (a .colours .now) (a .bands .now) (a .ends .now) (p .0 .rising) (p .1 .0 .3) (a .a) (a .code) (a .a + l .j) (l .other) (c .before .other-in .result) (c .before .before .get .result) (omega arith) (c .before .before .before .loop-test .taken) (c .before .before .get .ensures) (l .inv .3) (c .before .other-in .ensures))
     (l .inv .2)
 
--- src/lib.rt:637:23
 add-get-2 : tie.Need-add-get-2 Inv-loop μ-loop
 add-get-2 c =
     omega (arith, c .before .before .before .before .before .before .before .before .before .before .before .before .before .before .before .before .before .before .before .before .before .before .before .pre .0 .few-slots)
 
--- src/lib.rt:637:13
 get-requires-2 : tie.Need-get-requires-2 Inv-loop μ-loop
 get-requires-2 c κs = search needs
 
--- src/lib.rt:622:9
 slot-links-requires : tie.Need-slot-links-requires Inv-loop μ-loop
 slot-links-requires c κs =
     let a = c .before .before .before .before .before .before .before .before .before .before .before .before .before .before .before .before .before .before .before .before .before .before .before .before .args in let p = c .before .before .before .before .before .before .before .before .before .before .before .before .before .before .before .before .before .before .before .before .before .before .before .before .pre in let l = c .before .before .before .before .before .before .loop in
@@ -101,17 +86,14 @@ slot-links-requires c κs =
     let b = barred-more (a .heights .now) (a .ys .now) (a .colours .now) (a .bands .now) (a .ends .now) (p .0 .rising) (p .1 .0 .3) (a .a) (a .code) (a .a + l .j) (l .other) (c .before .before .before .other-in .result) (c .before .before .before .before .get .result) (omega arith) t (c .before .before .before .before .get .ensures) (l .inv .3) (c .before .before .before .other-in .ensures) in
     (p .0, ((t, omega (arith, p .1 .0 .1, l .inv .0, c .before .before .before .before .before .before .before .before .before .fill-row .kept .0), p .1 .0 .2, p .1 .0 .4, e, b), (p .1 .1, l .inv .2)))
 
--- src/lib.rt:640:9
 add-j : tie.Need-add-j Inv-loop μ-loop
 add-j c =
     omega (arith, c .before .before .before .before .before .before .before .before .before .before .before .before .before .before .before .before .before .before .before .before .before .before .before .before .before .before .before .pre .0 .few-slots, c .before .before .before .before .before .before .before .before .loop-test .taken)
 
--- src/lib.rt:617:5
 loop-less : tie.Need-loop-less Inv-loop μ-loop
 loop-less c =
     omega (arith, c .before .before .before .before .before .before .before .before .loop-test .taken)
 
--- src/lib.rt:617:5
 loop-again : tie.Need-loop-again Inv-loop μ-loop
 loop-again c =
     let a = c .before .before .before .before .before .before .before .before .before .before .before .before .before .before .before .before .before .before .before .before .before .before .before .before .before .before .before .args in let p = c .before .before .before .before .before .before .before .before .before .before .before .before .before .before .before .before .before .before .before .before .before .before .before .before .before .before .before .pre in let l = c .before .before .before .before .before .before .before .before .before .loop in let t = c .before .before .before .before .before .before .before .before .loop-test .taken in
@@ -122,12 +104,10 @@ loop-again c =
       λ u. barred-down (a .heights .now) (a .ys .now) (a .colours .now) (p .0 .rising) (a .a) (a .code) (a .a + l .j) (a .a + (l .j + 1)) (c .before .before .before .before .before .before .other-in .result) (omega arith) u b,
     )
 
--- src/lib.rt:589:1
 same-length-2 : tie.Need-same-length-2 Inv-loop μ-loop
 same-length-2 c =
     c .before .loop .inv .0 ∙ c .before .before .before .before .fill-row .kept .0
 
--- src/lib.rt:589:1
 returns-2 : tie.Need-returns-2 Inv-loop μ-loop
 returns-2 c =
     let a = c .before .before .before .before .before .before .before .before .before .before .before .before .before .before .before .before .before .before .before .args in let p = c .before .before .before .before .before .before .before .before .before .before .before .before .before .before .before .before .before .before .before .pre in let l = c .before .loop in

@@ -18,77 +18,62 @@ abbrev μ-loop : tie.MeasureT-loop
 μ-loop q heights bounds radices draws ys colours caps bands ends work₀ a₀ work a =
     a
 
--- src/lib.rt:278:17
 cast-a : tie.Need-cast-a Inv-loop μ-loop
 cast-a c =
     omega (arith, c .before .before .before .before .before .before .before .before .before .before .pre .0 .few-slots)
 
--- src/lib.rt:278:17
 add-a : tie.Need-add-a Inv-loop μ-loop
 add-a c =
     omega (arith, c .before .before .before .before .before .before .before .before .before .before .pre .0 .few-slots)
 
--- src/lib.rt:279:5
 loop-holds : tie.Need-loop-holds Inv-loop μ-loop
 loop-holds c =
     (refl, omega arith, (λ b cb v l u p r t. absurd (omega arith)), (λ z. absurd (omega arith)), refl)
 
--- src/lib.rt:280:9
 sub-a : tie.Need-sub-a Inv-loop μ-loop
 sub-a c = search needs
 
--- src/lib.rt:294:13
 first-code-requires : tie.Need-first-code-requires Inv-loop μ-loop
 first-code-requires c κs = search needs
 
--- src/lib.rt:295:13
 last-code-requires : tie.Need-last-code-requires Inv-loop μ-loop
 last-code-requires c κs = search needs
 
--- src/lib.rt:281:9
 fill-place-requires : tie.Need-fill-place-requires Inv-loop μ-loop
 fill-place-requires c κs =
     let a = c .before .before .before .before .before .before .before .before .before .before .before .before .before .before .before .args in let p = c .before .before .before .before .before .before .before .before .before .before .before .before .before .before .before .pre in let l = c .before .before .before .before .loop in
     let n = codes-in (a .q .colours) (l .a - 1) (c .before .first-code .result) (c .last-code .result) (c .before .first-code .ensures) (c .last-code .ensures) in
     (p .0, ((omega (arith, l .inv .1), omega (arith, p .1 .0, l .inv .0), p .1 .1, n .1), l .inv .2))
 
--- src/lib.rt:279:5
 loop-less : tie.Need-loop-less Inv-loop μ-loop
 loop-less c =
     omega (arith, c .before .before .before .before .before .before .loop-test .taken)
 
--- src/lib.rt:279:5
 loop-again : tie.Need-loop-again Inv-loop μ-loop
 loop-again c =
     let a = c .before .before .before .before .before .before .before .before .before .before .before .before .before .before .before .before .before .before .args in let p = c .before .before .before .before .before .before .before .before .before .before .before .before .before .before .before .before .before .before .pre in let l = c .before .before .before .before .before .before .before .loop in
     let r = right-next (tableBy (a .q) (a .heights .now) (a .bounds .now) (a .radices .now) (a .ys .now) (a .colours .now)) (capsIn (a .caps .now)) (a .q .budgets) _ (l .a - 1) (c .before .before .before .before .first-code .result) (c .before .before .before .last-code .result) (c .before .before .before .before .first-code .ensures) (c .before .before .before .last-code .ensures) (c .before .before .fill-place .ensures .0) in
     (c .before .before .fill-place .kept .1 .1 .1 .1 .1 .1 .1 .1 .1 .1 .0 ∙ l .inv .0, omega (arith, l .inv .1), r .0, r .1, c .before .before .fill-place .ensures .1 ∙ l .inv .4)
 
--- src/lib.rt:298:16
 sub-all : tie.Need-sub-all Inv-loop μ-loop
 sub-all c =
     omega (arith, c .before .before .before .before .before .before .before .before .before .before .before .before .before .pre .0 .some-budget)
 
--- src/lib.rt:298:15
 cast-all : tie.Need-cast-all Inv-loop μ-loop
 cast-all c = search needs
 
--- src/lib.rt:299:5
 mul-result : tie.Need-mul-result Inv-loop μ-loop
 mul-result c = search needs
 
--- src/lib.rt:299:5
 slice-read-result : tie.Need-slice-read-result Inv-loop μ-loop
 slice-read-result c =
     let a = c .before .before .before .before .before .before .before .before .before .before .before .before .before .before .args in let p = c .before .before .before .before .before .before .before .before .before .before .before .before .before .before .pre in
     omega (arith, p .0 .some-budget, p .1 .0, c .before .before .before .loop .inv .0, row-there (a .q) (a .heights .now) 0 0 (p .0 .some-budget) (omega arith) (omega arith))
 
--- src/lib.rt:259:1
 same-length : tie.Need-same-length Inv-loop μ-loop
 same-length c =
     c .before .before .before .loop .inv .0
 
--- src/lib.rt:259:1
 returns : tie.Need-returns Inv-loop μ-loop
 unfolding value
 returns c =

@@ -1,42 +1,29 @@
 use mathlib.Core.Bool.{true, false}
 use Rattle.stripcosts.specs.Costs.{insideOf, siteOf}
-use mathlib.Core.Path.{_≡_, refl, ap, sym, _∙_}
-use mathlib.Core.List.{List, [], _∷_, _++_}
-use mathlib.Core.Logic.{⊎-elim}
-use Prim.Native.Nat.{ℕ, zero, suc, _+_, _-_, _*_, _<_, _≤_}
-use native.Mathlib.Omega.{arith}
-use native.Mathlib.Numerals.{add-one}
-use lib.ListN.{length, getD, take, drop, set, length-set}
-use borrow.Author.Tests.{eq-eqb, ne-eqb, lt-ltb, le-ltb, le-leb, lt-leb}
+use mathlib.Core.Path.{_≡_, sym, _∙_}
+use Prim.Native.Nat.{_-_}
 use borrow.Author.Needs.{needs}
 use Rattle.stripcosts.proofs.site_cost.Statement.{statement}
 use Rattle.stripcosts.proofs.site_cost.Tie as tie
 
--- src/lib.rt:110:8
 is-inside-requires : tie.Need-is-inside-requires
 is-inside-requires c κs = search needs
 
--- src/lib.rt:111:30
 fits-up-requires : tie.Need-fits-up-requires
 fits-up-requires c κs = search needs
 
--- src/lib.rt:111:13
 tie-cost-requires : tie.Need-tie-cost-requires
 tie-cost-requires c κs = search needs
 
--- src/lib.rt:112:32
 fits-down-requires : tie.Need-fits-down-requires
 fits-down-requires c κs = search needs
 
--- src/lib.rt:112:13
 tie-cost-requires-2 : tie.Need-tie-cost-requires-2
 tie-cost-requires-2 c κs = search needs
 
--- src/lib.rt:113:9
 least-of-requires : tie.Need-least-of-requires
 least-of-requires c κs = search needs
 
--- src/lib.rt:113:9
 returns : tie.Need-returns
 unfolding siteOf
 returns c =
@@ -44,7 +31,6 @@ returns c =
     let e : insideOf (a .above) (a .below) (a .y) ≡ true = sym (c .before .before .before .before .before .before .is-inside .ensures) ∙ c .before .before .before .before .before .if1 .taken in
     rw (e, c .least-of .ensures, c .before .tie-cost2 .ensures, c .before .before .fits-down .ensures, c .before .before .before .tie-cost .ensures, c .before .before .before .before .fits-up .ensures)
 
--- src/lib.rt:107:1
 returns-2 : tie.Need-returns-2
 unfolding siteOf
 returns-2 c =

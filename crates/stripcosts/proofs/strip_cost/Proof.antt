@@ -1,18 +1,11 @@
-use mathlib.Core.Bool.{cond}
-use Prim.Native.Nat.{min}
-use Rattle.search.specs.Cost.{plus}
 use Rattle.search.specs.Sums.{sumTo}
 use Rattle.optimum.specs.CostWord.{topWord}
 use Rattle.stripcosts.specs.Costs.{siteOf, stripOf}
 use Rattle.stripcosts.proofs.Costs.{sum-more, sum-ends, site-out, sum-before, sum-after}
-use mathlib.Core.Path.{_≡_, refl, ap, sym, _∙_}
-use mathlib.Core.List.{List, [], _∷_, _++_}
-use mathlib.Core.Logic.{⊎-elim}
-use Prim.Native.Nat.{ℕ, zero, suc, _+_, _-_, _*_, _<_, _≤_}
+use mathlib.Core.Path.{_≡_, sym, _∙_}
+use Prim.Native.Nat.{_-_, _<_, _≤_}
 use native.Mathlib.Omega.{arith}
-use native.Mathlib.Numerals.{add-one}
-use lib.ListN.{length, getD, take, drop, set, length-set}
-use borrow.Author.Tests.{eq-eqb, ne-eqb, lt-ltb, le-ltb, le-leb, lt-leb}
+use lib.ListN.{length, getD}
 use borrow.Author.Needs.{needs}
 use Rattle.stripcosts.proofs.strip_cost.Statement.{statement}
 use Rattle.stripcosts.proofs.strip_cost.Tie as tie
@@ -23,7 +16,6 @@ Inv-loop q above below ys colours caps start end last sum₀ i₀ sum i = (i ≤
 abbrev μ-loop : tie.MeasureT-loop
 μ-loop q above below ys colours caps start end last sum₀ i₀ sum i = last - i
 
--- src/lib.rt:126:5
 loop-holds : tie.Need-loop-holds Inv-loop μ-loop
 loop-holds c =
     let a = c .before .before .before .args in let p = c .before .before .before .pre in (
@@ -33,47 +25,37 @@ loop-holds c =
           (λ i l. site-out (a .q) (a .above) (a .below) (getD (a .ys .now) i 0) (getD (a .colours .now) i 0) (getD (a .caps .now) i 0) (p .2 .before i l)),
     )
 
--- src/lib.rt:127:47
 mul-site-cost : tie.Need-mul-site-cost Inv-loop μ-loop
 mul-site-cost c =
     omega (arith, c .before .before .before .before .before .pre .2 .few)
 
--- src/lib.rt:127:47
 shared-slice-read-site-cost : tie.Need-shared-slice-read-site-cost Inv-loop μ-loop
 shared-slice-read-site-cost c =
     omega (arith, c .before .before .before .before .before .before .pre .2 .few)
 
--- src/lib.rt:127:54
 mul-site-cost-2 : tie.Need-mul-site-cost-2 Inv-loop μ-loop
 mul-site-cost-2 c = search needs
 
--- src/lib.rt:127:54
 shared-slice-read-site-cost-2 : tie.Need-shared-slice-read-site-cost-2 Inv-loop μ-loop
 shared-slice-read-site-cost-2 c =
     omega (arith, c .before .before .before .before .before .before .before .pre .2 .few)
 
--- src/lib.rt:127:66
 mul-site-cost-3 : tie.Need-mul-site-cost-3 Inv-loop μ-loop
 mul-site-cost-3 c = search needs
 
--- src/lib.rt:127:66
 shared-slice-read-site-cost-3 : tie.Need-shared-slice-read-site-cost-3 Inv-loop μ-loop
 shared-slice-read-site-cost-3 c =
     omega (arith, c .before .before .before .before .before .before .before .before .pre .2 .few)
 
--- src/lib.rt:127:13
 site-cost-requires : tie.Need-site-cost-requires Inv-loop μ-loop
 site-cost-requires c κs = search needs
 
--- src/lib.rt:128:21
 sub-room : tie.Need-sub-room Inv-loop μ-loop
 sub-room c = search needs
 
--- src/lib.rt:128:20
 cast-room : tie.Need-cast-room Inv-loop μ-loop
 cast-room c = search needs
 
--- src/lib.rt:130:13
 returns : tie.Need-returns Inv-loop μ-loop
 unfolding stripOf
 returns c =
@@ -81,23 +63,18 @@ returns c =
     sum-ends (λ j. siteOf (a .q) (a .above) (a .below) (getD (a .ys .now) j 0) (getD (a .colours .now) j 0) (getD (a .caps .now) j 0)) (l .i) (length (a .ys .now)) (l .sum) (c .before .site-cost .result)
     (l .inv .2) (sym (c .before .site-cost .ensures)) (c .if1 .taken) (omega (arith, c .before .before .before .before .before .before .before .before .before .before .pre .2 .few, c .before .before .before .before .before .loop-test .taken))
 
--- src/lib.rt:132:16
 cast-sum : tie.Need-cast-sum Inv-loop μ-loop
 cast-sum c = search needs
 
--- src/lib.rt:132:9
 add-sum : tie.Need-add-sum Inv-loop μ-loop
 add-sum c = search needs
 
--- src/lib.rt:133:9
 add-i : tie.Need-add-i Inv-loop μ-loop
 add-i c = search needs
 
--- src/lib.rt:126:5
 loop-less : tie.Need-loop-less Inv-loop μ-loop
 loop-less c = search needs
 
--- src/lib.rt:126:5
 loop-again : tie.Need-loop-again Inv-loop μ-loop
 loop-again c =
     let a = c .before .before .before .before .before .before .before .before .before .before .args in let l = c .before .before .before .before .before .before .loop in (
@@ -107,7 +84,6 @@ loop-again c =
           (l .inv .2) (sym (c .before .site-cost .ensures)) (omega arith),
     )
 
--- src/lib.rt:120:1
 returns-2 : tie.Need-returns-2 Inv-loop μ-loop
 unfolding stripOf
 returns-2 c =

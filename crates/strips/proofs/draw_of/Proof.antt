@@ -9,29 +9,23 @@ use Rattle.strips.proofs.draw_of.Reads as reads
 use Rattle.strips.proofs.draw_of.Lts as lts
 use Rattle.strips.proofs.opens.Reads as opens-reads
 
--- src/lib.rt:204:8
 opens-requires : tie.Need-opens-requires
 opens-requires c κs = search needs
 
--- src/lib.rt:205:17
 cast-c : tie.Need-cast-c
 cast-c c = search needs
 
--- src/lib.rt:206:16
 mul-result : tie.Need-mul-result
 mul-result c = search needs
 
--- src/lib.rt:206:16
 shared-slice-read-result : tie.Need-shared-slice-read-result
 shared-slice-read-result c = search needs
 
--- src/lib.rt:206:9
 returns : tie.Need-returns
 returns c =
     let a = c .before .before .before .before .before .before .before .before .args in
     sym (draw-opens (a .q) (a .heights .now) (a .bounds .now) (a .radices .now) (a .draws .now) (stripOf (a .p)) (pointOf (a .s)) (a .k) (sym (c .before .before .before .opens .ensures) ∙ c .before .before .if1 .taken))
 
--- src/lib.rt:199:1
 returns-2 : tie.Need-returns-2
 returns-2 c =
     let a = c .before .before .before .before .before .before .args in

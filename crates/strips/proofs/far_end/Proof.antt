@@ -15,50 +15,40 @@ Inv-loop q heights bounds p from c k₀ k = (0 < k → k < p .b) × ((j : ℕ) �
 abbrev μ-loop : tie.MeasureT-loop
 μ-loop q heights bounds p from c k₀ k = k - from
 
--- src/lib.rt:147:13
 add-c : tie.Need-add-c Inv-loop μ-loop
 add-c c = search needs
 
--- src/lib.rt:148:9
 monus-requires : tie.Need-monus-requires Inv-loop μ-loop
 monus-requires c κs = search needs
 
--- src/lib.rt:149:5
 loop-holds : tie.Need-loop-holds Inv-loop μ-loop
 loop-holds c =
     (λ h. omega (arith, c .monus .ensures), λ j h l. absurd (omega (arith, c .monus .ensures)))
 
--- src/lib.rt:150:50
 sub-is-far : tie.Need-sub-is-far Inv-loop μ-loop
 sub-is-far c = search needs
 
--- src/lib.rt:150:12
 is-far-requires : tie.Need-is-far-requires Inv-loop μ-loop
 is-far-requires c κs = search needs
 
--- src/lib.rt:151:13
 returns : tie.Need-returns Inv-loop μ-loop
 returns c =
     let l = c .before .before .before .loop in
     let t = c .before .before .loop-test .taken in
     record { low = omega arith; high = λ h. l .inv .0 (omega arith); near = l .inv .1; far = λ h. sym (c .before .is-far .ensures) ∙ c .if1 .taken }
 
--- src/lib.rt:153:9
 sub-k : tie.Need-sub-k Inv-loop μ-loop
 sub-k c = search needs
 
--- src/lib.rt:149:5
 loop-less : tie.Need-loop-less Inv-loop μ-loop
 loop-less c = search needs
 
--- src/lib.rt:149:5
 loop-again : tie.Need-loop-again Inv-loop μ-loop
 loop-again c =
     let l = c .before .before .before .loop in
     let t = c .before .before .loop-test .taken in
     (λ h. omega (arith, l .inv .0 (omega arith)), near-up _ _ (l .k) (l .inv .1) (sym (c .before .is-far .ensures) ∙ c .if1 .left))
 
--- src/lib.rt:143:1
 returns-2 : tie.Need-returns-2 Inv-loop μ-loop
 returns-2 c =
     let l = c .before .loop in

@@ -15,44 +15,35 @@ Inv-loop q heights bounds p c end k₀ k = (p .a ≤ k) × (p .a < k → k < p .
 abbrev μ-loop : tie.MeasureT-loop
 μ-loop q heights bounds p c end k₀ k = end - k
 
--- src/lib.rt:130:13
 add-c : tie.Need-add-c Inv-loop μ-loop
 add-c c = search needs
 
--- src/lib.rt:131:9
 monus-requires : tie.Need-monus-requires Inv-loop μ-loop
 monus-requires c κs = search needs
 
--- src/lib.rt:133:5
 loop-holds : tie.Need-loop-holds Inv-loop μ-loop
 loop-holds c =
     (omega arith, λ h. absurd (omega arith), λ j h l. absurd (omega arith))
 
--- src/lib.rt:134:12
 is-far-requires : tie.Need-is-far-requires Inv-loop μ-loop
 is-far-requires c κs = search needs
 
--- src/lib.rt:135:13
 returns : tie.Need-returns Inv-loop μ-loop
 returns c =
     let l = c .before .before .before .loop in
     record { low = l .inv .0; high = l .inv .1; near = l .inv .2; far = λ h. sym (c .before .is-far .ensures) ∙ c .if1 .taken }
 
--- src/lib.rt:137:9
 add-k : tie.Need-add-k Inv-loop μ-loop
 add-k c = search needs
 
--- src/lib.rt:133:5
 loop-less : tie.Need-loop-less Inv-loop μ-loop
 loop-less c = search needs
 
--- src/lib.rt:133:5
 loop-again : tie.Need-loop-again Inv-loop μ-loop
 loop-again c =
     let l = c .before .before .before .loop in
     (omega arith, λ h. omega (arith, c .before .before .before .before .monus .ensures, c .before .before .loop-test .taken), near-down _ _ (l .k) (l .inv .2) (sym (c .before .is-far .ensures) ∙ c .if1 .left))
 
--- src/lib.rt:126:1
 returns-2 : tie.Need-returns-2 Inv-loop μ-loop
 returns-2 c =
     let l = c .before .loop in

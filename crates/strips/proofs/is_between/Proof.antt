@@ -8,31 +8,24 @@ use Rattle.strips.proofs.is_between.Lts as lts
 use Rattle.words.proofs.both.Reads as both-reads
 use Rattle.words.proofs.less.Reads as less-reads
 
--- src/lib.rt:121:25
 add-less : tie.Need-add-less
 add-less c = search needs
 
--- src/lib.rt:121:15
 less-requires : tie.Need-less-requires
 less-requires c κs = search needs
 
--- src/lib.rt:121:38
 add-less-2 : tie.Need-add-less-2
 add-less-2 c = search needs
 
--- src/lib.rt:121:33
 less-requires-2 : tie.Need-less-requires-2
 less-requires-2 c κs = search needs
 
--- src/lib.rt:121:10
 both-requires : tie.Need-both-requires
 both-requires c κs = search needs
 
--- src/lib.rt:121:5
 both-requires-2 : tie.Need-both-requires-2
 both-requires-2 c κs = search needs
 
--- src/lib.rt:116:1
 returns : tie.Need-returns
 returns c =
     rw (c .both2 .ensures, c .before .both .ensures, c .before .before .less2 .ensures, c .before .before .before .less .ensures) refl

@@ -10,19 +10,15 @@ use Rattle.places.proofs.is_over.Reads as is-over-reads
 use Rattle.places.proofs.is_under.Reads as is-under-reads
 use Rattle.words.proofs.both.Reads as both-reads
 
--- src/lib.rt:64:10
 is-over-requires : tie.Need-is-over-requires
 is-over-requires c κs = search needs
 
--- src/lib.rt:64:49
 is-under-requires : tie.Need-is-under-requires
 is-under-requires c κs = search needs
 
--- src/lib.rt:64:5
 both-requires : tie.Need-both-requires
 both-requires c κs = search needs
 
--- src/lib.rt:61:1
 returns : tie.Need-returns
 unfolding inside
 returns c =

@@ -10,20 +10,16 @@ use Rattle.drops.proofs.apart_of.Reads as apart-of-reads
 use Rattle.costs.proofs.word_of.Reads as word-of-reads
 use Rattle.words.proofs.get.Reads as get-reads
 
--- src/lib.rt:181:28
 get-requires : tie.Need-get-requires
 get-requires c κs = search needs
 
--- src/lib.rt:181:19
 apart-of-requires : tie.Need-apart-of-requires
 apart-of-requires c κs = search needs
 
--- src/lib.rt:181:5
 word-of-requires : tie.Need-word-of-requires
 word-of-requires c κs =
     omega (arith, c .before .before .before .pre .heightLow (c .before .before .before .args .k))
 
--- src/lib.rt:177:1
 returns : tie.Need-returns
 returns c =
     c .word-of .ensures ∙ rw (c .before .apart-of .ensures, c .before .before .get .ensures)

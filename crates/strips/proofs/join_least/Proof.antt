@@ -13,51 +13,39 @@ use Rattle.words.proofs.choose.Reads as choose-reads
 use Rattle.words.proofs.lesser.Reads as lesser-reads
 use Rattle.words.proofs.monus.Reads as monus-reads
 
--- src/lib.rt:144:9
 monus-requires : tie.Need-monus-requires
 monus-requires c κs = search needs
 
--- src/lib.rt:145:9
 monus-requires-2 : tie.Need-monus-requires-2
 monus-requires-2 c κs = search needs
 
--- src/lib.rt:146:17
 cast-slot : tie.Need-cast-slot
 cast-slot c = search needs
 
--- src/lib.rt:147:28
 joins-up-requires : tie.Need-joins-up-requires
 joins-up-requires c κs = search needs
 
--- src/lib.rt:147:9
 both-requires : tie.Need-both-requires
 both-requires c κs = search needs
 
--- src/lib.rt:148:9
 joins-down-requires : tie.Need-joins-down-requires
 joins-down-requires c κs = search needs
 
--- src/lib.rt:149:30
 join-cost-requires : tie.Need-join-cost-requires
 join-cost-requires c κs = search needs
 
--- src/lib.rt:149:9
 choose-requires : tie.Need-choose-requires
 choose-requires c κs = search needs
 
--- src/lib.rt:150:32
 join-cost-requires-2 : tie.Need-join-cost-requires-2
 join-cost-requires-2 c κs = search needs
 
--- src/lib.rt:150:18
 choose-requires-2 : tie.Need-choose-requires-2
 choose-requires-2 c κs = search needs
 
--- src/lib.rt:150:5
 lesser-requires : tie.Need-lesser-requires
 lesser-requires c κs = search needs
 
--- src/lib.rt:139:1
 returns : tie.Need-returns
 unfolding joinLeast
 returns c =

@@ -9,19 +9,15 @@ use Rattle.strips.proofs.joins_down.Reads as joins-down-reads
 use Rattle.strips.proofs.joins_up.Reads as joins-up-reads
 use Rattle.words.proofs.either.Reads as either-reads
 
--- src/lib.rt:155:12
 joins-up-requires : tie.Need-joins-up-requires
 joins-up-requires c κs = search needs
 
--- src/lib.rt:155:51
 joins-down-requires : tie.Need-joins-down-requires
 joins-down-requires c κs = search needs
 
--- src/lib.rt:155:5
 either-requires : tie.Need-either-requires
 either-requires c κs = search needs
 
--- src/lib.rt:151:1
 returns : tie.Need-returns
 returns c =
     rw (c .either .ensures, c .before .joins-down .ensures, c .before .before .joins-up .ensures) refl

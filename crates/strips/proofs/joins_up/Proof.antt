@@ -12,35 +12,27 @@ use Rattle.places.proofs.is_clear.Reads as is-clear-reads
 use Rattle.words.proofs.both.Reads as both-reads
 use Rattle.words.proofs.same.Reads as same-reads
 
--- src/lib.rt:138:30
 add-same : tie.Need-add-same
 add-same c = search needs
 
--- src/lib.rt:138:20
 same-requires : tie.Need-same-requires
 same-requires c κs = search needs
 
--- src/lib.rt:138:49
 add-same-2 : tie.Need-add-same-2
 add-same-2 c = search needs
 
--- src/lib.rt:138:38
 same-requires-2 : tie.Need-same-requires-2
 same-requires-2 c κs = search needs
 
--- src/lib.rt:138:9
 both-requires : tie.Need-both-requires
 both-requires c κs = search needs
 
--- src/lib.rt:139:15
 is-clear-requires : tie.Need-is-clear-requires
 is-clear-requires c κs = search needs
 
--- src/lib.rt:139:5
 both-requires-2 : tie.Need-both-requires-2
 both-requires-2 c κs = search needs
 
--- src/lib.rt:134:1
 returns : tie.Need-returns
 unfolding joinsUp
 returns c =

@@ -10,23 +10,18 @@ use Rattle.strips.proofs.leaves_gap.Lts as lts
 use Rattle.places.proofs.is_far.Reads as is-far-reads
 use Rattle.words.proofs.both.Reads as both-reads
 
--- src/lib.rt:101:13
 add-c : tie.Need-add-c
 add-c c = search needs
 
--- src/lib.rt:102:10
 is-far-requires : tie.Need-is-far-requires
 is-far-requires c κs = search needs
 
--- src/lib.rt:102:55
 is-far-requires-2 : tie.Need-is-far-requires-2
 is-far-requires-2 c κs = search needs
 
--- src/lib.rt:102:5
 both-requires : tie.Need-both-requires
 both-requires c κs = search needs
 
--- src/lib.rt:97:1
 returns : tie.Need-returns
 unfolding gapLeft
 returns c =

@@ -11,29 +11,23 @@ use Rattle.costs.proofs.word_of.Reads as word-of-reads
 use Rattle.words.proofs.get.Reads as get-reads
 use Rattle.words.proofs.monus.Reads as monus-reads
 
--- src/lib.rt:174:19
 monus-requires : tie.Need-monus-requires
 monus-requires c κs = search needs
 
--- src/lib.rt:174:50
 get-requires : tie.Need-get-requires
 get-requires c κs = search needs
 
--- src/lib.rt:174:41
 apart-of-requires : tie.Need-apart-of-requires
 apart-of-requires c κs = search needs
 
--- src/lib.rt:174:19
 add-word-of : tie.Need-add-word-of
 add-word-of c =
     omega (arith, c .before .before .before .before .pre .heightLow (c .before .before .before .before .args .k))
 
--- src/lib.rt:174:5
 word-of-requires : tie.Need-word-of-requires
 word-of-requires c κs =
     omega (arith, c .before .before .before .before .pre .heightLow (c .before .before .before .before .args .k))
 
--- src/lib.rt:170:1
 returns : tie.Need-returns
 returns c =
     c .word-of .ensures ∙ rw (c .before .apart-of .ensures, c .before .before .get .ensures, c .before .before .before .monus .ensures)

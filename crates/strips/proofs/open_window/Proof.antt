@@ -4,15 +4,12 @@ use borrow.Author.Needs.{needs}
 use Rattle.strips.proofs.open_window.Statement.{statement}
 use Rattle.strips.proofs.open_window.Tie as tie
 
--- src/lib.rt:164:9
 first-far-requires : tie.Need-first-far-requires
 first-far-requires c κs = search needs
 
--- src/lib.rt:165:9
 far-end-requires : tie.Need-far-end-requires
 far-end-requires c κs = search needs
 
--- src/lib.rt:159:1
 returns : tie.Need-returns
 returns c =
     let a = c .before .before .before .before .args in

@@ -11,27 +11,21 @@ use Rattle.strips.proofs.leaves_gap.Reads as leaves-gap-reads
 use Rattle.strips.proofs.site_opens.Reads as site-opens-reads
 use Rattle.words.proofs.both.Reads as both-reads
 
--- src/lib.rt:129:9
 leaves-gap-requires : tie.Need-leaves-gap-requires
 leaves-gap-requires c κs = search needs
 
--- src/lib.rt:130:10
 is-between-requires : tie.Need-is-between-requires
 is-between-requires c κs = search needs
 
--- src/lib.rt:130:47
 site-opens-requires : tie.Need-site-opens-requires
 site-opens-requires c κs = search needs
 
--- src/lib.rt:130:37
 both-requires : tie.Need-both-requires
 both-requires c κs = search needs
 
--- src/lib.rt:130:5
 both-requires-2 : tie.Need-both-requires-2
 both-requires-2 c κs = search needs
 
--- src/lib.rt:125:1
 returns : tie.Need-returns
 returns c =
     rw (opens-split, c .both2 .ensures, c .before .both .ensures, c .before .before .site-opens .ensures, c .before .before .before .is-between .ensures, c .before .before .before .before .leaves-gap .ensures) refl

@@ -12,43 +12,33 @@ use Rattle.words.proofs.both.Reads as both-reads
 use Rattle.words.proofs.is_not.Reads as is-not-reads
 use Rattle.words.proofs.same.Reads as same-reads
 
--- src/lib.rt:110:13
 cast-c : tie.Need-cast-c
 cast-c c = search needs
 
--- src/lib.rt:111:22
 is-clear-requires : tie.Need-is-clear-requires
 is-clear-requires c κs = search needs
 
--- src/lib.rt:111:62
 is-clear-requires-2 : tie.Need-is-clear-requires-2
 is-clear-requires-2 c κs = search needs
 
--- src/lib.rt:111:9
 both-requires : tie.Need-both-requires
 both-requires c κs = search needs
 
--- src/lib.rt:112:29
 mul-same : tie.Need-mul-same
 mul-same c = search needs
 
--- src/lib.rt:112:29
 shared-slice-read-same : tie.Need-shared-slice-read-same
 shared-slice-read-same c = search needs
 
--- src/lib.rt:112:24
 same-requires : tie.Need-same-requires
 same-requires c κs = search needs
 
--- src/lib.rt:112:17
 is-not-requires : tie.Need-is-not-requires
 is-not-requires c κs = search needs
 
--- src/lib.rt:112:5
 both-requires-2 : tie.Need-both-requires-2
 both-requires-2 c κs = search needs
 
--- src/lib.rt:106:1
 returns : tie.Need-returns
 unfolding siteOpens
 returns c =

@@ -12,30 +12,24 @@ use Rattle.strips.proofs.joins.Reads as joins-reads
 use Rattle.strips.proofs.open_cost.Reads as open-cost-reads
 use Rattle.strips.proofs.opens.Reads as opens-reads
 
--- src/lib.rt:190:8
 opens-requires : tie.Need-opens-requires
 opens-requires c κs = search needs
 
--- src/lib.rt:191:9
 open-cost-requires : tie.Need-open-cost-requires
 open-cost-requires c κs = search needs
 
--- src/lib.rt:191:9
 returns : tie.Need-returns
 returns c =
     let a = c .before .before .before .before .before .args in
     let e = sym (c .before .before .opens .ensures) ∙ c .before .if1 .taken in
     c .open-cost .ensures ∙ sym (cost-opens (a .q) (a .heights .now) (a .bounds .now) (stripOf (a .p)) (pointOf (a .s)) (a .k) e)
 
--- src/lib.rt:193:8
 joins-requires : tie.Need-joins-requires
 joins-requires c κs = search needs
 
--- src/lib.rt:194:9
 join-cost-requires : tie.Need-join-cost-requires
 join-cost-requires c κs = search needs
 
--- src/lib.rt:194:9
 returns-2 : tie.Need-returns-2
 returns-2 c =
     let a = c .before .before .before .before .before .before .before .args in
@@ -43,7 +37,6 @@ returns-2 c =
     let f = sym (c .before .before .joins .ensures) ∙ c .before .if2 .taken in
     c .join-cost .ensures ∙ sym (cost-joins (a .q) (a .heights .now) (a .bounds .now) (stripOf (a .p)) (pointOf (a .s)) (a .k) e f)
 
--- src/lib.rt:185:1
 returns-3 : tie.Need-returns-3
 returns-3 c =
     let a = c .before .before .before .before .before .before .args in

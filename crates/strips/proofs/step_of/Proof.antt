@@ -1,13 +1,8 @@
 use Rattle.rows.specs.Rows.{stripOf, pointOf}
 use Rattle.strips.proofs.Steps.{price-had, price-not, small, measured}
-use mathlib.Core.Path.{_≡_, refl, ap, sym, _∙_}
-use mathlib.Core.List.{List, [], _∷_, _++_}
-use mathlib.Core.Logic.{⊎-elim}
-use Prim.Native.Nat.{ℕ, zero, suc, _+_, _-_, _*_, _<_, _≤_}
+use mathlib.Core.Path.{ap, sym, _∙_}
+use Prim.Native.Nat.{ℕ, _-_}
 use native.Mathlib.Omega.{arith}
-use native.Mathlib.Numerals.{add-one}
-use lib.ListN.{length, getD, take, drop, set, length-set}
-use borrow.Author.Tests.{eq-eqb, ne-eqb, lt-ltb, le-ltb, le-leb, lt-leb}
 use borrow.Author.Needs.{needs}
 use Rattle.strips.proofs.step_of.Statement.{statement}
 use Rattle.strips.proofs.step_of.Tie as tie
@@ -18,28 +13,23 @@ use Rattle.strips.proofs.draw_of.Reads as draw-of-reads
 use Rattle.strips.proofs.step_cost.Reads as step-cost-reads
 use Rattle.words.proofs.monus.Reads as monus-reads
 
--- src/lib.rt:257:9
 draw-of-requires : tie.Need-draw-of-requires
 draw-of-requires c κs =
     let p = c .before .before .before .before .pre in
     (small _ _ _ _ _ _ _ (p .0) (p .1 .0) (p .1 .1), omega (arith, p .0 .drawn, p .1 .0 .colourLow))
 
--- src/lib.rt:258:9
 monus-requires : tie.Need-monus-requires
 monus-requires c κs = search needs
 
--- src/lib.rt:259:8
 is-below-requires : tie.Need-is-below-requires
 is-below-requires c κs =
     c .before .before .before .before .before .before .pre .0 .divides
 
--- src/lib.rt:260:13
 step-cost-requires : tie.Need-step-cost-requires
 step-cost-requires c κs =
     let p = c .before .before .before .before .before .before .before .before .pre in
     (measured _ _ _ _ _ _ (p .0) (p .1 .0), small _ _ _ _ _ _ _ (p .0) (p .1 .0) (p .1 .1))
 
--- src/lib.rt:261:9
 returns : tie.Need-returns
 returns c =
     let a = c .before .before .before .before .before .before .before .before .before .args in (
@@ -48,7 +38,6 @@ returns c =
           (rw (c .before .before .before .before .draw-of .ensures) at (sym (c .before .before .is-below .ensures) ∙ c .before .if1 .taken))),
     )
 
--- src/lib.rt:241:1
 returns-2 : tie.Need-returns-2
 returns-2 c =
     let a = c .before .before .before .before .before .before .before .before .args in (

@@ -21,44 +21,36 @@ Inv-loop work₀ q heights bounds parts counts left s base low n ends p₀ at₀
 abbrev μ-loop : tie.MeasureT-loop
 μ-loop work₀ q heights bounds parts counts left s base low n ends p₀ at₀ work p at = endPlace (q .colours) (length heights + 2) 0 - endPlace (q .colours) (p .b) (p .cb)
 
--- src/lib.rt:73:13
 cast-n : tie.Need-cast-n Inv-loop μ-loop
 cast-n c = search needs
 
--- src/lib.rt:74:17
 cast-ends : tie.Need-cast-ends Inv-loop μ-loop
 cast-ends c = search needs
 
--- src/lib.rt:74:16
 add-ends : tie.Need-add-ends Inv-loop μ-loop
 add-ends c = search needs
 
--- src/lib.rt:78:12
 add-t17 : tie.Need-add-t17 Inv-loop μ-loop
 add-t17 c = search needs
 
--- src/lib.rt:81:25
 row-place-requires : tie.Need-row-place-requires Inv-loop μ-loop
 row-place-requires c κs =
     let p = c .before .before .before .before .before .before .before .before .pre in
     let f = p .0 .framed in
     ((f .slotsFew, f .coloursFew, f .budgetsFew), start-lies _ _ _ _ (p .1 .0) (p .1 .1))
 
--- src/lib.rt:81:18
 add-at : tie.Need-add-at Inv-loop μ-loop
 add-at c =
     let p = c .before .before .before .before .before .before .before .before .before .pre in
     let a = c .before .before .before .before .before .before .before .before .before .args in
     omega (arith, c .row-place .ensures, p .0 .apart, p .0 .within, row-fits (length (a .heights .now)) (a .q .colours) (a .q .budgets) _ (start-lies (length (a .heights .now)) (a .q .colours) (a .above .slot) (a .above .colour) (p .1 .0) (p .1 .1)))
 
--- src/lib.rt:82:5
 loop-holds : tie.Need-loop-holds Inv-loop μ-loop
 loop-holds c =
     let p = c .before .before .before .before .before .before .before .before .before .pre in
     let a = c .before .before .before .before .before .before .before .before .before .args in
     (refl, refl, omega arith, start-end (a .q .colours) (a .above .slot) (length (a .heights .now)) (p .1 .0), ap (λ (z : ℕ). a .base + z) (c .row-place .ensures), refl, filled-none (a .q) (a .heights .now) (a .bounds .now) (a .parts .now) (a .counts .now) (a .left .now) (a .base) (a .low) (pointOf (a .s)) (a .work .now) (a .above .slot) (a .above .colour) _ (p .1 .1) refl)
 
--- src/lib.rt:83:9
 fill-marked-requires : tie.Need-fill-marked-requires Inv-loop μ-loop
 fill-marked-requires c κs =
     let p = c .before .before .before .before .before .before .before .before .before .before .before .before .before .pre in
@@ -76,7 +68,6 @@ fill-marked-requires c κs =
       r,
     )
 
--- src/lib.rt:84:9
 add-at-2 : tie.Need-add-at-2 Inv-loop μ-loop
 add-at-2 c =
     let p = c .before .before .before .before .before .before .before .before .before .before .before .before .before .before .before .before .pre in
@@ -86,20 +77,17 @@ add-at-2 c =
     let z = row-low (a .q) (a .heights .now) (a .bounds .now) (a .parts .now) (a .counts .now) (a .left .now) (a .base) (a .low) (pointOf (a .s)) (stripOf (l .p)) (l .at) (p .0 .apart) r (l .inv .4) in
     omega (arith, z, c .before .before .before .before .before .before .before .before .before .before .before .before .before .before .before .before .fits)
 
--- src/lib.rt:85:9
 next-below-requires : tie.Need-next-below-requires Inv-loop μ-loop
 next-below-requires c κs =
     let p = c .before .before .before .before .before .before .before .before .before .before .before .before .before .before .before .before .pre in
     let l = c .before .before .before .before .before .before .loop in
     (p .0 .framed .coloursFew, omega (arith, c .before .before .before .before .if1 .taken, p .0 .framed .slotsFew), l .inv .2)
 
--- src/lib.rt:82:5
 loop-less : tie.Need-loop-less Inv-loop μ-loop
 loop-less c =
     let l = c .before .before .before .before .before .before .before .loop in
     omega (arith, c .next-below .ensures .3, later-end (c .before .before .before .before .before .before .before .before .before .before .before .before .before .before .before .before .before .args .q .colours) (l .p .b) (l .p .cb) (length (c .before .before .before .before .before .before .before .before .before .before .before .before .before .before .before .before .before .args .heights .now) + 2) 0 (l .inv .2) (omega (arith, c .before .before .before .before .before .if1 .taken)))
 
--- src/lib.rt:82:5
 loop-again : tie.Need-loop-again Inv-loop μ-loop
 loop-again c =
     let p = c .before .before .before .before .before .before .before .before .before .before .before .before .before .before .before .before .before .pre in
@@ -118,12 +106,10 @@ loop-again c =
       rw (e .0, e .1, e .3) (filled-more (a .q) (a .heights .now) (a .bounds .now) (a .parts .now) (a .counts .now) (a .left .now) (a .base) (a .low) (pointOf (a .s)) _ (l .work) (f .last .0) (stripOf (l .p)) _ (l .at) (p .0 .apart) r refl (l .inv .4) (l .inv .6) (f .ensures .0) (f .ensures .1)),
     )
 
--- src/lib.rt:55:1
 same-length : tie.Need-same-length Inv-loop μ-loop
 same-length c =
     c .before .before .loop .inv .5
 
--- src/lib.rt:55:1
 returns : tie.Need-returns Inv-loop μ-loop
 returns c =
     let l = c .before .before .loop in

@@ -9,23 +9,18 @@ use Rattle.table.proofs.fill_end.Lts as lts
 use Rattle.rows.proofs.is_upper_end.Reads as is-upper-end-reads
 use Rattle.table.proofs.fill_below.Reads as fill-below-reads
 
--- src/lib.rt:108:8
 is-upper-end-requires : tie.Need-is-upper-end-requires
 is-upper-end-requires c κs = search needs
 
--- src/lib.rt:109:9
 fill-below-requires : tie.Need-fill-below-requires
 fill-below-requires c κs = search needs
 
--- src/lib.rt:90:1
 same-length : tie.Need-same-length
 same-length c = search needs
 
--- src/lib.rt:90:1
 returns : tie.Need-returns
 returns c = search needs
 
--- src/lib.rt:90:1
 returns-2 : tie.Need-returns-2
 returns-2 c =
     let a = c .before .before .before .before .before .before .before .before .args in

@@ -19,41 +19,34 @@ Inv-loop work₀ q heights bounds parts counts left s base low ends above₀ wor
 abbrev μ-loop : tie.MeasureT-loop
 μ-loop work₀ q heights bounds parts counts left s base low ends above₀ work above = endPlace (q .colours) (length heights + 1) 0 - endPlace (q .colours) (above .slot) (above .colour)
 
--- src/lib.rt:130:17
 cast-ends : tie.Need-cast-ends Inv-loop μ-loop
 cast-ends c = search needs
 
--- src/lib.rt:130:16
 add-ends : tie.Need-add-ends Inv-loop μ-loop
 add-ends c = search needs
 
--- src/lib.rt:132:5
 loop-holds : tie.Need-loop-holds Inv-loop μ-loop
 loop-holds c =
     let a = c .before .before .before .before .before .before .args in
     (omega arith, slot-low (a .q .colours) 0 (length (a .heights .now) + 1) 0 (omega arith), refl, passed-none (a .q) (a .heights .now) (a .bounds .now) (a .parts .now) (a .counts .now) (a .left .now) (a .base) (a .low) (pointOf (a .s)) (a .work .now) _ (omega arith))
 
--- src/lib.rt:133:9
 fill-end-requires : tie.Need-fill-end-requires Inv-loop μ-loop
 fill-end-requires c κs =
     let p = c .before .before .before .before .before .before .before .before .before .before .pre in
     let l = c .before .before .before .loop in
     (rw (l .inv .2) p, (omega (arith, c .before .if1 .taken), l .inv .0))
 
--- src/lib.rt:134:9
 next-end-requires : tie.Need-next-end-requires Inv-loop μ-loop
 next-end-requires c κs =
     let p = c .before .before .before .before .before .before .before .before .before .before .before .before .before .pre in
     let l = c .before .before .before .before .before .before .loop in
     (p .framed .coloursFew, omega (arith, c .before .before .before .before .if1 .taken, p .framed .slotsFew), l .inv .0)
 
--- src/lib.rt:132:5
 loop-less : tie.Need-loop-less Inv-loop μ-loop
 loop-less c =
     let l = c .before .before .before .before .before .before .before .loop in
     omega (arith, c .next-end .ensures .1, later-end (c .before .before .before .before .before .before .before .before .before .before .before .before .before .before .args .q .colours) (l .above .slot) (l .above .colour) (length (c .before .before .before .before .before .before .before .before .before .before .before .before .before .before .args .heights .now) + 1) 0 (l .inv .0) (omega (arith, c .before .before .before .before .before .if1 .taken)))
 
--- src/lib.rt:132:5
 loop-again : tie.Need-loop-again Inv-loop μ-loop
 loop-again c =
     let p = c .before .before .before .before .before .before .before .before .before .before .before .before .before .before .pre in
@@ -68,12 +61,10 @@ loop-again c =
       rw (e .1) (passed-more (a .q) (a .heights .now) (a .bounds .now) (a .parts .now) (a .counts .now) (a .left .now) (a .base) (a .low) (pointOf (a .s)) _ (l .work) (f .last .0) (l .above .slot) (l .above .colour) (p .apart) (omega (arith, c .before .before .before .before .before .if1 .taken)) (l .inv .0) (l .inv .3) (f .ensures .0) (f .ensures .1)),
     )
 
--- src/lib.rt:114:1
 same-length : tie.Need-same-length Inv-loop μ-loop
 same-length c =
     c .before .before .loop .inv .2
 
--- src/lib.rt:114:1
 returns : tie.Need-returns Inv-loop μ-loop
 returns c =
     let l = c .before .before .loop in

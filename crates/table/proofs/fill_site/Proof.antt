@@ -12,68 +12,53 @@ use Rattle.budgets.proofs.list_left.Reads as list-left-reads
 use Rattle.table.proofs.fill_level.Reads as fill-level-reads
 use Rattle.words.proofs.get.Reads as get-reads
 
--- src/lib.rt:61:13
 mul-c : tie.Need-mul-c
 mul-c c = search needs
 
--- src/lib.rt:61:13
 shared-slice-read-c : tie.Need-shared-slice-read-c
 shared-slice-read-c c = search needs
 
--- src/lib.rt:62:23
 mul-t18 : tie.Need-mul-t18
 mul-t18 c = search needs
 
--- src/lib.rt:62:23
 shared-slice-read-t20 : tie.Need-shared-slice-read-t20
 shared-slice-read-t20 c = search needs
 
--- src/lib.rt:62:33
 mul-t22 : tie.Need-mul-t22
 mul-t22 c = search needs
 
--- src/lib.rt:62:33
 shared-slice-read-t24 : tie.Need-shared-slice-read-t24
 shared-slice-read-t24 c = search needs
 
--- src/lib.rt:63:9
 get-requires : tie.Need-get-requires
 get-requires c κs = search needs
 
--- src/lib.rt:65:39
 cast-list-left : tie.Need-cast-list-left
 cast-list-left c = search needs
 
--- src/lib.rt:65:59
 slice-aggregate-list-left : tie.Need-slice-aggregate-list-left
 slice-aggregate-list-left c = search needs
 
--- src/lib.rt:65:5
 list-left-requires : tie.Need-list-left-requires
 list-left-requires c κs =
     let g = c .before .before .before .before .before .before .before .before .before .before .before .before .before .before .before .before .pre .0 in (g .divides, (g .framed .budgetsFew, omega (arith, g .framed .budgetsFew)))
 
--- src/lib.rt:66:57
 slice-aggregate-fill-level : tie.Need-slice-aggregate-fill-level
 slice-aggregate-fill-level c = search needs
 
--- src/lib.rt:66:67
 mul-fill-level : tie.Need-mul-fill-level
 mul-fill-level c =
     let p = c .before .before .before .before .before .before .before .before .before .before .before .before .before .before .before .before .before .before .before .before .pre in
     omega (arith, place-small _ _ _ (p .0 .framed) (c .before .before .before .before .before .before .before .before .before .before .before .before .before .before .before .before .before .before .before .before .args .j) _ (omega (arith, p .1 .1 .0, p .0 .sites .sitesFew)) (p .1 .1 .1))
 
--- src/lib.rt:66:78
 add-fill-level : tie.Need-add-fill-level
 add-fill-level c = search needs
 
--- src/lib.rt:66:77
 mul-fill-level-2 : tie.Need-mul-fill-level-2
 mul-fill-level-2 c =
     let p = c .before .before .before .before .before .before .before .before .before .before .before .before .before .before .before .before .before .before .before .before .pre in
     omega (arith, place-small _ _ _ (p .0 .framed) (c .before .before .before .before .before .before .before .before .before .before .before .before .before .before .before .before .before .before .before .before .args .j + 1) _ (omega (arith, p .1 .1 .0, p .0 .sites .sitesFew)) (p .1 .1 .1))
 
--- src/lib.rt:66:5
 fill-level-requires : tie.Need-fill-level-requires
 fill-level-requires c κs =
     let a = c .before .before .before .before .before .before .before .before .before .before .before .before .before .before .before .before .before .before .before .before .args in
@@ -88,11 +73,9 @@ fill-level-requires c κs =
       within = omega (arith, r .1, p .1 .1 .1);
     }
 
--- src/lib.rt:54:1
 same-length : tie.Need-same-length
 same-length c = search needs
 
--- src/lib.rt:54:1
 returns : tie.Need-returns
 returns c =
     let a = c .before .before .before .before .before .before .before .before .before .before .before .before .before .before .before .before .before .before .before .before .before .before .before .args in

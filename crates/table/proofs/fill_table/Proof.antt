@@ -23,57 +23,46 @@ Inv-loop work₀ q heights bounds radices draws xs ys cs parts counts rows size 
 abbrev μ-loop : tie.MeasureT-loop
 μ-loop work₀ q heights bounds radices draws xs ys cs parts counts rows size j₀ work j = j
 
--- src/lib.rt:214:35
 cast-list-splits : tie.Need-cast-list-splits Inv-loop μ-loop
 cast-list-splits c = search needs
 
--- src/lib.rt:214:55
 slice-aggregate-list-splits : tie.Need-slice-aggregate-list-splits Inv-loop μ-loop
 slice-aggregate-list-splits c = search needs
 
--- src/lib.rt:214:67
 slice-aggregate-list-splits-2 : tie.Need-slice-aggregate-list-splits-2 Inv-loop μ-loop
 slice-aggregate-list-splits-2 c = search needs
 
--- src/lib.rt:214:5
 list-splits-requires : tie.Need-list-splits-requires Inv-loop μ-loop
 list-splits-requires c κs =
     let g = c .before .before .before .before .before .before .before .before .before .before .before .pre in (g .divides, (g .framed .budgetsFew, refl, refl))
 
--- src/lib.rt:215:9
 rows-of-requires : tie.Need-rows-of-requires Inv-loop μ-loop
 rows-of-requires c κs =
     let g = c .before .before .before .before .before .before .before .before .before .before .before .before .before .before .pre in (g .framed .slotsFew, g .framed .coloursFew)
 
--- src/lib.rt:216:24
 cast-size : tie.Need-cast-size Inv-loop μ-loop
 cast-size c = search needs
 
--- src/lib.rt:216:16
 mul-size : tie.Need-mul-size Inv-loop μ-loop
 mul-size c =
     let g = c .before .before .before .before .before .before .before .before .before .before .before .before .before .before .before .before .pre in
     omega (arith, level-small _ _ _ (g .framed), ap (λ (z : ℕ). z * c .before .before .before .before .before .before .before .before .before .before .before .before .before .before .before .before .args .q .budgets) (c .before .rows-of .ensures))
 
--- src/lib.rt:217:5
 mark-table-requires : tie.Need-mark-table-requires Inv-loop μ-loop
 mark-table-requires c κs =
     let g = c .before .before .before .before .before .before .before .before .before .before .before .before .before .before .before .before .before .pre in ((g .framed, g .sites), (c .before .before .rows-of .ensures, g .within))
 
--- src/lib.rt:219:22
 mul-zero-level : tie.Need-mul-zero-level Inv-loop μ-loop
 mul-zero-level c =
     let g = c .before .before .before .before .before .before .before .before .before .before .before .before .before .before .before .before .before .before .before .before .before .pre in
     omega (arith, place-small _ _ _ (g .framed) (length (c .before .before .before .before .before .before .before .before .before .before .before .before .before .before .before .before .before .before .before .before .before .args .xs .now)) _ (omega (arith, g .sites .sitesFew)) (ap (λ (z : ℕ). z * c .before .before .before .before .before .before .before .before .before .before .before .before .before .before .before .before .before .before .before .before .before .args .q .budgets) (c .before .before .before .before .before .before .rows-of .ensures)))
 
--- src/lib.rt:219:5
 zero-level-requires : tie.Need-zero-level-requires Inv-loop μ-loop
 zero-level-requires c κs =
     let g = c .before .before .before .before .before .before .before .before .before .before .before .before .before .before .before .before .before .before .before .before .before .pre in
     let a = c .before .before .before .before .before .before .before .before .before .before .before .before .before .before .before .before .before .before .before .before .before .args in
     last-room (length (a .xs .now)) _ _ _ _ (ap (λ (z : ℕ). z * a .q .budgets) (c .before .before .before .before .before .before .rows-of .ensures)) (g .within) (c .before .before .before .mark-table .kept .0)
 
--- src/lib.rt:220:5
 loop-holds : tie.Need-loop-holds Inv-loop μ-loop
 loop-holds c =
     let a = c .before .before .before .before .before .before .before .before .before .before .before .before .before .before .before .before .before .before .before .before .before .before .before .before .args in
@@ -81,19 +70,15 @@ loop-holds c =
     let z = c .before .before .zero-level .ensures in
     (e, omega arith, refl, λ area g. done-last (a .q) (a .heights .now) (a .bounds .now) (a .radices .now) (a .draws .now) (a .xs .now) (a .ys .now) (a .cs .now) area g (c .before .before .before .before .before .before .mark-table .last .0) (c .before .before .zero-level .last .0) _ e (c .before .before .before .before .before .before .mark-table .ensures .0) (z .0) (z .1))
 
--- src/lib.rt:221:9
 sub-j : tie.Need-sub-j Inv-loop μ-loop
 sub-j c = search needs
 
--- src/lib.rt:229:13
 slice-aggregate-fill-site : tie.Need-slice-aggregate-fill-site Inv-loop μ-loop
 slice-aggregate-fill-site c = search needs
 
--- src/lib.rt:230:13
 slice-aggregate-fill-site-2 : tie.Need-slice-aggregate-fill-site-2 Inv-loop μ-loop
 slice-aggregate-fill-site-2 c = search needs
 
--- src/lib.rt:222:9
 fill-site-requires : tie.Need-fill-site-requires Inv-loop μ-loop
 fill-site-requires c κs =
     let p = c .before .before .before .before .before .before .before .before .before .before .before .before .before .before .before .before .before .before .before .before .before .before .before .before .before .before .before .before .before .pre in
@@ -102,11 +87,9 @@ fill-site-requires c κs =
       (c .before .before .before .before .before .before .before .before .before .before .before .before .before .before .before .before .before .list-splits .ensures, (omega (arith, c .before .before .before .loop-test .taken, l .inv .1), l .inv .0)),
     )
 
--- src/lib.rt:220:5
 loop-less : tie.Need-loop-less Inv-loop μ-loop
 loop-less c = search needs
 
--- src/lib.rt:220:5
 loop-again : tie.Need-loop-again Inv-loop μ-loop
 loop-again c =
     let l = c .before .before .before .before .before .before .before .loop in
@@ -118,12 +101,10 @@ loop-again c =
       λ area g. done-more (a .q) (a .heights .now) (a .bounds .now) (a .radices .now) (a .draws .now) (a .xs .now) (a .ys .now) (a .cs .now) area g _ (l .work) (f .last .0) _ (l .j) _ (l .inv .0) (omega (arith, c .before .before .before .before .before .before .loop-test .taken)) (l .inv .1) (f .kept .0) (f .ensures .0) (f .ensures .1) (l .inv .3 area g),
     )
 
--- src/lib.rt:197:1
 same-length : tie.Need-same-length Inv-loop μ-loop
 same-length c =
     c .before .loop .inv .2 ∙ c .before .before .before .before .zero-level .kept .0 ∙ c .before .before .before .before .before .before .before .before .mark-table .kept .0
 
--- src/lib.rt:197:1
 returns : tie.Need-returns Inv-loop μ-loop
 returns c =
     let p = c .before .before .before .before .before .before .before .before .before .before .before .before .before .before .before .before .before .before .before .before .before .before .before .before .before .before .pre in

@@ -5,33 +5,26 @@ use borrow.Author.Needs.{needs}
 use Rattle.tablewords.proofs.table_words.Statement.{statement}
 use Rattle.tablewords.proofs.table_words.Tie as tie
 
--- src/lib.rt:210:17
 cast-codes : tie.Need-cast-codes
 cast-codes c = search needs
 
--- src/lib.rt:210:17
 add-codes : tie.Need-add-codes
 add-codes c = search needs
 
--- src/lib.rt:211:6
 add-result : tie.Need-add-result
 add-result c = search needs
 
--- src/lib.rt:211:5
 mul-result : tie.Need-mul-result
 mul-result c =
     let a = c .before .args in let p = c .before .pre in omega (arith, words-low (a .slots) (a .q .colours) (a .q .budgets) (p .0) (p .1) (p .2) .0)
 
--- src/lib.rt:211:28
 cast-result : tie.Need-cast-result
 cast-result c = search needs
 
--- src/lib.rt:211:5
 mul-result-2 : tie.Need-mul-result-2
 mul-result-2 c =
     let a = c .before .before .args in let p = c .before .before .pre in omega (arith, words-low (a .slots) (a .q .colours) (a .q .budgets) (p .0) (p .1) (p .2) .1)
 
--- src/lib.rt:206:1
 returns : tie.Need-returns
 returns c = search needs
 

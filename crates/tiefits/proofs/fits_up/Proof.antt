@@ -1,44 +1,31 @@
 use borrow.Author.Tests.{not-true, not-false}
 use Rattle.tiefits.specs.Fits.{upFits}
-use mathlib.Core.Path.{_≡_, refl, ap, sym, _∙_}
-use mathlib.Core.List.{List, [], _∷_, _++_}
-use mathlib.Core.Logic.{⊎-elim}
-use Prim.Native.Nat.{ℕ, zero, suc, _+_, _-_, _*_, _<_, _≤_}
-use native.Mathlib.Omega.{arith}
-use native.Mathlib.Numerals.{add-one}
-use lib.ListN.{length, getD, take, drop, set, length-set}
-use borrow.Author.Tests.{eq-eqb, ne-eqb, lt-ltb, le-ltb, le-leb, lt-leb}
+use mathlib.Core.Path.{sym, _∙_}
+use Prim.Native.Nat.{_-_}
 use borrow.Author.Needs.{needs}
 use Rattle.tiefits.proofs.fits_up.Statement.{statement}
 use Rattle.tiefits.proofs.fits_up.Tie as tie
 
--- src/lib.rt:103:9
 is-code-requires : tie.Need-is-code-requires
 is-code-requires c κs = search needs
 
--- src/lib.rt:104:9
 returns : tie.Need-returns
 unfolding upFits
 returns c =
     rw (sym (c .before .is-code .ensures) ∙ not-true _ (c .if1 .taken))
 
--- src/lib.rt:107:28
 is-clear-requires : tie.Need-is-clear-requires
 is-clear-requires c κs = search needs
 
--- src/lib.rt:107:9
 either-requires : tie.Need-either-requires
 either-requires c κs = search needs
 
--- src/lib.rt:108:9
 is-capped-requires : tie.Need-is-capped-requires
 is-capped-requires c κs = search needs
 
--- src/lib.rt:106:5
 both-requires : tie.Need-both-requires
 both-requires c κs = search needs
 
--- src/lib.rt:100:1
 returns-2 : tie.Need-returns-2
 unfolding upFits
 returns-2 c =

@@ -9,37 +9,29 @@ Inv-loop q heights bounds radices draws ys colours caps work s k least d₀ d = 
 abbrev μ-loop : tie.MeasureT-loop
 μ-loop q heights bounds radices draws ys colours caps work s k least d₀ d = q .colours - d
 
--- src/lib.rt:266:5
 loop-holds : tie.Need-loop-holds Inv-loop μ-loop
 loop-holds c = search needs
 
--- src/lib.rt:267:12
 is-next-requires : tie.Need-is-next-requires Inv-loop μ-loop
 is-next-requires c κs = search needs
 
--- src/lib.rt:282:20
 add-result : tie.Need-add-result Inv-loop μ-loop
 add-result c = search needs
 
--- src/lib.rt:282:13
 returns : tie.Need-returns Inv-loop μ-loop
 returns c =
     tt
 
--- src/lib.rt:284:9
 add-d : tie.Need-add-d Inv-loop μ-loop
 add-d c = search needs
 
--- src/lib.rt:266:5
 loop-less : tie.Need-loop-less Inv-loop μ-loop
 loop-less c = search needs
 
--- src/lib.rt:266:5
 loop-again : tie.Need-loop-again Inv-loop μ-loop
 loop-again c =
     tt
 
--- src/lib.rt:248:1
 returns-2 : tie.Need-returns-2 Inv-loop μ-loop
 returns-2 c =
     tt

@@ -4,25 +4,20 @@ use borrow.Author.Needs.{needs}
 use Rattle.traces.proofs.rest_at.Statement.{statement}
 use Rattle.traces.proofs.rest_at.Tie as tie
 
--- src/lib.rt:196:17
 row-start-requires : tie.Need-row-start-requires
 row-start-requires c κs = search needs
 
--- src/lib.rt:196:17
 cast-start : tie.Need-cast-start
 cast-start c =
     let a = c .before .before .args in let p = c .before .before .pre in
     omega (arith, c .row-start .ensures, start-low (a .q .colours) (a .q .budgets) (a .a) (a .code) (p .0) (p .1) (p .2) (p .3))
 
--- src/lib.rt:197:29
 plus-of-requires : tie.Need-plus-of-requires
 plus-of-requires c κs = search needs
 
--- src/lib.rt:197:19
 get-requires : tie.Need-get-requires
 get-requires c κs = search needs
 
--- src/lib.rt:193:1
 returns : tie.Need-returns
 returns c = search needs
 

@@ -12,65 +12,52 @@ Inv-loop q heights bounds radices draws ys colours caps work labels₀ least s�
 abbrev μ-loop : tie.MeasureT-loop
 μ-loop q heights bounds radices draws ys colours caps work labels₀ least s₀ k₀ labels s k = length heights - k
 
--- src/lib.rt:261:17
 sub-t15 : tie.Need-sub-t15 Inv-loop μ-loop
 sub-t15 c = search needs
 
--- src/lib.rt:265:5
 loop-holds : tie.Need-loop-holds Inv-loop μ-loop
 loop-holds c =
     refl
 
--- src/lib.rt:277:13
 cast-code-at : tie.Need-cast-code-at Inv-loop μ-loop
 cast-code-at c =
     omega (arith, c .loop-test .taken, c .before .before .before .before .before .before .before .before .before .before .before .before .pre .0 .few-slots)
 
--- src/lib.rt:266:13
 code-at-requires : tie.Need-code-at-requires Inv-loop μ-loop
 code-at-requires c κs =
     (c .before .before .before .before .before .before .before .before .before .before .before .before .pre .0, c .loop-test .taken)
 
--- src/lib.rt:280:9
 mul-labels : tie.Need-mul-labels Inv-loop μ-loop
 mul-labels c = search needs
 
--- src/lib.rt:280:9
 slice-write-labels : tie.Need-slice-write-labels Inv-loop μ-loop
 slice-write-labels c =
     omega (arith, c .before .loop-test .taken, c .before .before .loop .inv, c .before .before .before .before .before .before .before .before .before .before .before .before .before .pre .1)
 
--- src/lib.rt:291:13
 cast-after-slot : tie.Need-cast-after-slot Inv-loop μ-loop
 cast-after-slot c =
     omega (arith, c .before .loop-test .taken, c .before .before .before .before .before .before .before .before .before .before .before .before .before .pre .0 .few-slots)
 
--- src/lib.rt:281:9
 after-slot-requires : tie.Need-after-slot-requires Inv-loop μ-loop
 after-slot-requires c κs =
     (c .before .before .before .before .before .before .before .before .before .before .before .before .before .pre .0, c .before .loop-test .taken)
 
--- src/lib.rt:294:9
 add-k : tie.Need-add-k Inv-loop μ-loop
 add-k c =
     omega (arith, c .before .before .loop-test .taken, c .before .before .before .before .before .before .before .before .before .before .before .before .before .before .pre .0 .few-slots)
 
--- src/lib.rt:265:5
 loop-less : tie.Need-loop-less Inv-loop μ-loop
 loop-less c = search needs
 
--- src/lib.rt:265:5
 loop-again : tie.Need-loop-again Inv-loop μ-loop
 loop-again c =
     let l = c .before .before .before .loop in
     length-set (l .labels) (l .k) (c .before .code-at .result) ∙ l .inv
 
--- src/lib.rt:242:1
 same-length : tie.Need-same-length Inv-loop μ-loop
 same-length c =
     c .before .loop .inv
 
--- src/lib.rt:242:1
 returns : tie.Need-returns Inv-loop μ-loop
 returns c =
     tt

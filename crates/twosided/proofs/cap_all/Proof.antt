@@ -20,42 +20,34 @@ Inv-loop q heights bounds radices draws ys colours order ranks caps₀ work goal
 abbrev μ-loop : tie.MeasureT-loop
 μ-loop q heights bounds radices draws ys colours order ranks caps₀ work goals₀ least left₀ caps goals left = left
 
--- src/lib.rt:60:5
 trace-goals-requires : tie.Need-trace-goals-requires Inv-loop μ-loop
 trace-goals-requires c κs =
     let p = c .before .before .before .before .before .before .before .before .before .before .before .before .before .pre in (p .0, (p .1 .0 .2, le-of-eq (p .1 .1 .0)))
 
--- src/lib.rt:74:5
 loop-holds : tie.Need-loop-holds Inv-loop μ-loop
 loop-holds c =
     let p = c .before .before .before .before .before .before .before .before .before .before .before .before .before .before .before .before .pre in (refl, rw (p .0 .caps-long), p .1 .1 .0, (λ h. h), c .before .before .trace-goals .ensures)
 
--- src/lib.rt:75:20
 leftmost-requires : tie.Need-leftmost-requires Inv-loop μ-loop
 leftmost-requires c κs =
     let p = c .before .before .before .before .before .before .before .before .before .before .before .before .before .before .before .before .before .before .before .pre in omega (arith, p .0 .few-sites, p .0 .caps-long, c .before .before .loop .inv .0)
 
--- src/lib.rt:75:20
 cast-site : tie.Need-cast-site Inv-loop μ-loop
 cast-site c = search needs
 
--- src/lib.rt:77:13
 same-length : tie.Need-same-length Inv-loop μ-loop
 same-length c =
     c .before .before .before .before .loop .inv .0
 
--- src/lib.rt:77:13
 same-length-2 : tie.Need-same-length-2 Inv-loop μ-loop
 same-length-2 c =
     c .before .before .before .before .loop .inv .4 .long ∙ sym (c .before .before .before .before .before .before .before .before .before .before .before .before .before .before .before .before .before .before .before .before .before .pre .1 .0 .2)
 
--- src/lib.rt:77:13
 returns : tie.Need-returns Inv-loop μ-loop
 returns c =
     let a = c .before .before .before .before .before .before .before .before .before .before .before .before .before .before .before .before .before .before .before .before .before .args in let p = c .before .before .before .before .before .before .before .before .before .before .before .before .before .before .before .before .before .before .before .before .before .pre in let l = c .before .before .before .before .loop in let k = c .before .leftmost in
     (sym (l .inv .1 ∙ caps-done (a .q) (a .heights .now) (a .bounds .now) (a .radices .now) (a .ys .now) (a .colours .now) (a .ranks .now) (a .least) (l .caps) (l .left) (k .result) (k .ensures) (l .inv .0 ∙ p .0 .caps-long) (c .if1 .taken)), l .inv .3)
 
--- src/lib.rt:79:9
 cap-site-requires : tie.Need-cap-site-requires Inv-loop μ-loop
 cap-site-requires c κs =
     let a = c .before .before .before .before .before .before .before .before .before .before .before .before .before .before .before .before .before .before .before .before .before .before .before .args in let p = c .before .before .before .before .before .before .before .before .before .before .before .before .before .before .before .before .before .before .before .before .before .before .before .pre in let l = c .before .before .before .before .before .before .loop in let k = c .before .before .before .leftmost in let i = c .before .before .if1 .left in (
@@ -63,15 +55,12 @@ cap-site-requires c κs =
       ((p .1 .0 .0, i, site-free (a .q) (a .heights .now) (a .bounds .now) (a .radices .now) (a .ys .now) (a .colours .now) (a .ranks .now) (a .least) (l .caps) (k .result) (k .ensures) (l .inv .0 ∙ p .0 .caps-long) i, p .1 .0 .1, l .inv .4), (l .inv .2, p .1 .1 .1)),
     )
 
--- src/lib.rt:94:9
 sub-left : tie.Need-sub-left Inv-loop μ-loop
 sub-left c = search needs
 
--- src/lib.rt:74:5
 loop-less : tie.Need-loop-less Inv-loop μ-loop
 loop-less c = search needs
 
--- src/lib.rt:74:5
 loop-again : tie.Need-loop-again Inv-loop μ-loop
 loop-again c =
     let a = c .before .before .before .before .before .before .before .before .before .before .before .before .before .before .before .before .before .before .before .before .before .before .before .before .before .before .before .before .args in let p = c .before .before .before .before .before .before .before .before .before .before .before .before .before .before .before .before .before .before .before .before .before .before .before .before .before .before .before .before .pre in let l = c .before .before .before .before .before .before .before .before .before .before .before .loop in let k = c .before .before .before .before .cap-site in let s = c .before .before .before .before .before .before .before .before .leftmost in let i = c .before .before .before .before .before .before .before .if1 .left in
@@ -88,17 +77,14 @@ loop-again c =
       k .ensures .1 .1,
     )
 
--- src/lib.rt:39:1
 same-length-3 : tie.Need-same-length-3 Inv-loop μ-loop
 same-length-3 c =
     c .before .loop .inv .0
 
--- src/lib.rt:39:1
 same-length-4 : tie.Need-same-length-4 Inv-loop μ-loop
 same-length-4 c =
     c .before .loop .inv .4 .long ∙ sym (c .before .before .before .before .before .before .before .before .before .before .before .before .before .before .before .before .before .before .pre .1 .0 .2)
 
--- src/lib.rt:39:1
 returns-2 : tie.Need-returns-2 Inv-loop μ-loop
 unfolding capAll
 returns-2 c =

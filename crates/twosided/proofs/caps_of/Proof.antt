@@ -12,27 +12,22 @@ use borrow.Author.Needs.{needs}
 use Rattle.twosided.proofs.caps_of.Statement.{statement}
 use Rattle.twosided.proofs.caps_of.Tie as tie
 
--- src/lib.rt:130:9
 array-borrow-prefix-caps : tie.Need-array-borrow-prefix-caps
 array-borrow-prefix-caps c = search needs
 
--- src/lib.rt:130:9
 slice-aggregate-cap-all : tie.Need-slice-aggregate-cap-all
 slice-aggregate-cap-all c =
     let a = c .before .before .before .before .before .before .before .before .before .before .args in let p = c .before .before .before .before .before .before .before .before .before .before .pre in
     sym (length-take-le (length (a .ys .now)) (replicate {A = ℕ} 32 0) (omega (arith, length-replicate {A = ℕ} 32 0, p .0 .few-sites)))
 
--- src/lib.rt:132:9
 array-borrow-prefix-goals : tie.Need-array-borrow-prefix-goals
 array-borrow-prefix-goals c = search needs
 
--- src/lib.rt:132:9
 slice-aggregate-cap-all-2 : tie.Need-slice-aggregate-cap-all-2
 slice-aggregate-cap-all-2 c =
     let a = c .before .before .before .before .before .before .before .before .before .before .before .args in let p = c .before .before .before .before .before .before .before .before .before .before .before .pre in
     sym (length-take-le (length (a .ys .now)) (replicate {A = ℕ} 32 0) (omega (arith, length-replicate {A = ℕ} 32 0, p .0 .few-sites)))
 
--- src/lib.rt:120:5
 cap-all-requires : tie.Need-cap-all-requires
 cap-all-requires c κs =
     let a = c .before .before .before .before .before .before .before .before .before .before .before .args in let p = c .before .before .before .before .before .before .before .before .before .before .before .pre in
@@ -41,7 +36,6 @@ cap-all-requires c κs =
       ((p .1 .0, p .1 .1, e), (value-none (tableBy (a .q) (a .heights .now) (a .bounds .now) (a .radices .now) (a .ys .now) (a .colours .now)) (a .least) (take (length (a .ys .now)) (replicate {A = ℕ} 32 0)) (λ i. zero-part (length (a .ys .now)) 32 i) (p .1 .0 .least-is), p .1 .2)),
     )
 
--- src/lib.rt:99:1
 returns : tie.Need-returns
 returns c =
     let a = c .before .before .before .before .before .before .before .before .before .before .before .before .before .before .args in let p = c .before .before .before .before .before .before .before .before .before .before .before .before .before .before .pre in let k = c .before .before .cap-all in

@@ -9,50 +9,39 @@ use borrow.Author.Needs.{needs}
 use Rattle.twosided.proofs.lay_sites.Statement.{statement}
 use Rattle.twosided.proofs.lay_sites.Tie as tie
 
--- src/lib.rt:172:17
 site-order-requires : tie.Need-site-order-requires
 site-order-requires c κs = search needs
 
--- src/lib.rt:173:9
 table-words-requires : tie.Need-table-words-requires
 table-words-requires c κs = search needs
 
--- src/lib.rt:182:9
 array-share-prefix-order : tie.Need-array-share-prefix-order
 array-share-prefix-order c = search needs
 
--- src/lib.rt:182:9
 slice-aggregate-value-of : tie.Need-slice-aggregate-value-of
 slice-aggregate-value-of c = search needs
 
--- src/lib.rt:174:9
 value-of-requires : tie.Need-value-of-requires
 value-of-requires c κs = search needs
 
--- src/lib.rt:187:9
 clear-requires : tie.Need-clear-requires
 clear-requires c κs = search needs
 
--- src/lib.rt:188:9
 same-length : tie.Need-same-length
 same-length c = search needs
 
--- src/lib.rt:188:9
 returns : tie.Need-returns
 returns c =
     let a = c .before .before .before .before .before .before .before .before .before .before .before .before .before .before .before .before .before .before .before .before .before .before .args in let p = c .before .before .before .before .before .before .before .before .before .before .before .before .before .before .before .before .before .before .before .before .before .before .pre in let v = c .before .before .before .before .before .before .before .value-of in
     laid-none (a .q) (a .heights .now) (a .bounds .now) (a .radices .now) (a .ys .now) (a .colours .now) (a .ranks .now) (a .caps .now) (p .1 .0) (v .result) (tableWords (a .q) (a .heights .now)) (a .work .now) (v .last .1 .1 .1 .1 .1 .1 .1 .1 .1 .0) (c .before .before .clear .last .0) (a .out .now) (v .ensures .0) (c .before .before .before .before .if1 .taken) (v .ensures .1 .1)
     (rw (c .before .before .before .before .before .before .before .before .before .before .table-words .ensures) at (c .before .before .clear .ensures))
 
--- src/lib.rt:198:9
 array-share-prefix-order-2 : tie.Need-array-share-prefix-order-2
 array-share-prefix-order-2 c = search needs
 
--- src/lib.rt:198:9
 slice-aggregate-caps-of : tie.Need-slice-aggregate-caps-of
 slice-aggregate-caps-of c = search needs
 
--- src/lib.rt:190:17
 caps-of-requires : tie.Need-caps-of-requires
 caps-of-requires c κs =
     let a = c .before .before .before .before .before .before .before .before .before .before .before .before .before .before .before .before .before .before .before .before .args in let p = c .before .before .before .before .before .before .before .before .before .before .before .before .before .before .before .before .before .before .before .before .pre in let v = c .before .before .before .before .before .value-of in
@@ -61,40 +50,32 @@ caps-of-requires c κs =
       (filled-at (a .q) (a .heights .now) (a .bounds .now) (a .radices .now) (a .ys .now) (a .colours .now) (a .ranks .now) (a .caps .now) (p .1 .0) (v .result) (v .last .1 .1 .1 .1 .1 .1 .1 .1 .1 .0) l (v .ensures .0) (c .before .before .if1 .left) (omega (arith, v .ok)) (v .ensures .1 .0), c .before .before .before .before .before .before .before .before .before .site-order .ensures, steady-at (a .q) (a .heights .now) (a .bounds .now) (a .radices .now) (a .ys .now) (a .colours .now) (a .ranks .now) (a .caps .now) (p .1 .0) (v .result) (v .ensures .0) (c .before .before .if1 .left) (omega (arith, v .ok)) (p .1 .1 .1)),
     )
 
--- src/lib.rt:203:18
 head-word-requires : tie.Need-head-word-requires
 head-word-requires c κs = search needs
 
--- src/lib.rt:203:39
 array-share-prefix-found : tie.Need-array-share-prefix-found
 array-share-prefix-found c =
     omega (arith, c .before .before .before .before .before .before .before .before .before .before .before .before .before .before .before .before .before .before .before .before .before .before .pre .0 .few-sites)
 
--- src/lib.rt:203:39
 slice-aggregate-write-layout : tie.Need-slice-aggregate-write-layout
 slice-aggregate-write-layout c =
     sym (c .before .before .caps-of .ensures .1 .0)
 
--- src/lib.rt:203:5
 write-layout-requires : tie.Need-write-layout-requires
 write-layout-requires c κs =
     let p = c .before .before .before .before .before .before .before .before .before .before .before .before .before .before .before .before .before .before .before .before .before .before .before .before .pre in let k = c .before .before .before .caps-of in
     (omega (arith, k .ensures .1 .0, p .1 .1 .0), omega (arith, k .ensures .1 .0, p .0 .few-sites), k .ensures .1 .1)
 
--- src/lib.rt:204:5
 clear-requires-2 : tie.Need-clear-requires-2
 clear-requires-2 c κs =
     omega (arith, c .before .before .before .before .before .before .before .before .before .before .before .before .before .before .before .before .table-words .ensures, c .before .before .before .before .before .before .before .before .before .before .before .before .before .value-of .kept .1 .1 .1 .1 .1 .1 .1 .1 .1 .0, c .before .before .before .before .before .before .before .before .before .before .before .before .before .before .before .before .before .before .before .before .before .before .before .before .before .before .before .before .pre .1 .1 .0 .0)
 
--- src/lib.rt:152:1
 same-length-2 : tie.Need-same-length-2
 same-length-2 c = search needs
 
--- src/lib.rt:152:1
 same-length-3 : tie.Need-same-length-3
 same-length-3 c = search needs
 
--- src/lib.rt:152:1
 returns-2 : tie.Need-returns-2
 returns-2 c =
     let a = c .before .before .before .before .before .before .before .before .before .before .before .before .before .before .before .before .before .before .before .before .before .before .before .before .before .before .before .before .before .before .before .args in let p = c .before .before .before .before .before .before .before .before .before .before .before .before .before .before .before .before .before .before .before .before .before .before .before .before .before .before .before .before .before .before .before .pre in let v = c .before .before .before .before .before .before .before .before .before .before .before .before .before .before .before .before .value-of in let k = c .before .before .before .before .before .before .before .before .before .before .caps-of in

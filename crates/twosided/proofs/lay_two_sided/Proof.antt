@@ -13,165 +13,136 @@ use borrow.Author.Needs.{needs}
 use Rattle.twosided.proofs.lay_two_sided.Statement.{statement}
 use Rattle.twosided.proofs.lay_two_sided.Tie as tie
 
--- src/lib.rt:253:9
 measures-of-requires : tie.Need-measures-of-requires
 measures-of-requires c κs = search needs
 
--- src/lib.rt:254:19
 heights-of-requires : tie.Need-heights-of-requires
 heights-of-requires c κs = search needs
 
--- src/lib.rt:255:18
 bounds-of-requires : tie.Need-bounds-of-requires
 bounds-of-requires c κs = search needs
 
--- src/lib.rt:257:30
 array-share-prefix-bounds : tie.Need-array-share-prefix-bounds
 array-share-prefix-bounds c =
     let a = c .before .before .before .before .before .before .args in let p = c .before .before .before .before .before .before .pre in
     omega (arith, p .1 .1 .1, sound (a .sheet .now) (p .0 .1) .few-colours)
 
--- src/lib.rt:257:30
 slice-aggregate-radices-of : tie.Need-slice-aggregate-radices-of
 slice-aggregate-radices-of c =
     let a = c .before .before .before .before .before .before .before .args in let p = c .before .before .before .before .before .before .before .pre in
     part-long 8 (boundsOf ((sheetIn (a .sheet .now)) .colours)) (c .before .bounds-of .result) (a .colours) (c .before .bounds-of .ensures) (p .1 .1 .1 ∙ sym (bounds-long ((sheetIn (a .sheet .now)) .colours)))
 
--- src/lib.rt:257:19
 radices-of-requires : tie.Need-radices-of-requires
 radices-of-requires c κs =
     let a = c .before .before .before .before .before .before .before .args in let p = c .before .before .before .before .before .before .before .pre in
     let e = (bounds-part (a .sheet .now) (p .0 .1) (c .before .bounds-of .result) (a .colours) (c .before .bounds-of .ensures) (p .1 .1 .1)) in
     (omega (arith, ap length e, bounds-long ((sheetIn (a .sheet .now)) .colours), sound (a .sheet .now) (p .0 .1) .few-colours), bounds-low (a .sheet .now) (p .0 .1) (take (a .colours) (c .before .bounds-of .result)) e)
 
--- src/lib.rt:258:26
 array-share-prefix-bounds-2 : tie.Need-array-share-prefix-bounds-2
 array-share-prefix-bounds-2 c =
     let a = c .before .before .before .before .before .before .before .before .args in let p = c .before .before .before .before .before .before .before .before .pre in
     omega (arith, p .1 .1 .1, sound (a .sheet .now) (p .0 .1) .few-colours)
 
--- src/lib.rt:258:26
 slice-aggregate-draws-of : tie.Need-slice-aggregate-draws-of
 slice-aggregate-draws-of c =
     let a = c .before .before .before .before .before .before .before .before .before .args in let p = c .before .before .before .before .before .before .before .before .before .pre in
     part-long 8 (boundsOf ((sheetIn (a .sheet .now)) .colours)) (c .before .before .before .bounds-of .result) (a .colours) (c .before .before .before .bounds-of .ensures) (p .1 .1 .1 ∙ sym (bounds-long ((sheetIn (a .sheet .now)) .colours)))
 
--- src/lib.rt:258:17
 draws-of-requires : tie.Need-draws-of-requires
 draws-of-requires c κs =
     let a = c .before .before .before .before .before .before .before .before .before .args in let p = c .before .before .before .before .before .before .before .before .before .pre in
     let e = (bounds-part (a .sheet .now) (p .0 .1) (c .before .before .before .bounds-of .result) (a .colours) (c .before .before .before .bounds-of .ensures) (p .1 .1 .1)) in
     (omega (arith, ap length e, bounds-long ((sheetIn (a .sheet .now)) .colours), sound (a .sheet .now) (p .0 .1) .few-colours), (bounds-low (a .sheet .now) (p .0 .1) (take (a .colours) (c .before .before .before .bounds-of .result)) e, product-low (a .sheet .now) (p .0 .1) (take (a .colours) (c .before .before .before .bounds-of .result)) e))
 
--- src/lib.rt:259:14
 xs-of-requires : tie.Need-xs-of-requires
 xs-of-requires c κs = search needs
 
--- src/lib.rt:260:14
 ys-of-requires : tie.Need-ys-of-requires
 ys-of-requires c κs = search needs
 
--- src/lib.rt:261:17
 colours-of-requires : tie.Need-colours-of-requires
 colours-of-requires c κs = search needs
 
--- src/lib.rt:265:9
 array-share-prefix-heights : tie.Need-array-share-prefix-heights
 array-share-prefix-heights c =
     let a = c .before .before .before .before .before .before .before .before .before .before .before .before .before .args in let p = c .before .before .before .before .before .before .before .before .before .before .before .before .before .pre in
     omega (arith, p .1 .1 .0, sound (a .sheet .now) (p .0 .1) .few-slots)
 
--- src/lib.rt:265:9
 slice-aggregate-lay-sites : tie.Need-slice-aggregate-lay-sites
 slice-aggregate-lay-sites c =
     let a = c .before .before .before .before .before .before .before .before .before .before .before .before .before .before .args in let p = c .before .before .before .before .before .before .before .before .before .before .before .before .before .before .pre in
     part-long 48 ((sheetIn (a .sheet .now)) .slots) (c .before .before .before .before .before .before .before .before .before .heights-of .result) (a .slots) (c .before .before .before .before .before .before .before .before .before .heights-of .ensures) (p .1 .1 .0)
 
--- src/lib.rt:266:9
 array-share-prefix-bounds-3 : tie.Need-array-share-prefix-bounds-3
 array-share-prefix-bounds-3 c =
     let a = c .before .before .before .before .before .before .before .before .before .before .before .before .before .before .args in let p = c .before .before .before .before .before .before .before .before .before .before .before .before .before .before .pre in
     omega (arith, p .1 .1 .1, sound (a .sheet .now) (p .0 .1) .few-colours)
 
--- src/lib.rt:266:9
 slice-aggregate-lay-sites-2 : tie.Need-slice-aggregate-lay-sites-2
 slice-aggregate-lay-sites-2 c =
     let a = c .before .before .before .before .before .before .before .before .before .before .before .before .before .before .before .args in let p = c .before .before .before .before .before .before .before .before .before .before .before .before .before .before .before .pre in
     part-long 8 (boundsOf ((sheetIn (a .sheet .now)) .colours)) (c .before .before .before .before .before .before .before .before .before .bounds-of .result) (a .colours) (c .before .before .before .before .before .before .before .before .before .bounds-of .ensures) (p .1 .1 .1 ∙ sym (bounds-long ((sheetIn (a .sheet .now)) .colours)))
 
--- src/lib.rt:267:9
 array-share-prefix-radices : tie.Need-array-share-prefix-radices
 array-share-prefix-radices c =
     let a = c .before .before .before .before .before .before .before .before .before .before .before .before .before .before .before .args in let p = c .before .before .before .before .before .before .before .before .before .before .before .before .before .before .before .pre in
     omega (arith, p .1 .1 .1, sound (a .sheet .now) (p .0 .1) .few-colours)
 
--- src/lib.rt:267:9
 slice-aggregate-lay-sites-3 : tie.Need-slice-aggregate-lay-sites-3
 slice-aggregate-lay-sites-3 c =
     let a = c .before .before .before .before .before .before .before .before .before .before .before .before .before .before .before .before .args in let p = c .before .before .before .before .before .before .before .before .before .before .before .before .before .before .before .before .pre in
     part-long 8 (radicesBy (take (a .colours) (c .before .before .before .before .before .before .before .before .before .before .bounds-of .result))) (c .before .before .before .before .before .before .before .before .radices-of .result) (a .colours) (c .before .before .before .before .before .before .before .before .radices-of .ensures) ((part-long 8 (boundsOf ((sheetIn (a .sheet .now)) .colours)) (c .before .before .before .before .before .before .before .before .before .before .bounds-of .result) (a .colours) (c .before .before .before .before .before .before .before .before .before .before .bounds-of .ensures) (p .1 .1 .1 ∙ sym (bounds-long ((sheetIn (a .sheet .now)) .colours)))) ∙ sym (radices-long (take (a .colours) (c .before .before .before .before .before .before .before .before .before .before .bounds-of .result))))
 
--- src/lib.rt:268:9
 array-share-prefix-draws : tie.Need-array-share-prefix-draws
 array-share-prefix-draws c =
     let a = c .before .before .before .before .before .before .before .before .before .before .before .before .before .before .before .before .args in let p = c .before .before .before .before .before .before .before .before .before .before .before .before .before .before .before .before .pre in
     omega (arith, p .1 .1 .1, sound (a .sheet .now) (p .0 .1) .few-colours)
 
--- src/lib.rt:268:9
 slice-aggregate-lay-sites-4 : tie.Need-slice-aggregate-lay-sites-4
 slice-aggregate-lay-sites-4 c =
     let a = c .before .before .before .before .before .before .before .before .before .before .before .before .before .before .before .before .before .args in let p = c .before .before .before .before .before .before .before .before .before .before .before .before .before .before .before .before .before .pre in
     part-long 8 (drawsBy 1 (take (a .colours) (c .before .before .before .before .before .before .before .before .before .before .before .bounds-of .result))) (c .before .before .before .before .before .before .before .draws-of .result) (a .colours) (c .before .before .before .before .before .before .before .draws-of .ensures) ((part-long 8 (boundsOf ((sheetIn (a .sheet .now)) .colours)) (c .before .before .before .before .before .before .before .before .before .before .before .bounds-of .result) (a .colours) (c .before .before .before .before .before .before .before .before .before .before .before .bounds-of .ensures) (p .1 .1 .1 ∙ sym (bounds-long ((sheetIn (a .sheet .now)) .colours)))) ∙ sym (draws-long 1 (take (a .colours) (c .before .before .before .before .before .before .before .before .before .before .before .bounds-of .result))))
 
--- src/lib.rt:269:9
 array-share-prefix-ys : tie.Need-array-share-prefix-ys
 array-share-prefix-ys c =
     let a = c .before .before .before .before .before .before .before .before .before .before .before .before .before .before .before .before .before .args in let p = c .before .before .before .before .before .before .before .before .before .before .before .before .before .before .before .before .before .pre in
     omega (arith, p .1 .1 .2, sound (a .sheet .now) (p .0 .1) .few-sites)
 
--- src/lib.rt:269:9
 slice-aggregate-lay-sites-5 : tie.Need-slice-aggregate-lay-sites-5
 slice-aggregate-lay-sites-5 c =
     let a = c .before .before .before .before .before .before .before .before .before .before .before .before .before .before .before .before .before .before .args in let p = c .before .before .before .before .before .before .before .before .before .before .before .before .before .before .before .before .before .before .pre in
     part-long 32 (ysOf ((sheetIn (a .sheet .now)) .sites)) (c .before .before .before .before .before .before .ys-of .result) (a .sites) (c .before .before .before .before .before .before .ys-of .ensures) (p .1 .1 .2 ∙ sym (ys-long ((sheetIn (a .sheet .now)) .sites)))
 
--- src/lib.rt:270:9
 array-share-prefix-codes : tie.Need-array-share-prefix-codes
 array-share-prefix-codes c =
     let a = c .before .before .before .before .before .before .before .before .before .before .before .before .before .before .before .before .before .before .args in let p = c .before .before .before .before .before .before .before .before .before .before .before .before .before .before .before .before .before .before .pre in
     omega (arith, p .1 .1 .2, sound (a .sheet .now) (p .0 .1) .few-sites)
 
--- src/lib.rt:270:9
 slice-aggregate-lay-sites-6 : tie.Need-slice-aggregate-lay-sites-6
 slice-aggregate-lay-sites-6 c =
     let a = c .before .before .before .before .before .before .before .before .before .before .before .before .before .before .before .before .before .before .before .args in let p = c .before .before .before .before .before .before .before .before .before .before .before .before .before .before .before .before .before .before .before .pre in
     part-long 32 (coloursOf ((sheetIn (a .sheet .now)) .sites)) (c .before .before .before .before .before .before .colours-of .result) (a .sites) (c .before .before .before .before .before .before .colours-of .ensures) (p .1 .1 .2 ∙ sym (cs-long ((sheetIn (a .sheet .now)) .sites)))
 
--- src/lib.rt:271:9
 array-share-prefix-xs : tie.Need-array-share-prefix-xs
 array-share-prefix-xs c =
     let a = c .before .before .before .before .before .before .before .before .before .before .before .before .before .before .before .before .before .before .before .args in let p = c .before .before .before .before .before .before .before .before .before .before .before .before .before .before .before .before .before .before .before .pre in
     omega (arith, p .1 .1 .2, sound (a .sheet .now) (p .0 .1) .few-sites)
 
--- src/lib.rt:271:9
 slice-aggregate-lay-sites-7 : tie.Need-slice-aggregate-lay-sites-7
 slice-aggregate-lay-sites-7 c =
     let a = c .before .before .before .before .before .before .before .before .before .before .before .before .before .before .before .before .before .before .before .before .args in let p = c .before .before .before .before .before .before .before .before .before .before .before .before .before .before .before .before .before .before .before .before .pre in
     part-long 32 (xsOf ((sheetIn (a .sheet .now)) .sites)) (c .before .before .before .before .before .before .before .before .before .xs-of .result) (a .sites) (c .before .before .before .before .before .before .before .before .before .xs-of .ensures) (p .1 .1 .2 ∙ sym (xs-long ((sheetIn (a .sheet .now)) .sites)))
 
--- src/lib.rt:272:9
 array-share-prefix-caps : tie.Need-array-share-prefix-caps
 array-share-prefix-caps c =
     let a = c .before .before .before .before .before .before .before .before .before .before .before .before .before .before .before .before .before .before .before .before .args in let p = c .before .before .before .before .before .before .before .before .before .before .before .before .before .before .before .before .before .before .before .before .pre in
     omega (arith, p .1 .1 .2, sound (a .sheet .now) (p .0 .1) .few-sites)
 
--- src/lib.rt:272:9
 slice-aggregate-lay-sites-8 : tie.Need-slice-aggregate-lay-sites-8
 slice-aggregate-lay-sites-8 c =
     let a = c .before .before .before .before .before .before .before .before .before .before .before .before .before .before .before .before .before .before .before .before .before .args in let p = c .before .before .before .before .before .before .before .before .before .before .before .before .before .before .before .before .before .before .before .before .before .pre in
     sym (length-take-le (a .sites) (replicate {A = ℕ} 32 0) (omega (arith, length-replicate {A = ℕ} 32 0, p .1 .1 .2, sound (a .sheet .now) (p .0 .1) .few-sites)))
 
--- src/lib.rt:263:5
 lay-sites-requires : tie.Need-lay-sites-requires
 lay-sites-requires c κs =
     let a = c .before .before .before .before .before .before .before .before .before .before .before .before .before .before .before .before .before .before .before .before .before .before .before .args in let p = c .before .before .before .before .before .before .before .before .before .before .before .before .before .before .before .before .before .before .before .before .before .before .before .pre in
@@ -180,15 +151,12 @@ lay-sites-requires c κs =
       ((λ i. zero-part (a .sites) 32 i), (areas-from (a .sheet .now) (a .work .now) (a .out .now) (p .0) (p .1 .0) (c .before .before .before .before .before .before .before .before .before .before .before .before .before .before .before .before .before .before .before .measures-of .result) (take (a .slots) (c .before .before .before .before .before .before .before .before .before .before .before .before .before .before .before .before .before .before .heights-of .result)) (take (a .sites) (c .before .before .before .before .before .before .before .before .before .before .before .ys-of .result)) ((c .before .before .before .before .before .before .before .before .before .before .before .before .before .before .before .before .before .before .before .measures-of .ensures) ∙ rw (p .1 .1 .1, p .1 .1 .3)) (part-is 48 ((sheetIn (a .sheet .now)) .slots) (c .before .before .before .before .before .before .before .before .before .before .before .before .before .before .before .before .before .before .heights-of .result) (a .slots) (c .before .before .before .before .before .before .before .before .before .before .before .before .before .before .before .before .before .before .heights-of .ensures) (p .1 .1 .0)) (part-is 32 (ysOf ((sheetIn (a .sheet .now)) .sites)) (c .before .before .before .before .before .before .before .before .before .before .before .ys-of .result) (a .sites) (c .before .before .before .before .before .before .before .before .before .before .before .ys-of .ensures) (p .1 .1 .2 ∙ sym (ys-long ((sheetIn (a .sheet .now)) .sites)))), steady-made (a .sheet .now) (a .work .now) (a .out .now) (p .0) (p .1 .0) (c .before .before .before .before .before .before .before .before .before .before .before .before .before .before .before .before .before .before .before .measures-of .result) (take (a .slots) (c .before .before .before .before .before .before .before .before .before .before .before .before .before .before .before .before .before .before .heights-of .result)) (take (a .colours) (c .before .before .before .before .before .before .before .before .before .before .before .before .before .before .before .before .before .bounds-of .result)) (take (a .colours) (c .before .before .before .before .before .before .before .before .before .before .before .before .before .before .before .radices-of .result)) (take (a .sites) (c .before .before .before .before .before .before .before .before .before .before .before .ys-of .result)) (take (a .sites) (c .before .before .before .before .before .before .before .before .before .before .colours-of .result)) ((c .before .before .before .before .before .before .before .before .before .before .before .before .before .before .before .before .before .before .before .measures-of .ensures) ∙ rw (p .1 .1 .1, p .1 .1 .3)) (part-is 48 ((sheetIn (a .sheet .now)) .slots) (c .before .before .before .before .before .before .before .before .before .before .before .before .before .before .before .before .before .before .heights-of .result) (a .slots) (c .before .before .before .before .before .before .before .before .before .before .before .before .before .before .before .before .before .before .heights-of .ensures) (p .1 .1 .0)) (bounds-part (a .sheet .now) (p .0 .1) (c .before .before .before .before .before .before .before .before .before .before .before .before .before .before .before .before .before .bounds-of .result) (a .colours) (c .before .before .before .before .before .before .before .before .before .before .before .before .before .before .before .before .before .bounds-of .ensures) (p .1 .1 .1)) (part-is 8 (radicesBy (take (a .colours) (c .before .before .before .before .before .before .before .before .before .before .before .before .before .before .before .before .before .bounds-of .result))) (c .before .before .before .before .before .before .before .before .before .before .before .before .before .before .before .radices-of .result) (a .colours) (c .before .before .before .before .before .before .before .before .before .before .before .before .before .before .before .radices-of .ensures) ((part-long 8 (boundsOf ((sheetIn (a .sheet .now)) .colours)) (c .before .before .before .before .before .before .before .before .before .before .before .before .before .before .before .before .before .bounds-of .result) (a .colours) (c .before .before .before .before .before .before .before .before .before .before .before .before .before .before .before .before .before .bounds-of .ensures) (p .1 .1 .1 ∙ sym (bounds-long ((sheetIn (a .sheet .now)) .colours)))) ∙ sym (radices-long (take (a .colours) (c .before .before .before .before .before .before .before .before .before .before .before .before .before .before .before .before .before .bounds-of .result))))) (part-is 32 (ysOf ((sheetIn (a .sheet .now)) .sites)) (c .before .before .before .before .before .before .before .before .before .before .before .ys-of .result) (a .sites) (c .before .before .before .before .before .before .before .before .before .before .before .ys-of .ensures) (p .1 .1 .2 ∙ sym (ys-long ((sheetIn (a .sheet .now)) .sites)))) (part-is 32 (coloursOf ((sheetIn (a .sheet .now)) .sites)) (c .before .before .before .before .before .before .before .before .before .before .colours-of .result) (a .sites) (c .before .before .before .before .before .before .before .before .before .before .colours-of .ensures) (p .1 .1 .2 ∙ sym (cs-long ((sheetIn (a .sheet .now)) .sites)))))),
     )
 
--- src/lib.rt:245:1
 same-length : tie.Need-same-length
 same-length c = search needs
 
--- src/lib.rt:245:1
 same-length-2 : tie.Need-same-length-2
 same-length-2 c = search needs
 
--- src/lib.rt:245:1
 returns : tie.Need-returns
 returns c =
     let a = c .before .before .before .before .before .before .before .before .before .before .before .before .before .before .before .before .before .before .before .before .before .before .before .before .before .before .before .before .args in let p = c .before .before .before .before .before .before .before .before .before .before .before .before .before .before .before .before .before .before .before .before .before .before .before .before .before .before .before .before .pre in

@@ -9,21 +9,17 @@ use borrow.Author.Needs.{needs}
 use Rattle.twosided.proofs.site_order.Statement.{statement}
 use Rattle.twosided.proofs.site_order.Tie as tie
 
--- src/lib.rt:147:21
 array-borrow-prefix-order : tie.Need-array-borrow-prefix-order
 array-borrow-prefix-order c = search needs
 
--- src/lib.rt:147:21
 slice-aggregate-order-sites : tie.Need-slice-aggregate-order-sites
 slice-aggregate-order-sites c =
     sym (length-take-le (length (c .before .before .args .ys .now)) (replicate {A = ℕ} 32 0) (omega (arith, length-replicate {A = ℕ} 32 0, c .before .before .pre)))
 
--- src/lib.rt:147:5
 order-sites-requires : tie.Need-order-sites-requires
 order-sites-requires c κs =
     (length-take-le (length (c .before .before .args .ys .now)) (replicate {A = ℕ} 32 0) (omega (arith, length-replicate {A = ℕ} 32 0, c .before .before .pre)), c .before .before .pre)
 
--- src/lib.rt:141:1
 returns : tie.Need-returns
 returns c =
     order-part _ _ _ (c .before .order-sites .ensures)

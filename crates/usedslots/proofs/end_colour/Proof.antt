@@ -2,19 +2,15 @@ use borrow.Author.Needs.{needs}
 use Rattle.usedslots.proofs.end_colour.Statement.{statement}
 use Rattle.usedslots.proofs.end_colour.Tie as tie
 
--- src/lib.rt:524:12
 same-requires : tie.Need-same-requires
 same-requires c κs = search needs
 
--- src/lib.rt:524:37
 lesser-requires : tie.Need-lesser-requires
 lesser-requires c κs = search needs
 
--- src/lib.rt:524:5
 choose-requires : tie.Need-choose-requires
 choose-requires c κs = search needs
 
--- src/lib.rt:521:1
 returns : tie.Need-returns
 returns c =
     rw (c .choose .ensures, c .before .lesser .ensures, c .before .before .same .ensures)

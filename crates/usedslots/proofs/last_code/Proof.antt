@@ -2,15 +2,12 @@ use borrow.Author.Needs.{needs}
 use Rattle.usedslots.proofs.last_code.Statement.{statement}
 use Rattle.usedslots.proofs.last_code.Tie as tie
 
--- src/lib.rt:206:12
 same-requires : tie.Need-same-requires
 same-requires c κs = search needs
 
--- src/lib.rt:206:5
 choose-requires : tie.Need-choose-requires
 choose-requires c κs = search needs
 
--- src/lib.rt:203:1
 returns : tie.Need-returns
 returns c =
     rw (c .before .same .ensures) at (c .choose .ensures)

@@ -21,7 +21,6 @@ walk-at t = and 13 walk-kinds.ps (is 13 walk-kinds.ps μ-walk t) walk.Pre
 abbrev walk-below : ℕ → In 13 walk-kinds.ps
 walk-below t = and 13 walk-kinds.ps (falls 13 walk-kinds.ps _<_ μ-walk t) walk.Pre
 
--- src/lib.rt:340:9
 walk-returns : (t : ℕ) → walk-lts.Need-returns (
   tie-site-reads.Asked,
   tie-site-reads.Learnt,
@@ -32,7 +31,6 @@ walk-returns t c =
     let a = c .before .before .before .before .before .before .before .before .before .before .before .before .before .before .args in
     ended (a .q) (a .heights .now) (a .bounds .now) (a .radices .now) (a .draws .now) (a .parts .now) (a .counts .now) (a .work .now) (a .xs .now) (a .ys .now) (a .colours .now) (a .order .now) (c .before .before .before .before .before .before .before .before .before .before .before .before .before .before .pre .1 .0) (a .j) (a .labels .now) (a .out .now) (a .left .budget) (c .if1 .taken)
 
--- src/lib.rt:342:9
 walk-tie-site-requires : (t : ℕ) → walk-lts.Need-tie-site-requires (
   tie-site-reads.Asked,
   tie-site-reads.Learnt,
@@ -43,7 +41,6 @@ walk-tie-site-requires t c κs =
     let p = c .before .before .before .before .before .before .before .before .before .before .before .before .before .before .before .before .pre .1 in let a = c .before .before .before .before .before .before .before .before .before .before .before .before .before .before .before .before .args in
     (p .0, (p .1, omega (arith, p .1 .tied, long (a .q) (a .heights .now) (a .bounds .now) (a .radices .now) (a .draws .now) (a .parts .now) (a .counts .now) (a .work .now) (a .xs .now) (a .ys .now) (a .colours .now) (a .order .now) (p .0), c .before .before .if1 .left)))
 
--- src/lib.rt:343:96
 walk-add-walk : (t : ℕ) → walk-lts.Need-add-walk (
   tie-site-reads.Asked,
   tie-site-reads.Learnt,
@@ -54,7 +51,6 @@ walk-add-walk t c =
     let p = c .before .before .before .before .before .before .before .before .before .before .before .before .before .before .before .before .before .before .before .before .before .before .before .pre .1 in let a = c .before .before .before .before .before .before .before .before .before .before .before .before .before .before .before .before .before .before .before .before .before .before .before .args in
     omega (arith, p .1 .tied, long (a .q) (a .heights .now) (a .bounds .now) (a .radices .now) (a .draws .now) (a .parts .now) (a .counts .now) (a .work .now) (a .xs .now) (a .ys .now) (a .colours .now) (a .order .now) (p .0), p .0 .fewSites)
 
--- src/lib.rt:343:5
 walk-walk-requires : (t : ℕ) → walk-lts.Need-walk-requires (
   tie-site-reads.Asked,
   tie-site-reads.Learnt,
@@ -65,7 +61,6 @@ walk-walk-requires t c κs =
     let p = c .before .before .before .before .before .before .before .before .before .before .before .before .before .before .before .before .before .before .before .before .before .before .before .pre .1 in let a = c .before .before .before .before .before .before .before .before .before .before .before .before .before .before .before .before .before .before .before .before .before .before .before .args in
     (omega (arith, c .before .before .before .before .before .before .before .before .before .before .before .before .before .before .before .before .before .before .before .before .before .before .before .pre .0, p .1 .tied, long (a .q) (a .heights .now) (a .bounds .now) (a .radices .now) (a .draws .now) (a .parts .now) (a .counts .now) (a .work .now) (a .xs .now) (a .ys .now) (a .colours .now) (a .order .now) (p .0), c .before .before .before .before .before .before .before .before .before .if1 .left), (p .0, c .before .before .before .before .before .before .tie-site .ensures .0))
 
--- src/lib.rt:334:1
 walk-same-length : (t : ℕ) → walk-lts.Need-same-length (
   tie-site-reads.Asked,
   tie-site-reads.Learnt,
@@ -75,7 +70,6 @@ walk-same-length : (t : ℕ) → walk-lts.Need-same-length (
 walk-same-length t c =
     c .before .before .before .before .walk .kept .1 .1 .1 .1 .1 .1 .1 .1 .1 .1 .1 .1 .0 ∙ c .before .before .before .before .before .before .before .before .before .before .before .tie-site .kept .1 .1 .1 .1 .1 .1 .1 .1 .1 .1 .1 .1 .0
 
--- src/lib.rt:334:1
 walk-same-length-2 : (t : ℕ) → walk-lts.Need-same-length-2 (
   tie-site-reads.Asked,
   tie-site-reads.Learnt,
@@ -85,7 +79,6 @@ walk-same-length-2 : (t : ℕ) → walk-lts.Need-same-length-2 (
 walk-same-length-2 t c =
     c .before .before .before .before .walk .kept .1 .1 .1 .1 .1 .1 .1 .1 .1 .1 .1 .1 .1 .0 ∙ c .before .before .before .before .before .before .before .before .before .before .before .tie-site .kept .1 .1 .1 .1 .1 .1 .1 .1 .1 .1 .1 .1 .1 .0
 
--- src/lib.rt:334:1
 walk-returns-2 : (t : ℕ) → walk-lts.Need-returns-2 (
   tie-site-reads.Asked,
   tie-site-reads.Learnt,

@@ -2,14 +2,10 @@ use Rattle.walk.proofs.Tying.{base-low, long, level-of, Tied, tied}
 use mathlib.Core.Path.{subst⁻¹}
 use Rattle.strips.specs.Steps.{SiteIn}
 use Rattle.rows.specs.Rows.{stripOf, pointOf}
-use mathlib.Core.Path.{_≡_, refl, ap, sym, _∙_}
-use mathlib.Core.List.{List, [], _∷_, _++_}
-use mathlib.Core.Logic.{⊎-elim}
-use Prim.Native.Nat.{ℕ, zero, suc, _+_, _-_, _*_, _<_, _≤_}
+use mathlib.Core.Path.{ap, _∙_}
+use Prim.Native.Nat.{ℕ, _+_, _-_, _*_}
 use native.Mathlib.Omega.{arith}
-use native.Mathlib.Numerals.{add-one}
-use lib.ListN.{length, getD, take, drop, set, length-set}
-use borrow.Author.Tests.{eq-eqb, ne-eqb, lt-ltb, le-ltb, le-leb, lt-leb}
+use lib.ListN.{length, length-set}
 use borrow.Author.Needs.{needs}
 use Rattle.walk.proofs.tie_site.Statement.{statement}
 use Rattle.walk.proofs.tie_site.Tie as tie
@@ -33,37 +29,31 @@ mid c =
     (pointOf (c .before .before .before .before .before .before .before .site-at .result)) (c .before .before .before .before .before .before .before .site-at .ensures) (stripOf (c .before .before .before .before .before .hold-of .result)) (c .before .before .before .before .before .hold-of .ensures (a .q) (a .bounds .now) (a .radices .now) (a .draws .now))
     _ (ap (λ (z : ℕ). (a .j + 1) * z) (c .before .before .before .before .level-size .ensures)) (c .before .before .choose-slot .ensures .0)
 
--- src/lib.rt:50:9
 site-at-requires : tie.Need-site-at-requires
 site-at-requires c κs =
     let p = c .before .before .before .before .before .before .before .before .before .before .before .before .before .pre in
     (omega (arith, p .0 .xsLong, p .1 .1), omega (arith, p .0 .ysLong, p .1 .1), omega (arith, p .0 .coloursLong, p .1 .1))
 
--- src/lib.rt:51:9
 hold-of-requires : tie.Need-hold-of-requires
 hold-of-requires c κs =
     let p = c .before .before .before .before .before .before .before .before .before .before .before .before .before .before .before .pre in
     (p .1 .0 .labelsLong, p .0 .sheet .fewSlots)
 
--- src/lib.rt:52:9
 level-size-requires : tie.Need-level-size-requires
 level-size-requires c κs =
     let p = c .before .before .before .before .before .before .before .before .before .before .before .before .before .before .before .before .pre in
     (p .0 .sheet .fewSlots, p .0 .sheet .fewColours, p .0 .splits .within .few)
 
--- src/lib.rt:53:17
 add-base : tie.Need-add-base
 add-base c =
     let p = c .before .before .before .before .before .before .before .before .before .before .before .before .before .before .before .before .before .pre in omega (arith, p .0 .fewSites, p .1 .1)
 
--- src/lib.rt:53:16
 mul-base : tie.Need-mul-base
 mul-base c =
     let p = c .before .before .before .before .before .before .before .before .before .before .before .before .before .before .before .before .before .pre in let a = c .before .before .before .before .before .before .before .before .before .before .before .before .before .before .before .before .before .args in
     let h = base-low (a .q) (a .heights .now) (a .bounds .now) (a .radices .now) (a .draws .now) (a .parts .now) (a .counts .now) (a .work .now) (a .xs .now) (a .ys .now) (a .colours .now) (a .order .now) (p .0) (a .j) (p .1 .1) in
     rw (c .level-size .ensures) (omega (arith, h))
 
--- src/lib.rt:54:9
 choose-slot-requires : tie.Need-choose-slot-requires
 choose-slot-requires c κs =
     let p = c .before .before .before .before .before .before .before .before .before .before .before .before .before .before .before .before .before .before .pre in let a = c .before .before .before .before .before .before .before .before .before .before .before .before .before .before .before .before .before .before .args in (
@@ -74,56 +64,46 @@ choose-slot-requires c κs =
       ),
     )
 
--- src/lib.rt:69:9
 step-of-requires : tie.Need-step-of-requires
 step-of-requires c κs =
     let p = c .before .before .before .before .before .before .before .before .before .before .before .before .before .before .before .before .before .before .before .before .before .pre in let a = c .before .before .before .before .before .before .before .before .before .before .before .before .before .before .before .before .before .before .before .before .before .args in
     (p .0 .sheet, (subst⁻¹ (SiteIn (a .q)) (c .before .before .before .before .before .before .before .site-at .ensures) (p .0 .siteIn (a .j) (p .1 .1)), omega (arith, mid c .slotLow, p .0 .sheet .fewSlots)))
 
--- src/lib.rt:70:5
 write-tie-requires : tie.Need-write-tie-requires
 write-tie-requires c κs =
     let p = c .before .before .before .before .before .before .before .before .before .before .before .before .before .before .before .before .before .before .before .before .before .before .before .pre in let a = c .before .before .before .before .before .before .before .before .before .before .before .before .before .before .before .before .before .before .before .before .before .before .before .args in
     (p .1 .1, omega (arith, p .0 .orderLow _ (p .1 .1), p .1 .0 .room, long (a .q) (a .heights .now) (a .bounds .now) (a .radices .now) (a .draws .now) (a .parts .now) (a .counts .now) (a .work .now) (a .xs .now) (a .ys .now) (a .colours .now) (a .order .now) (p .0)), omega (arith, mid (c .before .before) .slotLow, p .0 .sheet .fewSlots))
 
--- src/lib.rt:71:16
 cast-slot : tie.Need-cast-slot
 cast-slot c =
     omega (arith, mid (c .before .before .before .before .before) .slotLow, c .before .before .before .before .before .before .before .before .before .before .before .before .before .before .before .before .before .before .before .before .before .before .before .before .before .before .pre .0 .sheet .fewSlots)
 
--- src/lib.rt:72:20
 add-labels : tie.Need-add-labels
 add-labels c =
     let p = c .before .before .before .before .before .before .before .before .before .before .before .before .before .before .before .before .before .before .before .before .before .before .before .before .before .before .before .pre in let a = c .before .before .before .before .before .before .before .before .before .before .before .before .before .before .before .before .before .before .before .before .before .before .before .before .before .before .before .args in
     let i = subst⁻¹ (SiteIn (a .q)) (c .before .before .before .before .before .before .before .before .before .before .before .before .before .site-at .ensures) (p .0 .siteIn (a .j) (p .1 .1)) in
     omega (arith, i .colourLow, p .0 .sheet .fewColours)
 
--- src/lib.rt:72:5
 mul-labels : tie.Need-mul-labels
 mul-labels c =
     omega (arith, mid (c .before .before .before .before .before .before) .slotLow, c .before .before .before .before .before .before .before .before .before .before .before .before .before .before .before .before .before .before .before .before .before .before .before .before .before .before .before .pre .0 .sheet .fewSlots)
 
--- src/lib.rt:72:5
 slice-write-labels : tie.Need-slice-write-labels
 slice-write-labels c =
     let p = c .before .before .before .before .before .before .before .before .before .before .before .before .before .before .before .before .before .before .before .before .before .before .before .before .before .before .before .pre in
     omega (arith, mid (c .before .before .before .before .before .before) .slotLow, p .1 .0 .labelsLong, ap length (c .before .before .before .before .before .before .before .before .choose-slot .ensures .1))
 
--- src/lib.rt:73:9
 monus-requires : tie.Need-monus-requires
 monus-requires c κs = search needs
 
--- src/lib.rt:26:1
 same-length : tie.Need-same-length
 same-length c =
     simp length-set (ap length (c .before .before .before .before .before .before .before .before .before .choose-slot .ensures .1))
 
--- src/lib.rt:26:1
 same-length-2 : tie.Need-same-length-2
 same-length-2 c =
     ap length (c .before .before .before .before .write-tie .ensures) ∙ length-set (c .before .before .before .before .before .before .before .before .before .before .before .before .before .before .before .before .before .before .before .before .before .before .before .before .before .before .before .before .args .out .now) _ _
 
--- src/lib.rt:26:1
 returns : tie.Need-returns
 returns c =
     let m = mid (c .before .before .before .before .before .before .before) in let f = c .before .before .before .before .before .before .step-of .ensures in
