@@ -191,7 +191,7 @@ wipes-is q hs bs rs ds xs ys cs os out area s g r e =
     let within : (length os + 1) * levelSize q hs ≤ area = omega (arith, g .within, ap (λ (n : ℕ). (n + 1) * levelSize q hs) (r .long)) in
     let long : length (pointsBy xs ys cs) ≡ length os = points-long xs ys cs (length os) (sym (r .long)) (g .sites .ysLong ∙ sym (r .long)) (g .sites .csLong ∙ sym (r .long)) in
     record {
-      small = rw e (mul-le-mul {n₂ = 33} {m₂ = 12960000} few (size (length hs) (q .colours) (q .budgets) (g .framed .slotsFew) (g .framed .coloursFew) (g .framed .budgetsFew) .fourth));
+      small = rw e (mul-le-mul {n₂ = 33} {m₂ = 12960000} few (size (length hs) (q .colours) (q .budgets) (g .framed .slotsFew) (g .framed .coloursFew) (g .framed .budgetsFew)));
       fits = rw e within;
       wipes = λ work. rw (e, long) refl;
     }

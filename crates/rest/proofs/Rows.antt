@@ -2,7 +2,7 @@
 use mathlib.Core.Path.{_≡_, refl, sym, ap, _∙_}
 use mathlib.Core.Bool.{Bool, true, false, cond}
 use mathlib.Core.List.{List}
-use Prim.Native.Nat.{ℕ, suc, _+_, _-_, _*_, _≤_, _<_}
+use Prim.Native.Nat.{ℕ, suc, _+_, _-_, _≤_, _<_}
 use native.Mathlib.Numerals.{add-one}
 use native.Mathlib.Omega.{arith}
 use lib.Dec.{eqb}
@@ -13,9 +13,10 @@ use Rattle.search.specs.Cost.{plus}
 use Rattle.search.proofs.Cost.{least-cong}
 use Rattle.optimum.specs.OneSided.{topWord}
 use Rattle.search.specs.Sums.{listing}
-use Rattle.optimum.proofs.Levels.{pack-lt}
 use Rattle.search.proofs.Sums.{listing-first, length-listing}
 use native.Mathlib.Nat.{mul-le-mul}
+use Rattle.rows.specs.Rows.{Lies}
+use Rattle.rows.proofs.Places.{row-fits, rows-few}
 use Rattle.budgets.specs.Budgets.{Within, partAt, shareBy}
 use Rattle.rest.specs.Rest.{shareRow, rowOf, levelSize, StripIn, LevelIn, joinRow, foldRows}
 
@@ -61,50 +62,17 @@ pub join-long : (parts counts acc work : List ℕ) (row : ℕ) → length (joinR
 unfolding joinRow
 join-long parts counts acc work row = length-listing _ 0 (length acc)
 
-pub record Row (m C R a ca b cb : ℕ) : Type 0 where
-  pub first : a * (C + 1) ≤ 441
-  pub second : (a * (C + 1) + ca) * (m + 2) ≤ 22450
-  pub third : ((a * (C + 1) + ca) * (m + 2) + b) * (C + 1) ≤ 202491
-  pub fourth : rowOf m C R a ca b cb ≤ 12959936
-  pub inside : rowOf m C R a ca b cb + R ≤ levelSize m C R
+-- a strip in range is one of its level
+pub lies : (m C R a ca b cb : ℕ) → StripIn m C R a ca b cb → Lies m C (record { a = a; ca = ca; b = b; cb = cb; d = 0 })
+lies m C R a ca b cb i =
+    record { aLow = omega (arith, i .aLow); caLow = omega (arith, i .caLow); bLow = omega (arith, i .bLow); cbLow = omega (arith, i .cbLow); dLow = refl }
 
-pub row : (m C R a ca b cb : ℕ) → StripIn m C R a ca b cb → Row m C R a ca b cb
-row m C R a ca b cb i =
-    let e₁ : a ≤ 49 = omega (arith, i .aLow, i .fewSlots) in
-    let e₂ : C + 1 ≤ 9 = omega (arith, i .fewColours) in
-    let e₃ : m + 2 ≤ 50 = omega (arith, i .fewSlots) in
-    let f₁ = mul-le-mul {n₂ = 49} {m₂ = 9} e₁ e₂ in
-    let g₁ : a * (C + 1) + ca ≤ 449 = omega (arith, i .caLow) in
-    let f₂ = mul-le-mul {n₂ = 449} {m₂ = 50} g₁ e₃ in
-    let g₂ : (a * (C + 1) + ca) * (m + 2) + b ≤ 22499 = omega (arith, i .bLow) in
-    let f₃ = mul-le-mul {n₂ = 22499} {m₂ = 9} g₂ e₂ in
-    let g₃ : ((a * (C + 1) + ca) * (m + 2) + b) * (C + 1) + cb ≤ 202499 = omega (arith, i .cbLow) in
-    let f₄ = mul-le-mul {n₂ = 202499} {m₂ = 64} g₃ (i .fewBudgets) in
-    let h₁ = pack-lt a ca (m + 2) (C + 1) (omega (arith, i .aLow)) (omega (arith, i .caLow)) in
-    let h₂ = pack-lt _ b _ (m + 2) h₁ (omega (arith, i .bLow)) in
-    let h₃ = pack-lt _ cb _ (C + 1) h₂ (omega (arith, i .cbLow)) in
-    record { first = f₁; second = f₂; third = f₃; fourth = f₄; inside = whole _ _ R h₃ }
-  where
-    whole : (x X B : ℕ) → x < X → x * B + B ≤ X * B
-    whole x X B h =
-        let e : X ≡ suc x + (X - suc x) = omega arith in
-        omega (arith, ap (λ (z : ℕ). z * B) e)
+pub row-inside : (m C R a ca b cb : ℕ) → StripIn m C R a ca b cb → rowOf m C R a ca b cb + R ≤ levelSize m C R
+row-inside m C R a ca b cb i = row-fits m C R _ (lies m C R a ca b cb i)
 
--- the words of a level, factor by factor
-pub record Size (m C R : ℕ) : Type 0 where
-  pub first : (m + 2) * (C + 1) ≤ 450
-  pub second : (m + 2) * (C + 1) * (m + 2) ≤ 22500
-  pub third : (m + 2) * (C + 1) * (m + 2) * (C + 1) ≤ 202500
-  pub fourth : levelSize m C R ≤ 12960000
-
-pub size : (m C R : ℕ) → m ≤ 48 → C ≤ 8 → R ≤ 64 → Size m C R
-size m C R a b c =
-    let h : m + 2 ≤ 50 = omega arith in
-    let k : C + 1 ≤ 9 = omega arith in
-    let f₁ = mul-le-mul {n₂ = 50} {m₂ = 9} h k in
-    let f₂ = mul-le-mul {n₂ = 450} {m₂ = 50} f₁ h in
-    let f₃ = mul-le-mul {n₂ = 22500} {m₂ = 9} f₂ k in
-    record { first = f₁; second = f₂; third = f₃; fourth = mul-le-mul {n₂ = 202500} {m₂ = 64} f₃ c }
+-- a level has few words
+pub size : (m C R : ℕ) → m ≤ 48 → C ≤ 8 → R ≤ 64 → levelSize m C R ≤ 12960000
+size m C R a b c = mul-le-mul {n₂ = 202500} {m₂ = 64} (rows-few m C a b) c
 
 -- ---- the fold over the open labels
 

@@ -9,14 +9,16 @@ use Rattle.search.specs.Share.{just}
 use Rattle.search.specs.Sums.{listing}
 use Rattle.optimum.specs.OneSided.{topWord}
 use Rattle.budgets.specs.Budgets.{Within, shareBy}
+use Rattle.rows.specs.Rows as rows
+use Rattle.rows.specs.Rows.{rowsOf}
 
 -- where the entries of a strip begin in its level: m slots, C colours, R budgets
 abbrev pub rowOf : (m C R a ca b cb : ℕ) → ℕ
-rowOf m C R a ca b cb = (((a * (C + 1) + ca) * (m + 2) + b) * (C + 1) + cb) * R
+rowOf m C R a ca b cb = rows.rowOf m C (record { a = a; ca = ca; b = b; cb = cb; d = 0 }) * R
 
 -- the words of a level
 abbrev pub levelSize : (m C R : ℕ) → ℕ
-levelSize m C R = (m + 2) * (C + 1) * (m + 2) * (C + 1) * R
+levelSize m C R = rowsOf m C * R
 
 -- the numbers are a sheet's, and a strip's ends and colours are in range
 pub record StripIn (m C R a ca b cb : ℕ) : Type 0 where

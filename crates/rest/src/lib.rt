@@ -10,15 +10,16 @@ ghost use Rattle.search.specs.Sums.{listing};
 ghost use Rattle.budgets.specs.Budgets.{Within};
 ghost use Rattle.rest.specs.Rest.{rowOf, levelSize, StripIn, LevelIn, joinRow, foldRows, restRows};
 use arrays::Measures;
+use rows::Strip;
+use rows::row_place;
+use rows::rows_of;
 
 // The words of a level of m slots.
 pub fn level_size(q: Measures, m: usize) -> usize
     requires { ⌜ (m ≤ 48) × (q .colours ≤ 8) × (q .budgets ≤ 64) ⌝ }
     ensures { λ r. ⌜ r ≡ levelSize m (q .colours) (q .budgets) ⌝ }
 {
-    let c = q.colours as usize + 1;
-    let h = m + 2;
-    h * c * h * c * (q.budgets as usize)
+    rows_of(q, m) * (q.budgets as usize)
 }
 
 // One strip more takes its share, from the highest budget down: what a lower one needs is still there.
@@ -39,12 +40,13 @@ fn row_of(q: Measures, m: usize, a: u32, ca: u32, b: u32, cb: u32) -> usize
     requires { ⌜ StripIn m (q .colours) (q .budgets) a ca b cb ⌝ }
     ensures { λ r. ⌜ r ≡ rowOf m (q .colours) (q .budgets) a ca b cb ⌝ }
 {
-    let c = q.colours as usize + 1;
-    let r = q.budgets as usize;
-    let h = m + 2;
-    let up = a as usize * c + ca as usize;
-    let down = up * h + b as usize;
-    (down * c + cb as usize) * r
+    let strip = Strip {
+        a: a,
+        ca: ca,
+        b: b,
+        cb: cb,
+    };
+    row_place(q, m, strip)
 }
 
 // The strip from the label a to the slot before the place b takes its share, if that slot has a label.

@@ -88,7 +88,7 @@ module _ (q : Measures) (hs bs rs ds parts counts work xs ys cs order : List ℕ
   pub base-low : (j : ℕ) → j < length order → (j + 1) * levelSize (length hs) (q .colours) (q .budgets) ≤ 414720000
   base-low j l =
       let h : j + 1 ≤ 32 = omega (arith, a .fewSites) in
-      mul-le-mul {n₂ = 32} {m₂ = 12960000} h (size (length hs) (q .colours) (q .budgets) (a .sheet .fewSlots) (a .sheet .fewColours) (a .splits .within .few) .fourth)
+      mul-le-mul {n₂ = 32} {m₂ = 12960000} h (size (length hs) (q .colours) (q .budgets) (a .sheet .fewSlots) (a .sheet .fewColours) (a .splits .within .few))
 
   -- one step, to the slot that the loop finds
   module _ (j : ℕ) (L out : List ℕ) (v here k : ℕ) (l : j < length order) (w : Standing P q parts counts work points L out j v here)

@@ -1,5 +1,5 @@
 use Rattle.rest.proofs.Rows.{last-strip}
-use Rattle.rest.proofs.Rows.{row, Folding, folding-none, folding-more, folding-all}
+use Rattle.rest.proofs.Rows.{row-inside, Folding, folding-none, folding-more, folding-all}
 use mathlib.Core.Path.{sym, _∙_}
 use Prim.Native.Nat.{_-_}
 use native.Mathlib.Omega.{arith}
@@ -87,12 +87,12 @@ row-of-requires c κs =
 add-row : tie.Need-add-row Inv-loop μ-loop
 add-row c =
     let p = c .before .before .before .before .before .before .before .before .pre .0 in
-    omega (arith, c .row-of .ensures, row _ _ _ _ _ _ _ (last-strip _ _ _ _ _ _ _ _ _ _ _ _ p (c .before .before .loop .inv)) .inside, p .within)
+    omega (arith, c .row-of .ensures, row-inside _ _ _ _ _ _ _ (last-strip _ _ _ _ _ _ _ _ _ _ _ _ p (c .before .before .loop .inv)), p .within)
 
 join-row-requires : tie.Need-join-row-requires Inv-loop μ-loop
 join-row-requires c κs =
     let p = c .before .before .before .before .before .before .before .before .before .pre .0 in let f = c .before .before .before .loop .inv in
-    (rw (f .long) (p .splits), omega (arith, c .before .row-of .ensures, row _ _ _ _ _ _ _ (last-strip _ _ _ _ _ _ _ _ _ _ _ _ p f) .inside, p .within, f .long))
+    (rw (f .long) (p .splits), omega (arith, c .before .row-of .ensures, row-inside _ _ _ _ _ _ _ (last-strip _ _ _ _ _ _ _ _ _ _ _ _ p f), p .within, f .long))
 
 same-length : tie.Need-same-length Inv-loop μ-loop
 same-length c =
