@@ -17,7 +17,8 @@ use Rattle.arrays.proofs.Whole.{whole, front}
 use Rattle.arrays.proofs.Ordered.{gathered-long}
 use Rattle.tiefits.specs.declared.Label.{Label}
 use Rattle.stripcosts.specs.Costs.{upperAt, lowerAt, siteOf, stripOf}
-use Rattle.usedslots.specs.Table.{none, tableBy, capsIn, Fits, RightTo}
+use Rattle.optimum.specs.CostWord.{topWord}
+use Rattle.usedslots.specs.Table.{tableBy, capsIn, Fits, RightTo}
 use Rattle.usedslots.proofs.Strips.{strip-is}
 use Rattle.siteorder.specs.Sites.{Reorders}
 
@@ -46,8 +47,8 @@ same-taken ys cs caps order r =
       cs-long = gathered-long cs order ∙ r .long;
       caps-long = gathered-long caps order ∙ r .long;
       strips = λ q a b.
-          ap (sumTo none (λ i. siteOf q a b (getD (gathered ys order) i 0) (getD (gathered cs order) i 0) (getD (gathered caps order) i 0))) (gathered-long ys order ∙ r .long)
-          ∙ sum-cong none (λ i. siteOf q a b (getD (gathered ys order) i 0) (getD (gathered cs order) i 0) (getD (gathered caps order) i 0))
+          ap (sumTo topWord (λ i. siteOf q a b (getD (gathered ys order) i 0) (getD (gathered cs order) i 0) (getD (gathered caps order) i 0))) (gathered-long ys order ∙ r .long)
+          ∙ sum-cong topWord (λ i. siteOf q a b (getD (gathered ys order) i 0) (getD (gathered cs order) i 0) (getD (gathered caps order) i 0))
           (λ i. siteOf q a b (getD ys (getD order i 0) 0) (getD cs (getD order i 0) 0) (getD caps (getD order i 0) 0)) (length ys)
           (λ i l. rw (taken-at ys order i (omega (arith, r .long)), taken-at cs order i (omega (arith, r .long)), taken-at caps order i (omega (arith, r .long))))
           ∙ r .sums (λ i. siteOf q a b (getD ys i 0) (getD cs i 0) (getD caps i 0));
@@ -102,7 +103,7 @@ module _ (q : Measures) (hs bs rs ds ys cs caps order : List ℕ) (r : Reorders 
   labels-same : labels (tableBy q hs bs rs ys₁ cs₁) (capsIn caps₁) ≡ labels (tableBy q hs bs rs ys cs) (capsIn caps)
   unfolding next draw
   labels-same = λ i. record {
-    top = none;
+    top = topWord;
     m = suc (q .colours);
     price = λ t k c. price-same t k c i;
     next = next (tableBy q hs bs rs ys cs) (capsIn caps);
@@ -199,7 +200,7 @@ module _ (q : Measures) (hs bs rs ds ys cs caps order : List ℕ) (r : Reorders 
   free-front : value (tableBy q hs bs rs us vs) (λ i. 0) ≡ value (tableBy q hs bs rs ys cs) (λ i. 0)
   free-front = rw (ys-is, cs-is) (value-free q hs bs rs ys cs order r)
 
-  pub some-front : value (tableBy q hs bs rs ys cs) (λ i. 0) < none → value (tableBy q hs bs rs us vs) (λ i. 0) < none
+  pub some-front : value (tableBy q hs bs rs ys cs) (λ i. 0) < topWord → value (tableBy q hs bs rs us vs) (λ i. 0) < topWord
   some-front h = rw free-front h
 
   pub free-right : (w : List ℕ) → RightTo (tableBy q hs bs rs ys cs) (λ i. 0) w (q .budgets) 0 0 1 → RightTo (tableBy q hs bs rs us vs) (λ i. 0) w (q .budgets) 0 0 1

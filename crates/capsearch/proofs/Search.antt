@@ -17,7 +17,8 @@ use Rattle.optimum.specs.Steady.{Steady}
 use Rattle.optimum.proofs.Rows.{put-set}
 use Rattle.optimum.proofs.Steady.{keeps, misses, choose-is, choose-keeps}
 use Rattle.arrays.specs.declared.Measures.{Measures}
-use Rattle.usedslots.specs.Table.{none, tableBy, capsIn}
+use Rattle.optimum.specs.CostWord.{topWord}
+use Rattle.usedslots.specs.Table.{tableBy, capsIn}
 use Rattle.marking.proofs.Lower.{value-lower}
 use Rattle.aims.specs.Aims.{Within}
 use Rattle.goals.specs.Goals.{Reaches, Goals}
@@ -153,7 +154,7 @@ module _ (G : Instance) (w : ℕ) (steady : Steady G w) (caps : List ℕ) (i : �
 
 -- ---- a test at a slot
 
-pub filled-some : (q : Measures) (hs bs rs ys cs work : List ℕ) (w : ℕ) → Filled q hs bs rs ys cs work w → value (tableBy q hs bs rs ys cs) uncapped < none
+pub filled-some : (q : Measures) (hs bs rs ys cs work : List ℕ) (w : ℕ) → Filled q hs bs rs ys cs work w → value (tableBy q hs bs rs ys cs) uncapped < topWord
 filled-some q hs bs rs ys cs work w f = rw (f .least-is) (f .some)
 
 pub keeps-at : (H : Instance) (caps : List ℕ) (w : ℕ) (t : Bool) → value H uncapped ≡ w → t ≡ eqb (value H (capsIn caps)) (value H uncapped) → t ≡ keepsCost H caps w

@@ -7,7 +7,8 @@ use lib.Dec.{eqb}
 use lib.ListN.{length}
 use Rattle.optimum.specs.UsedSlots.{Instance, value}
 use Rattle.arrays.specs.declared.Measures.{Measures}
-use Rattle.usedslots.specs.Table.{none, tableBy, capsIn, tableWords, RightTo}
+use Rattle.optimum.specs.CostWord.{topWord}
+use Rattle.usedslots.specs.Table.{tableBy, capsIn, tableWords, RightTo}
 use Rattle.goals.specs.Goals.{Reaches}
 use Rattle.capsearch.specs.declared.Range.{Range}
 
@@ -29,4 +30,4 @@ pub record Filled (q : Measures) (hs bs rs ys cs work : List ℕ) (least : ℕ) 
   pub long : tableWords q hs ≤ length work
   pub right : RightTo (tableBy q hs bs rs ys cs) uncapped work (q .budgets) 0 0 1
   pub least-is : value (tableBy q hs bs rs ys cs) uncapped ≡ least
-  pub some : least < none
+  pub some : least < topWord

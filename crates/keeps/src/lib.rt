@@ -6,7 +6,8 @@ ghost use lib.Dec.{eqb};
 ghost use lib.ListN.{length, getD};
 ghost use Rattle.optimum.specs.UsedSlots.{value};
 ghost use Rattle.bands.specs.Bands.{Marks};
-ghost use Rattle.usedslots.specs.Table.{Fits, none, tableWords, tableBy, capsIn, RightTo};
+ghost use Rattle.optimum.specs.CostWord.{topWord};
+ghost use Rattle.usedslots.specs.Table.{Fits, tableWords, tableBy, capsIn, RightTo};
 use arrays::Measures;
 use marking::mark_place;
 use usedslots::first_code;
@@ -29,7 +30,7 @@ pub fn keeps_marked(
 ) -> bool
     requires { ⌜ Fits q (now heights) (now bounds) (now radices) (now draws) (now ys) (now colours) (now caps) ⌝ }
     requires { ⌜ Marks (now heights) (now ys) (now colours) (now bands) (now ends) (length (now heights)) × RightTo (tableBy q (now heights) (now bounds) (now radices) (now ys) (now colours)) (λ i. 0) (now work) (q .budgets) 0 0 1 × (length (now marks) ≡ tableWords q (now heights)) × (tableWords q (now heights) ≤ length (now work)) ⌝ }
-    requires { ⌜ ((i : ℕ) → getD (now marks) i 0 ≡ 0) × (value (tableBy q (now heights) (now bounds) (now radices) (now ys) (now colours)) (λ i. 0) < none) ⌝ }
+    requires { ⌜ ((i : ℕ) → getD (now marks) i 0 ≡ 0) × (value (tableBy q (now heights) (now bounds) (now radices) (now ys) (now colours)) (λ i. 0) < topWord) ⌝ }
     ensures { λ r. ⌜ r ≡ eqb (value (tableBy q (now (heights .entry)) (now (bounds .entry)) (now (radices .entry)) (now (ys .entry)) (now (colours .entry))) (capsIn (now (caps .entry)))) (value (tableBy q (now (heights .entry)) (now (bounds .entry)) (now (radices .entry)) (now (ys .entry)) (now (colours .entry))) (λ i. 0)) ⌝ }
 {
     let m = heights.len() as u32;

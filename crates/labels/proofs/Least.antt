@@ -16,7 +16,8 @@ use Rattle.optimum.proofs.Rows.{below-le, below-end, below-step, link-is}
 use Rattle.arrays.specs.declared.Measures.{Measures}
 use Rattle.arrays.specs.Arrays.{labelCost}
 use Rattle.stripcosts.specs.Costs.{upperAt, lowerAt, stripOf}
-use Rattle.usedslots.specs.Table.{none, tableBy, capsIn, Fits}
+use Rattle.optimum.specs.CostWord.{topWord}
+use Rattle.usedslots.specs.Table.{tableBy, capsIn, Fits}
 use Rattle.usedslots.proofs.Strips.{strip-is}
 use Rattle.usedslots.proofs.Links.{may-is, draw-is, product-low, blocks-of}
 use Rattle.allowed.specs.Allowed.{Parted, Stands}
@@ -82,7 +83,7 @@ module _ (q : Measures) (hs bs rs ds ys cs caps : List ℕ) (f : Fits q hs bs rs
 
   pub label-chosen : (s t : Chosen) (k d cost : ℕ) → k < length hs → d < q .colours → Stands q hs bs rs ds (s .place) (s .code) (s .budget) k d →
       cost ≡ stripOf q (upperAt hs (s .place) (s .code)) (lowerAt hs k (d + 1)) ys cs caps →
-      t .place ≡ k + 1 → t .code ≡ d + 1 → t .budget ≡ s .budget - getD ds d 0 → t .cost ≡ plus none (s .cost) (plus none (labelCost q) cost) →
+      t .place ≡ k + 1 → t .code ≡ d + 1 → t .budget ≡ s .budget - getD ds d 0 → t .cost ≡ plus topWord (s .cost) (plus topWord (labelCost q) cost) →
       leastAfter H (capsIn caps) s k ≤ leastAfter H (capsIn caps) t (suc k)
   label-chosen s t k d cost h l st e₁ e₂ e₃ e₄ e₅ =
       let c : cost ≡ stripOf q (upperAt hs (s .place) (s .code)) (lowerAt hs k (suc d)) ys cs caps = rw add-one at e₁ in
@@ -91,11 +92,11 @@ module _ (q : Measures) (hs bs rs ds ys cs caps : List ℕ) (f : Fits q hs bs rs
       (may-is q hs bs rs ds ys cs caps f d l (s .budget) ∙ st .left)
       (e₂ ∙ omega arith) (e₃ ∙ omega arith)
       (e₄ ∙ rw (draw-is q hs bs rs ds ys cs caps f d l))
-      (e₅ ∙ ap (λ (z : ℕ). plus none (s .cost) (plus none (labelCost q) z)) (c ∙ strip-is q hs bs rs ys cs [] caps (s .place) (s .code) k (suc d)))
+      (e₅ ∙ ap (λ (z : ℕ). plus topWord (s .cost) (plus topWord (labelCost q) z)) (c ∙ strip-is q hs bs rs ys cs [] caps (s .place) (s .code) k (suc d)))
 
   -- all slots done
   pub cost-above : (w cost : ℕ) (s : Chosen) (k m : ℕ) → m ≡ length hs → k ≤ m → m ≤ k → w ≤ leastAfter H (capsIn caps) s k →
-      cost ≡ stripOf q (upperAt hs (s .place) (s .code)) (lowerAt hs m 0) ys cs caps → w ≤ plus none (s .cost) cost
+      cost ≡ stripOf q (upperAt hs (s .place) (s .code)) (lowerAt hs m 0) ys cs caps → w ≤ plus topWord (s .cost) cost
   cost-above w cost s k m e u v h c =
       let z : k ≡ length hs = omega arith in
       let y : cost ≡ strip H (capsIn caps) (s .place) (s .code) (suc (length hs)) 0 = c ∙ rw e (strip-is q hs bs rs ys cs [] caps (s .place) (s .code) (length hs) 0) in

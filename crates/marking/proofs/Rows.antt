@@ -19,7 +19,8 @@ use Rattle.bands.proofs.Lost as lost
 use Rattle.stripcosts.specs.Costs.{upperAt, lowerAt, stripOf}
 use Rattle.stripcosts.proofs.Costs.{lost-strip}
 use Rattle.links.specs.Rows.{sizeOf}
-use Rattle.usedslots.specs.Table.{none, tableBy, capsIn, Fits, tableWords}
+use Rattle.optimum.specs.CostWord.{topWord}
+use Rattle.usedslots.specs.Table.{tableBy, capsIn, Fits, tableWords}
 use Rattle.usedslots.proofs.Strips.{strip-is}
 use Rattle.usedslots.proofs.Links.{may-is, draw-is, row-there}
 use Rattle.rowmarks.specs.Marks.{Linked, Ended}
@@ -37,18 +38,18 @@ module _ (q : Measures) (hs bs rs ds ys cs caps : List ℕ) (f : Fits q hs bs rs
   pub row-near : (p : List ℕ) (j d : ℕ) (t : Bool) → t ≡ farFrom (slotsBy q hs) a ca (a + j) (d + 1) → t ≡ false → R p j d → R p j (suc d)
   row-near p j d t e f r = row-skip G (capsIn caps) (q .budgets) p₀ p a ca j d (λ v. link-near G (capsIn caps) a ca v (a + j) d (rw add-one at (sym e ∙ f))) r
 
-  row-out : (p : List ℕ) (j d : ℕ) → stripOf q (upperAt hs a ca) (lowerAt hs (a + j) (suc d)) ys cs caps ≡ none → R p j d → R p j (suc d)
+  row-out : (p : List ℕ) (j d : ℕ) → stripOf q (upperAt hs a ca) (lowerAt hs (a + j) (suc d)) ys cs caps ≡ topWord → R p j d → R p j (suc d)
   row-out p j d e r =
       row-skip G (capsIn caps) (q .budgets) p₀ p a ca j d
       (λ v. link-lost G (capsIn caps) a ca v (a + j) d (sym (strip-is q hs bs rs ys cs [] caps a ca (a + j) (suc d)) ∙ e)) r
 
-  pub row-lost : (p : List ℕ) (j d strip : ℕ) → strip ≡ stripOf q (upperAt hs a ca) (lowerAt hs (a + j) (d + 1)) ys cs caps → strip ≡ none → R p j d → R p j (suc d)
+  pub row-lost : (p : List ℕ) (j d strip : ℕ) → strip ≡ stripOf q (upperAt hs a ca) (lowerAt hs (a + j) (d + 1)) ys cs caps → strip ≡ topWord → R p j d → R p j (suc d)
   row-lost p j d strip e f r = row-out p j d (rw add-one at (sym e ∙ f)) r
 
   pub row-linked : (old new work : List ℕ) (j d own to sk sz strip cost : ℕ) (y : Bool) → a + j < length hs → ca ≤ q .colours → d < q .colours →
       y ≡ farFrom (slotsBy q hs) a ca (a + j) (d + 1) → y ≡ true → own ≡ cell (q .colours) (q .budgets) a ca 0 → to ≡ cell (q .colours) (q .budgets) (a + j + 1) (d + 1) 0 →
       sk ≡ getD ds d 0 → sz ≡ sizeOf (q .budgets) (getD bs d 0) sk (getD rs d 0) →
-      strip ≡ stripOf q (upperAt hs a ca) (lowerAt hs (a + j) (d + 1)) ys cs caps → cost ≡ plus none (labelCost q) strip →
+      strip ≡ stripOf q (upperAt hs a ca) (lowerAt hs (a + j) (d + 1)) ys cs caps → cost ≡ plus topWord (labelCost q) strip →
       Table G work (q .budgets) a ca → Linked old new work own to (q .budgets) sk sz cost → R old j d → R new j (suc d)
   row-linked old new work j d own to sk sz strip cost y below h l far o e₁ e₂ e₃ e₄ e₅ e₆ t k r =
       row-more G (capsIn caps) (q .budgets) a ca j d cost sk sz p₀ old new work below h l (rw add-one at (sym far ∙ o))

@@ -29,7 +29,8 @@ use Rattle.arrays.specs.Arrays.{boundsOf, xsOf, ysOf, coloursOf, radicesBy, dra
 use Rattle.arrays.proofs.Instances.{bounds-at, xs-at, ys-at, colours-at}
 use Rattle.arrays.proofs.Whole.{front}
 use Rattle.arrays.proofs.Ordered.{radices-long, draws-long, product-positive, product-are}
-use Rattle.usedslots.specs.Table.{none, unitOf, labelCost, instanceBy, tableBy, capsIn, Fits, tableWords, RightTo}
+use Rattle.optimum.specs.CostWord.{topWord}
+use Rattle.usedslots.specs.Table.{unitOf, labelCost, instanceBy, tableBy, capsIn, Fits, tableWords, RightTo}
 use Rattle.usedslots.proofs.Strips.{value-ranks}
 use Rattle.capwords.specs.Caps.{wordsBy}
 use Rattle.capsearch.specs.Search.{uncapped, Filled}
@@ -48,14 +49,14 @@ module _ (q : Measures) (hs bs rs ys cs xs caps : List ℕ) (zeros : (i : ℕ) �
   least-is w e = e ∙ sym (value-ranks q hs bs rs ys cs xs (capsIn caps)) ∙ ap (value G) caps-none
 
   -- what the walk asks of the table, at the least cost that was found
-  pub steady-at : (w : ℕ) → w ≡ value (tableBy q hs bs rs ys cs) (capsIn caps) → (w ≡ none → ⊥) → w ≤ none →
-      (value (tableBy q hs bs rs ys cs) uncapped < none → Steady (tableBy q hs bs rs ys cs) (value (tableBy q hs bs rs ys cs) uncapped)) → Steady (tableBy q hs bs rs ys cs) w
+  pub steady-at : (w : ℕ) → w ≡ value (tableBy q hs bs rs ys cs) (capsIn caps) → (w ≡ topWord → ⊥) → w ≤ topWord →
+      (value (tableBy q hs bs rs ys cs) uncapped < topWord → Steady (tableBy q hs bs rs ys cs) (value (tableBy q hs bs rs ys cs) uncapped)) → Steady (tableBy q hs bs rs ys cs) w
   steady-at w e z b f =
       let v : w ≡ value (tableBy q hs bs rs ys cs) uncapped = e ∙ ap (value (tableBy q hs bs rs ys cs)) caps-none in
       subst⁻¹ (λ (k : ℕ). Steady (tableBy q hs bs rs ys cs) k) v (f (omega (arith, z)))
 
   -- what it reads: the words of a table filled with these caps
-  pub filled-at : (w : ℕ) (work : List ℕ) → tableWords q hs ≤ length work → w ≡ value (tableBy q hs bs rs ys cs) (capsIn caps) → (w ≡ none → ⊥) → w ≤ none →
+  pub filled-at : (w : ℕ) (work : List ℕ) → tableWords q hs ≤ length work → w ≡ value (tableBy q hs bs rs ys cs) (capsIn caps) → (w ≡ topWord → ⊥) → w ≤ topWord →
       RightTo (tableBy q hs bs rs ys cs) (capsIn caps) work (q .budgets) 0 0 1 → Filled q hs bs rs ys cs work w
   filled-at w work l e z b r =
       record {
@@ -68,21 +69,21 @@ module _ (q : Measures) (hs bs rs ys cs xs caps : List ℕ) (zeros : (i : ℕ) �
   cut : (n : ℕ) (work now : List ℕ) → drop n now ≡ drop n work → replicate n 0 ++ drop n now ≡ replicate n 0 ++ drop n work
   cut n work now e = ap (λ (l : List ℕ). replicate n 0 ++ l) e
 
-  pub laid-none : (w words : ℕ) (work now zeroed out : List ℕ) → w ≡ value (tableBy q hs bs rs ys cs) (capsIn caps) → w ≡ none →
+  pub laid-none : (w words : ℕ) (work now zeroed out : List ℕ) → w ≡ value (tableBy q hs bs rs ys cs) (capsIn caps) → w ≡ topWord →
       drop words now ≡ drop words work → zeroed ≡ replicate words 0 ++ drop words now → Laid q G words work out 10 zeroed out
   laid-none w words work now zeroed out e z d c =
-      let v : value G uncapped ≡ none = sym (least-is w e) ∙ z in
-      let l : ltb (value G uncapped) none ≡ false = le-ltb (value G uncapped) none (omega arith) in
+      let v : value G uncapped ≡ topWord = sym (least-is w e) ∙ z in
+      let l : ltb (value G uncapped) topWord ≡ false = le-ltb (value G uncapped) topWord (omega arith) in
       record { fault-is = rw l; out-is = rw l; work-is = c ∙ cut words work now d }
 
-  pub laid-some : (w head words : ℕ) (new work now zeroed out outs : List ℕ) → w ≡ value (tableBy q hs bs rs ys cs) (capsIn caps) → (w ≡ none → ⊥) → w ≤ none →
+  pub laid-some : (w head words : ℕ) (new work now zeroed out outs : List ℕ) → w ≡ value (tableBy q hs bs rs ys cs) (capsIn caps) → (w ≡ topWord → ⊥) → w ≤ topWord →
       length new ≡ length ys → capsIn new ≡ capAll G w (length ys) uncapped → head ≡ 8 * 268435456 + countBy q w * 2097152 + lengthBy q w →
       outs ≡ wordsBy head new ++ drop (length new + 1) out →
       drop words now ≡ drop words work → zeroed ≡ replicate words 0 ++ drop words now → Laid q G words work out 0 zeroed outs
   unfolding ties
   laid-some w head words new work now zeroed out outs e z b n h f o d c =
       let v : w ≡ value G uncapped = least-is w e in
-      let l : ltb (value G uncapped) none ≡ true = lt-ltb (value G uncapped) none (omega (arith, z)) in
+      let l : ltb (value G uncapped) topWord ≡ true = lt-ltb (value G uncapped) topWord (omega (arith, z)) in
       record { fault-is = rw l; out-is = rw l (o ∙ rw (n, f) (is ∙ ap (λ (z : ℕ). layoutWords (countBy q z) (lengthBy q z) (ties G (capAll G z (length ys) uncapped)) ++ drop (length ys + 1) out) v)); work-is = c ∙ cut words work now d }
     where
       is : layoutWords (countBy q w) (lengthBy q w) (listing (λ i. getD new i 0 - 1) 0 (length ys)) ++ drop (length ys + 1) out ≡
@@ -138,8 +139,8 @@ xs-long (s ∷ ss) = ap suc (xs-long ss)
 -- ---- the ranks have no part in what the walk asks of the table
 
 steady-ranks : (q : Measures) (hs bs rs ys cs xs : List ℕ) →
-    (value (instanceBy q hs bs rs ys cs xs) uncapped < none → Steady (instanceBy q hs bs rs ys cs xs) (value (instanceBy q hs bs rs ys cs xs) uncapped)) →
-    value (tableBy q hs bs rs ys cs) uncapped < none → Steady (tableBy q hs bs rs ys cs) (value (tableBy q hs bs rs ys cs) uncapped)
+    (value (instanceBy q hs bs rs ys cs xs) uncapped < topWord → Steady (instanceBy q hs bs rs ys cs xs) (value (instanceBy q hs bs rs ys cs xs) uncapped)) →
+    value (tableBy q hs bs rs ys cs) uncapped < topWord → Steady (tableBy q hs bs rs ys cs) (value (tableBy q hs bs rs ys cs) uncapped)
 steady-ranks q hs bs rs ys cs xs f h =
     let same = value-ranks q hs bs rs ys cs xs in
     let st : Steady (instanceBy q hs bs rs ys cs xs) (value (tableBy q hs bs rs ys cs) uncapped) =
@@ -168,7 +169,7 @@ module _ (s : Sheet) where
   unfolding farEnough siteShare rankOf
   instance-is = λ i. record {
     slots = sheetSlots s;
-    top = none;
+    top = topWord;
     n = ys-long (s .sites) i;
     colours = length (s .colours);
     each = labelCost (measuresOf s);
@@ -209,14 +210,14 @@ module _ (ws k o : List ℕ) (t : takesSheet ws k o) (two : (sheetIn ws) .isTwoS
       Laid (measuresOf (sheetIn ws)) (instanceOf (sheetIn ws)) (workFor (sheetIn ws)) k o fault work out → Result ws k o fault out work
   unfolding countIn lengthIn
   made-from fault work out l =
-      by-order none (leastOf (sheetIn ws))
+      by-order topWord (leastOf (sheetIn ws))
       (λ h.
-      let b : ltb (leastOf (sheetIn ws)) none ≡ false = le-ltb (leastOf (sheetIn ws)) none h in
+      let b : ltb (leastOf (sheetIn ws)) topWord ≡ false = le-ltb (leastOf (sheetIn ws)) topWord h in
       let e₁ : fault ≡ 10 = l .fault-is ∙ rw b in
       let e₂ : out ≡ o = l .out-is ∙ rw b in
       rw (e₁, e₂, l .work-is) (two-sided-none ws k o t two h))
       (λ h.
-      let b : ltb (leastOf (sheetIn ws)) none ≡ true = lt-ltb (leastOf (sheetIn ws)) none h in
+      let b : ltb (leastOf (sheetIn ws)) topWord ≡ true = lt-ltb (leastOf (sheetIn ws)) topWord h in
       let e₁ : fault ≡ 0 = l .fault-is ∙ rw b in
       let e₂ : out ≡ laidBy (measuresOf (sheetIn ws)) (instanceOf (sheetIn ws)) ++ drop (length ((sheetIn ws) .sites) + 1) o = l .out-is ∙ rw b in
       rw (e₁, e₂, l .work-is) (two-sided-call ws k o t two h))
@@ -236,12 +237,12 @@ module _ (ws k o : List ℕ) (t : takesSheet ws k o) (two : (sheetIn ws) .isTwoS
   -- what the walk over caps asks of the table
   pub steady-made : (q : Measures) (hs bs rs ys cs : List ℕ) →
       q ≡ measuresOf (sheetIn ws) → hs ≡ (sheetIn ws) .slots → bs ≡ boundsOf ((sheetIn ws) .colours) → rs ≡ radicesBy bs → ys ≡ ysOf ((sheetIn ws) .sites) →
-      cs ≡ coloursOf ((sheetIn ws) .sites) → value (tableBy q hs bs rs ys cs) uncapped < none → Steady (tableBy q hs bs rs ys cs) (value (tableBy q hs bs rs ys cs) uncapped)
+      cs ≡ coloursOf ((sheetIn ws) .sites) → value (tableBy q hs bs rs ys cs) uncapped < topWord → Steady (tableBy q hs bs rs ys cs) (value (tableBy q hs bs rs ys cs) uncapped)
   steady-made q hs bs rs ys cs e₁ e₂ e₃ e₄ e₅ e₆ =
       let s : Sheet = sheetIn ws in
       let r : rs ≡ radicesBy (boundsOf (s .colours)) = rw e₃ at e₄ in
-      let st : value (instance s) uncapped < none → Steady (instance s) (value (instance s) uncapped) =
-      subst (λ (H : Instance). value H uncapped < none → Steady H (value H uncapped)) (sym (instance-is s)) (steady s (sound ws (t .1)) two (sites-coloured ws (t .1))) in
+      let st : value (instance s) uncapped < topWord → Steady (instance s) (value (instance s) uncapped) =
+      subst (λ (H : Instance). value H uncapped < topWord → Steady H (value H uncapped)) (sym (instance-is s)) (steady s (sound ws (t .1)) two (sites-coloured ws (t .1))) in
       rw (e₁, e₂, e₃, r, e₅, e₆)
       (steady-ranks (measuresOf s) (s .slots) (boundsOf (s .colours)) (radicesBy (boundsOf (s .colours))) (ysOf (s .sites)) (coloursOf (s .sites)) (xsOf (s .sites)) st)
 

@@ -9,7 +9,7 @@ use Rattle.labelling.specs.Layout.{layoutWords}
 use Rattle.optimum.specs.UsedSlots.{Instance, value, capAll, ties}
 use Rattle.arrays.specs.declared.Measures.{Measures}
 pub use Rattle.costs.specs.Costs.{countBy, lengthBy}
-use Rattle.usedslots.specs.Table.{none}
+use Rattle.optimum.specs.CostWord.{topWord}
 use Rattle.capsearch.specs.Search.{uncapped}
 
 -- the layout of the least cost that comes first
@@ -19,6 +19,6 @@ laidBy q G =
 
 -- what a call on the arrays of a sheet answers and leaves
 pub record Laid (q : Measures) (G : Instance) (words : ℕ) (work out : List ℕ) (fault : ℕ) (works outs : List ℕ) : Type 0 where
-  pub fault-is : fault ≡ cond (ltb (value G uncapped) none) 0 10
-  pub out-is : outs ≡ cond (ltb (value G uncapped) none) (laidBy q G ++ drop (G .n + 1) out) out
+  pub fault-is : fault ≡ cond (ltb (value G uncapped) topWord) 0 10
+  pub out-is : outs ≡ cond (ltb (value G uncapped) topWord) (laidBy q G ++ drop (G .n + 1) out) out
   pub work-is : works ≡ replicate words 0 ++ drop words work

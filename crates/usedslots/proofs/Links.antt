@@ -24,7 +24,8 @@ use Rattle.arrays.specs.Arrays.{slotsBy, labelCost}
 use Rattle.bands.specs.Bands.{Lost, Barred}
 use Rattle.stripcosts.specs.Costs.{upperAt, lowerAt, stripOf}
 use Rattle.links.specs.Rows.{linked, Blocks, sizeOf}
-use Rattle.usedslots.specs.Table.{none, tableBy, capsIn, Fits, tableWords, RightFrom, RowTo, RowOf}
+use Rattle.optimum.specs.CostWord.{topWord}
+use Rattle.usedslots.specs.Table.{tableBy, capsIn, Fits, tableWords, RightFrom, RowTo, RowOf}
 use Rattle.bands.proofs.Lost as lost
 use Rattle.stripcosts.proofs.Costs.{lost-strip}
 use Rattle.usedslots.proofs.Strips.{strip-is}
@@ -124,12 +125,12 @@ module _ (q : Measures) (hs bs rs ds ys cs caps : List ℕ) (f : Fits q hs bs rs
     pub row-near : (row : List ℕ) (t : Bool) → t ≡ farFrom (slotsBy q hs) a ca (a + j) (d + 1) → t ≡ false → RowTo G fx row (q .budgets) a ca j d → RowTo G fx row (q .budgets) a ca j (suc d)
     row-near row t e f h v l = h v l ∙ sym (acc-same G fx a ca v j d (link-near G fx a ca v (a + j) d (rw add-one at (sym e ∙ f))))
 
-    row-out : (row : List ℕ) → stripOf q (upperAt hs a ca) (lowerAt hs (a + j) (suc d)) ys cs caps ≡ none →
+    row-out : (row : List ℕ) → stripOf q (upperAt hs a ca) (lowerAt hs (a + j) (suc d)) ys cs caps ≡ topWord →
         RowTo G fx row (q .budgets) a ca j d → RowTo G fx row (q .budgets) a ca j (suc d)
     row-out row e h v l =
         h v l ∙ sym (acc-same G fx a ca v j d (link-lost G fx a ca v (a + j) d (sym (strip-is q hs bs rs ys cs [] caps a ca (a + j) (suc d)) ∙ e)))
 
-    pub row-lost : (row : List ℕ) (strip : ℕ) → strip ≡ stripOf q (upperAt hs a ca) (lowerAt hs (a + j) (d + 1)) ys cs caps → strip ≡ none →
+    pub row-lost : (row : List ℕ) (strip : ℕ) → strip ≡ stripOf q (upperAt hs a ca) (lowerAt hs (a + j) (d + 1)) ys cs caps → strip ≡ topWord →
         RowTo G fx row (q .budgets) a ca j d → RowTo G fx row (q .budgets) a ca j (suc d)
     row-lost row strip e f h = row-out row (rw add-one at (sym e ∙ f)) h
 
@@ -137,7 +138,7 @@ module _ (q : Measures) (hs bs rs ds ys cs caps : List ℕ) (f : Fits q hs bs rs
         RightFrom G fx work (q .budgets) (suc a) →
         ((v : ℕ) → v < q .budgets → getD new v 0 ≡
         linked row work (cell (q .colours) (q .budgets) (suc (a + j)) (suc d) 0) skip size
-        (plus none (labelCost q) (stripOf q (upperAt hs a ca) (lowerAt hs (a + j) (suc d)) ys cs caps)) v) →
+        (plus topWord (labelCost q) (stripOf q (upperAt hs a ca) (lowerAt hs (a + j) (suc d)) ys cs caps)) v) →
         RowTo G fx row (q .budgets) a ca j d → RowTo G fx new (q .budgets) a ca j (suc d)
     row-linked row new work below far right e h v l =
         e v l ∙ by-test (leb skip (v % size)) taken left ∙ sym (acc-link G fx a ca v j d)
@@ -146,7 +147,7 @@ module _ (q : Measures) (hs bs rs ds ys cs caps : List ℕ) (f : Fits q hs bs rs
         from = cell (q .colours) (q .budgets) (suc (a + j)) (suc d) 0
 
         cost : ℕ
-        cost = plus none (labelCost q) (stripOf q (upperAt hs a ca) (lowerAt hs (a + j) (suc d)) ys cs caps)
+        cost = plus topWord (labelCost q) (stripOf q (upperAt hs a ca) (lowerAt hs (a + j) (suc d)) ys cs caps)
 
         entry : getD work (cell (q .colours) (q .budgets) (suc (a + j)) (suc d) 0 + (v - skip)) 0 ≡ T G fx (suc (a + j)) (suc d) (v - skip)
         entry =
@@ -154,22 +155,22 @@ module _ (q : Measures) (hs bs rs ds ys cs caps : List ℕ) (f : Fits q hs bs rs
             rw z (right (suc (a + j)) (suc d) (v - skip) (omega arith) (omega arith) (omega arith) (omega arith) (omega arith))
 
         taken : leb skip (v % size) ≡ true → linked row work (cell (q .colours) (q .budgets) (suc (a + j)) (suc d) 0) skip size
-            (plus none (labelCost q) (stripOf q (upperAt hs a ca) (lowerAt hs (a + j) (suc d)) ys cs caps)) v ≡ min (acc G fx a ca v j d) (link G fx a ca v (a + j) d)
+            (plus topWord (labelCost q) (stripOf q (upperAt hs a ca) (lowerAt hs (a + j) (suc d)) ys cs caps)) v ≡ min (acc G fx a ca v j d) (link G fx a ca v (a + j) d)
         taken t =
             rw (t, h v l, entry, strip-is q hs bs rs ys cs [] caps a ca (a + j) (suc d))
             (ap (min (acc G fx a ca v j d)) (sym (link-is G fx a ca v (a + j) d far (may-is v ∙ t) ∙ rw draw-is)))
 
         left : leb skip (v % size) ≡ false → linked row work (cell (q .colours) (q .budgets) (suc (a + j)) (suc d) 0) skip size
-            (plus none (labelCost q) (stripOf q (upperAt hs a ca) (lowerAt hs (a + j) (suc d)) ys cs caps)) v ≡ min (acc G fx a ca v j d) (link G fx a ca v (a + j) d)
+            (plus topWord (labelCost q) (stripOf q (upperAt hs a ca) (lowerAt hs (a + j) (suc d)) ys cs caps)) v ≡ min (acc G fx a ca v j d) (link G fx a ca v (a + j) d)
         left t =
-            let s : link G fx a ca v (a + j) d ≡ none = link-spent G fx a ca v (a + j) d (may-is v ∙ t) in
-            let b : acc G fx a ca v j d ≤ none = acc-le G fx a ca v j d in
+            let s : link G fx a ca v (a + j) d ≡ topWord = link-spent G fx a ca v (a + j) d (may-is v ∙ t) in
+            let b : acc G fx a ca v j d ≤ topWord = acc-le G fx a ca v j d in
             rw (t, h v l) (omega arith)
 
     -- the same of the numbers that code has
     pub row-links : (row new work : List ℕ) (from sk sz strip cost : ℕ) (t : Bool) →
         from ≡ cell (q .colours) (q .budgets) (a + j + 1) (d + 1) 0 → sk ≡ skip → sz ≡ sizeOf (q .budgets) (getD bs d 0) sk (getD rs d 0) →
-        strip ≡ stripOf q (upperAt hs a ca) (lowerAt hs (a + j) (d + 1)) ys cs caps → cost ≡ plus none (labelCost q) strip →
+        strip ≡ stripOf q (upperAt hs a ca) (lowerAt hs (a + j) (d + 1)) ys cs caps → cost ≡ plus topWord (labelCost q) strip →
         a + j < length hs → t ≡ farFrom (slotsBy q hs) a ca (a + j) (d + 1) → t ≡ true → RightFrom G fx work (q .budgets) (suc a) →
         ((v : ℕ) → v < q .budgets → getD new v 0 ≡ linked row work from sk sz cost v) →
         RowTo G fx row (q .budgets) a ca j d → RowTo G fx new (q .budgets) a ca j (suc d)
@@ -177,7 +178,7 @@ module _ (q : Measures) (hs bs rs ds ys cs caps : List ℕ) (f : Fits q hs bs rs
         row-linked row new work below (rw add-one at (sym far ∙ f)) right
         (λ v l.
         let z₃ : sz ≡ size = rw e₂ at e₃ in
-        let z₄ : cost ≡ plus none (labelCost q) (stripOf q (upperAt hs a ca) (lowerAt hs (a + j) (suc d)) ys cs caps) = rw (e₄, add-one) at e₅ in
+        let z₄ : cost ≡ plus topWord (labelCost q) (stripOf q (upperAt hs a ca) (lowerAt hs (a + j) (suc d)) ys cs caps) = rw (e₄, add-one) at e₅ in
         let z₁ : from ≡ cell (q .colours) (q .budgets) (suc (a + j)) (suc d) 0 = simp add-one at e₁ in
         e v l ∙ rw (z₁, e₂, z₃, z₄))
         h

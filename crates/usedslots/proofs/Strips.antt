@@ -16,7 +16,8 @@ use Rattle.arrays.specs.declared.Measures.{Measures}
 use Rattle.stripcosts.proofs.Costs.{past-over}
 use Rattle.stripcosts.specs.Costs.{upperAt, lowerAt, insideOf, siteOf, stripOf}
 use Rattle.tiefits.specs.Fits.{upFits, downFits}
-use Rattle.usedslots.specs.Table.{none, instanceBy, capsIn}
+use Rattle.optimum.specs.CostWord.{topWord}
+use Rattle.usedslots.specs.Table.{instanceBy, capsIn}
 
 -- where a site lies between two labels, one is clear of it if it is far enough above or below; an edge is
 below-gap : (edge : Bool) (g h y : ℕ) → edge || ltb y h ≡ true → edge || leb (y + g) h ≡ edge || leb g (apart h y)
@@ -49,7 +50,7 @@ site-is q hs bs rs ys cs xs caps (suc j) ca k cb i =
 pub strip-is : (q : Measures) (hs bs rs ys cs xs caps : List ℕ) (a ca k cb : ℕ) →
     stripOf q (upperAt hs a ca) (lowerAt hs k cb) ys cs caps ≡ strip (instanceBy q hs bs rs ys cs xs) (capsIn caps) a ca (suc k) cb
 unfolding stripOf strip
-strip-is q hs bs rs ys cs xs caps a ca k cb = sum-cong none _ _ (length ys) (λ i l. site-is q hs bs rs ys cs xs caps a ca k cb i)
+strip-is q hs bs rs ys cs xs caps a ca k cb = sum-cong topWord _ _ (length ys) (λ i l. site-is q hs bs rs ys cs xs caps a ca k cb i)
 
 -- the ranks have no part in it
 pub value-ranks : (q : Measures) (hs bs rs ys cs xs : List ℕ) (fx : ℕ → ℕ) → value (instanceBy q hs bs rs ys cs xs) fx ≡ value (instanceBy q hs bs rs ys cs []) fx

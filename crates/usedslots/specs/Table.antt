@@ -13,17 +13,13 @@ use Rattle.arrays.specs.declared.Measures.{Measures}
 use Rattle.arrays.specs.Arrays.{slotsBy}
 pub use Rattle.arrays.specs.Arrays.{unitOf, labelCost}
 
--- the cost that stands for none
-abbrev pub none : ℕ
-none = topWord
-
 -- ---- the instance: all slots' heights, all colours' bounds and radices, and each site's y, colour and rank
 
 abbrev pub instanceBy : Measures → (heights bounds radices ys colours ranks : List ℕ) → Instance
 instanceBy q hs bs rs ys cs xs =
     record {
       slots = slotsBy q hs;
-      top = none;
+      top = topWord;
       n = length ys;
       colours = q .colours;
       each = labelCost q;
