@@ -6,7 +6,7 @@ ghost use Rattle.links.specs.Rows.{linked, Blocks};
 use links::link_blocks;
 use links::relax;
 
-// The same, a single budget by itself.
+// Lowers a row by what a label next below costs, block by block, or a single budget by itself.
 pub fn link(
     row: &mut [u32],
     work: &[u32],
