@@ -1,4 +1,4 @@
-//! Every refusal, on both sides of its edge. Refusal 12 is the program's: see `program.rs`.
+//! Every refusal, on both sides of its edge. Refusal 12 is the program's: see `program`.
 
 mod common;
 

@@ -1,0 +1,71 @@
+//! The program in processes that are forked from one that is loaded: a run takes a quarter of the time.
+
+use std::io::{Read, Result, Write};
+use std::os::unix::process::ExitStatusExt;
+use std::path::{Path, PathBuf};
+use std::process::{Child, ChildStdin, ChildStdout, Command, ExitStatus, Stdio};
+
+/// Builds the fork server (fork_server.c) over the object file that the program was linked from.
+pub fn build() -> PathBuf {
+    let here = Path::new(env!("CARGO_MANIFEST_DIR"));
+    let object = here.join("../../target/obj/backbones.o");
+    assert!(object.exists(), "{} is missing: run `rt check backbones`", object.display());
+    let folder = Path::new(env!("CARGO_TARGET_TMPDIR"));
+    let (renamed, server) = (folder.join("program.o"), folder.join("fork_server"));
+    succeed(Command::new("objcopy").arg("--redefine-sym=main=program").args([&object, &renamed]));
+    let source = here.join("tests/program/fork_server.c");
+    let warnings = ["-std=c11", "-D_POSIX_C_SOURCE=200809L", "-Wall", "-Wextra", "-Wpedantic", "-Werror"];
+    succeed(Command::new("gcc").args(warnings).args(["-O2", "-static", "-o"]).args([&server, &source, &renamed]));
+    server
+}
+
+fn succeed(command: &mut Command) {
+    let status = command.status().unwrap_or_else(|error| panic!("{command:?}: {error}"));
+    assert!(status.success(), "{command:?}: {status}");
+}
+
+/// A fork server that runs; it ends with its standard input.
+pub struct ForkServer {
+    process: Child,
+    requests: ChildStdin,
+    replies: ChildStdout,
+}
+
+impl ForkServer {
+    pub fn start(server: &Path) -> Result<ForkServer> {
+        let mut process = Command::new(server).stdin(Stdio::piped()).stdout(Stdio::piped()).spawn()?;
+        let requests = process.stdin.take().expect("stdin is piped");
+        let replies = process.stdout.take().expect("stdout is piped");
+        Ok(ForkServer { process, requests, replies })
+    }
+
+    /// What the program prints, or how it failed.
+    pub fn run(&mut self, input: &[u8]) -> std::result::Result<String, String> {
+        let (status, text) = self.exchange(input).map_err(|error| error.to_string())?;
+        if !status.success() {
+            return Err(status.to_string());
+        }
+        String::from_utf8(text).map_err(|error| error.to_string())
+    }
+
+    fn exchange(&mut self, input: &[u8]) -> Result<(ExitStatus, Vec<u8>)> {
+        let length = u32::try_from(input.len()).expect("an input is short");
+        self.requests.write_all(&[&length.to_le_bytes(), input].concat())?;
+        let status = self.number()?;
+        let mut text = vec![0; self.number()? as usize];
+        self.replies.read_exact(&mut text)?;
+        Ok((ExitStatus::from_raw(status as i32), text))
+    }
+
+    fn number(&mut self) -> Result<u32> {
+        let mut four = [0; 4];
+        self.replies.read_exact(&mut four)?;
+        Ok(u32::from_le_bytes(four))
+    }
+
+    /// Ends the server, which has to have nothing left to say.
+    pub fn end(mut self) -> Result<ExitStatus> {
+        drop(self.requests);
+        self.process.wait()
+    }
+}

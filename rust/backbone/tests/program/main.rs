@@ -1,0 +1,121 @@
+//! The program on random bytes: it ends, it crashes on none, and it prints what a plain one prints.
+
+#[path = "../common/mod.rs"]
+mod common;
+mod forked;
+mod started;
+
+use common::SHEET_A;
+use forked::ForkServer;
+use model::program::{prints, MOST_BYTES};
+use model::random::{any_list, damage, small_sheet, Random};
+use started::{with_runner, with_runners, Runner};
+use std::path::Path;
+
+const INPUTS: usize = 200_000;
+/// One in so many inputs is also given to the program as the system starts it.
+const STARTED: usize = 50;
+/// The inputs are shared out among threads, each with its own seed: more than processors, so that none is idle
+/// while a thread waits for its program.
+const SEEDS: [u64; 4] = [41, 42, 43, 44];
+
+fn bytes(words: &[u32]) -> Vec<u8> {
+    words.iter().flat_map(|word| word.to_le_bytes()).collect()
+}
+
+/// Noise, sheets, damaged sheets, lists of any sort, and lengths on both sides of the limit.
+fn any_input(random: &mut Random) -> Vec<u8> {
+    let noise = |count: u32, random: &mut Random| (0..count).map(|_| random.word() as u8).collect();
+    let mut input: Vec<u8> = match random.below(8) {
+        0 => {
+            let count = random.below(64);
+            noise(count, random)
+        }
+        1 => {
+            let count = random.between(MOST_BYTES as u32 - 5, MOST_BYTES as u32 + 5);
+            [bytes(&[0x10008008]), noise(count - 4, random)].concat()
+        }
+        2 | 3 => bytes(&any_list(random)),
+        4 => {
+            let mut words = small_sheet(random).words();
+            damage(&mut words, random);
+            bytes(&words)
+        }
+        _ => bytes(&small_sheet(random).words()),
+    };
+    if random.one_in(16) {
+        input.truncate(input.len().saturating_sub(random.between(1, 3) as usize));
+    }
+    input
+}
+
+/// Runs the program on some inputs beside the plain one, and counts refusals and, at 0, layouts.
+fn compare(server: &Path, runner: &Runner, inputs: usize, seed: u64) -> [usize; 13] {
+    let mut server = ForkServer::start(server).expect("the fork server starts");
+    let mut random = Random::new(seed);
+    let mut met = [0; 13];
+    for number in 0..inputs {
+        let input = any_input(&mut random);
+        let expected = prints(&input);
+        assert_eq!(server.run(&input).as_deref(), Ok(&expected[..]), "{input:x?}");
+        if number % STARTED == 0 {
+            assert_eq!(runner.run(&input).as_deref(), Ok(&expected[..]), "{input:x?}");
+        }
+        let refusal = expected
+            .strip_prefix("refused ")
+            .map_or(0, |number| number.trim_end().parse::<usize>().expect("a refusal has a number"));
+        met[refusal] += 1;
+    }
+    assert!(server.end().is_ok_and(|status| status.success()));
+    met
+}
+
+#[test]
+fn random_bytes() {
+    let server = forked::build();
+    let share = INPUTS.div_ceil(SEEDS.len());
+    let met = with_runners(SEEDS.len(), |index, runner| compare(&server, runner, share, SEEDS[index]));
+    let times = |refusal: usize| met.iter().map(|met| met[refusal]).sum::<usize>();
+    // All answers but 9, which 33 answer words shut out, and 11, which is the judge's.
+    let rare = (0..13).filter(|refusal| ![9, 11].contains(refusal) && times(*refusal) < INPUTS / 1000);
+    assert_eq!(rare.count(), 0, "{met:?}");
+}
+
+#[test]
+fn sheet_a_is_printed_as_drawn() {
+    with_runner(|runner| {
+        let drawn = "labels 2 length 19\nsite 0 colour 0 slot 0\nsite 1 colour 0 slot 0\nsite 2 colour 1 slot 2\n";
+        assert_eq!(runner.run(&bytes(&SHEET_A)).as_deref(), Ok(drawn));
+    });
+}
+
+#[test]
+fn inputs_that_are_no_list_of_words() {
+    with_runner(|runner| {
+        let head_and = |zeros: usize| [bytes(&[0x10008008]), vec![0; zeros]].concat();
+        assert_eq!(runner.run(&head_and(1021)).as_deref(), Ok("refused 12\n"));
+        assert_eq!(runner.run(&head_and(1024)).as_deref(), Ok("refused 12\n"));
+        assert_eq!(runner.run(&head_and(100_000)).as_deref(), Ok("refused 12\n"));
+        assert_eq!(runner.run(&head_and(1)).as_deref(), Ok("refused 12\n"));
+        assert_eq!(runner.run(&head_and(1020)).as_deref(), Ok("refused 2\n"));
+        assert_eq!(runner.run(&[]).as_deref(), Ok("refused 1\n"));
+    });
+}
+
+/// The program has 16,384 work words: one sheet needs just these, the other four times as many.
+#[test]
+fn sheets_on_both_sides_of_the_work_area() {
+    with_runner(|runner| {
+        let slots: Vec<u32> = (0..6).map(|slot| (2 << 28) | (10 * slot)).collect();
+        let sheet = |colours: &[u32], sites: u32| {
+            let sites: Vec<u32> = (0..sites).map(|x| 4 << 28 | x << 14 | 5).collect();
+            [&[0x10004030], &slots[..], colours, &sites].concat()
+        };
+        // 64 x 4 x 4 x 16 and 64 x 4 x 17 x 4.
+        let just = sheet(&[0x3000000F], 3);
+        let over = sheet(&[0x30000003], 16);
+        assert_eq!(backbone::read(&just).map(|sizes| sizes.work_words), Ok(16384));
+        assert!(runner.run(&bytes(&just)).is_ok_and(|text| text.starts_with("labels 1 ")));
+        assert_eq!(runner.run(&bytes(&over)).as_deref(), Ok("refused 8\n"));
+    });
+}
