@@ -15,10 +15,10 @@ use Rattle.labelling.specs.Promise.{takesSheet}
 use Rattle.labelling.proofs.Maker.{cleared}
 use Rattle.optimum.specs.OneSided.{topWord, instanceOf, order, pointsAt, writeTies}
 use Rattle.optimum.specs.CostWord.{countIn, lengthIn}
-use Rattle.optimum.proofs.Order.{ordered}
-use Rattle.optimum.proofs.OneSidedBest.{points-long}
-use Rattle.optimum.proofs.OneSidedAnswer.{firstCell, slotsWalked, cell-value, slots-walked, work-cells, call-unmade}
-use Rattle.optimum.proofs.Write.{call-written}
+use Rattle.optimality.proofs.Order.{ordered}
+use Rattle.optimality.proofs.OneSidedBest.{points-long}
+use Rattle.optimality.proofs.OneSidedAnswer.{firstCell, slotsWalked, cell-value, slots-walked, work-cells, call-unmade}
+use Rattle.optimality.proofs.Write.{call-written}
 use Rattle.arrays.specs.declared.Measures.{Measures}
 use Rattle.arrays.specs.Arrays.{measuresOf, boundsOf, drawsList, xsOf, ysOf, coloursOf, gathered, instanceBy, pointsBy}
 use Rattle.arrays.proofs.Instances.{instance-by, points-by}

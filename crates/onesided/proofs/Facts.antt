@@ -17,8 +17,8 @@ use Rattle.labelling.proofs.Words.{height-low}
 use Rattle.optimum.specs.OneSided.{order}
 use Rattle.optimum.specs.Budgets.{radicesOf}
 use Rattle.optimum.proofs.Full.{full-holds}
-use Rattle.optimum.proofs.Order.{ordered}
-use Rattle.optimum.proofs.OneSidedAnswer.{work-cells}
+use Rattle.optimality.proofs.Order.{ordered}
+use Rattle.optimality.proofs.OneSidedAnswer.{work-cells}
 use Rattle.arrays.specs.declared.Measures.{Measures}
 use Rattle.search.proofs.Sums.{length-listing}
 use Rattle.arrays.specs.Arrays.{measuresOf, boundsOf, drawsList, xsOf, ysOf, coloursOf, gathered, instanceBy, pointsBy}

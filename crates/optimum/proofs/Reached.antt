@@ -6,19 +6,26 @@ use mathlib.Core.List.{List, [], _∷_, _++_}
 use Prim.Native.Nat.{ℕ, zero, suc, _+_, _*_, _≤_, _<_}
 use native.Mathlib.Omega.{arith}
 use lib.ListN.{length, getD, replicate, drop}
+use borrow.Author.Tests.{eq-eqb}
 use Rattle.lists.proofs.Tests.{by-test, by-either, clash}
 use Rattle.search.specs.Radix.{below}
 use Rattle.search.specs.Strips.{holders, after, weigh}
 use Rattle.search.specs.Plan.{T, price as stripPrice, next as stripNext}
 use Rattle.optimum.specs.Slots.{Slots}
-use Rattle.optimum.specs.Strips.{Point, Strip, Instance, inside, opens, joinsUp, joinsDown, cost, draw, children, rulesOf, strips, State, price, next}
+use Rattle.optimum.specs.Strips.{Point, Strip, Instance, inside, opens, joinsUp, joinsDown, cost, draw, children, rulesOf, stripsFrom, strips, State, price, next}
 use Rattle.optimum.specs.Cells.{cells, cellOf}
 use Rattle.optimum.specs.Reached.{In, noPoint, steps, wholeSheet, Reached, TableOf}
 use Rattle.optimum.proofs.Slots.{Rising}
 use Rattle.optimum.proofs.StripsHeld.{Fit, strips-hold, price-read, next-read}
 use Rattle.optimum.proofs.Pairs.{zeros}
 use Rattle.optimum.proofs.Levels.{Coloured, InRange, asked-range}
-use Rattle.optimum.proofs.OneSidedAnswer.{empty-strips}
+
+-- the empty sheet has one strip
+pub empty-strips : (P : Instance) (L M : List ℕ) → ((j : ℕ) → getD L j 0 ≡ 0) → getD M 0 0 ≡ 0 → (r i : ℕ) → stripsFrom P r i 0 0 L M ≡ record { a = 0; ca = 0; b = suc (r + i); cb = 0; d = 0 } ∷ []
+unfolding stripsFrom
+empty-strips P L M h g zero i = rw g (ap (λ (b : ℕ). record { a = 0; ca = 0; b = suc b; cb = 0; d = 0 } ∷ []) (omega arith))
+empty-strips P L M h g (suc r) i =
+    rw (eq-eqb (getD L i 0) 0 (h i)) (empty-strips P L M h g r (suc i) ∙ ap (λ (b : ℕ). record { a = 0; ca = 0; b = suc b; cb = 0; d = 0 } ∷ []) (omega arith))
 
 in-append : (A B : List Strip) (q : Strip) → In q (A ++ B) → In q A ⊎ In q B
 unfolding In

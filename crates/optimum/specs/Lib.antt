@@ -8,6 +8,3 @@ pub mod Reached
 pub mod UsedSlots
 pub mod Rows
 pub mod Steady
-pub mod TwoSided
-pub mod Examples
-pub mod Optimum

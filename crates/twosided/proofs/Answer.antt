@@ -19,11 +19,11 @@ use Rattle.labelling.proofs.Maker.{Result}
 use Rattle.search.specs.Sums.{listing}
 use Rattle.optimum.specs.Slots.{farEnough, sheetSlots}
 use Rattle.optimum.specs.UsedSlots.{Instance, put, value, capAll, ties}
-use Rattle.optimum.specs.TwoSided.{radicesOf, instanceOf}
+use Rattle.optimality.specs.TwoSided.{radicesOf, instanceOf}
 use Rattle.optimum.specs.CostWord.{countIn, lengthIn}
 use Rattle.optimum.specs.Steady.{Steady}
-use Rattle.optimum.proofs.TwoSidedAnswer.{steady}
-use Rattle.optimum.proofs.TwoSidedCall.{leastOf, two-sided-call, two-sided-none}
+use Rattle.optimality.proofs.TwoSidedAnswer.{steady}
+use Rattle.optimality.proofs.TwoSidedCall.{leastOf, two-sided-call, two-sided-none}
 use Rattle.arrays.specs.declared.Measures.{Measures}
 use Rattle.arrays.specs.Arrays.{boundsOf, xsOf, ysOf, coloursOf, radicesBy, drawsBy, radixBy, measuresOf, padded, productBy}
 use Rattle.arrays.proofs.Instances.{bounds-at, xs-at, ys-at, colours-at}

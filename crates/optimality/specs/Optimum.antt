@@ -4,8 +4,8 @@ use mathlib.Core.List.{List}
 use mathlib.Core.Option.{Option}
 use Prim.Native.Nat.{ℕ}
 use Rattle.sheet.specs.Sheet.{Sheet}
 use Rattle.optimum.specs.OneSided.{oneSided}
-use Rattle.optimum.specs.TwoSided.{twoSided}
+use Rattle.optimality.specs.TwoSided.{twoSided}
 
 -- the ties of the best layout, in sheet order, or none
 abbrev pub optimum : Sheet → Option (List ℕ)

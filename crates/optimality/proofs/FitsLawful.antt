@@ -22,19 +22,19 @@ use Rattle.labelling.proofs.Rules.{Rules, siteAt, rules-obey}
 use Rattle.labelling.proofs.Counted.{at-slots}
 use Rattle.search.specs.Sums.{tally}
 use Rattle.search.proofs.Sums.{tally-mono}
 use Rattle.optimum.specs.Slots.{farFrom, farEnough, sheetSlots}
 use Rattle.optimum.specs.UsedSlots.{value}
-use Rattle.optimum.specs.TwoSided.{radicesOf, countUnit, lengthUnit, instanceOf}
+use Rattle.optimality.specs.TwoSided.{radicesOf, countUnit, lengthUnit, instanceOf}
 use Rattle.optimum.specs.Budgets.{boundOf, isUnbounded, fullBudget}
 use Rattle.optimum.specs.CostWord.{topWord}
 use Rattle.optimum.proofs.Chain.{is-label}
-use Rattle.optimum.proofs.Distances.{far-sym, good}
+use Rattle.optimality.proofs.Distances.{far-sym, good}
 use Rattle.optimum.proofs.Slots.{far-e}
 use Rattle.optimum.proofs.Budgets.{full-digit, draws}
 use Rattle.optimum.proofs.Fits.{coded}
-use Rattle.optimum.proofs.Least.{comes, Attained, value-attained}
-use Rattle.optimum.proofs.Caps.{Respects}
-use Rattle.optimum.proofs.LawfulFits.{length-used, drops-sum, cost, cost-top, lawful-low}
+use Rattle.optimality.proofs.Least.{comes, Attained, value-attained}
+use Rattle.optimality.proofs.Caps.{Respects}
+use Rattle.optimality.proofs.LawfulFits.{length-used, drops-sum, cost, cost-top, lawful-low}
 
 module _ (s : Sheet) (o : Sound s) (two : s .isTwoSided ≡ true) (coloured : all (colourLow (length (s .colours))) (s .sites) ≡ true) (caps : ℕ → ℕ)
     (h : Attained (instanceOf s) caps (draws s) (good s o)) where

@@ -5,10 +5,10 @@ use Rattle.search.specs.Radix.{digitOf, place}
 use Rattle.sheet.specs.Sheet.{all, rankOf, slotsIn, sitesIn, coloursIn, sitesRun, productOf}
 use Rattle.labelling.specs.Layout.{siteShare, tiedOf, isUsed, usedFrom, leastX, slotsOf, boundsKept, backbones, drops, nextRank, byRank, slotAt, comesFirst}
 use Rattle.search.specs.Sums.{listing, sumTo}
 use Rattle.optimum.specs.Slots.{over, under, farFrom, clearFrom, farEnough}
 use Rattle.optimum.specs.UsedSlots.{put, at, may, draw, allows, upCost, downCost, siteCost, inside, strip, price, next, final, below, T, value, leftmost, choose, capAll, ties, answer}
-use Rattle.optimum.specs.TwoSided.{radicesOf, twoSided}
-use Rattle.optimum.specs.Examples.{StarredTwoSided, TellingTwoSided}
+use Rattle.optimality.specs.TwoSided.{radicesOf, twoSided}
+use Rattle.examples.specs.Examples.{StarredTwoSided, TellingTwoSided}
 
 pub examples : StarredTwoSided × TellingTwoSided
 unfolding slotsIn sitesIn coloursIn sitesRun productOf plus least first Rattle.search.specs.Walk.best digitOf place listing sumTo put at over under farFrom clearFrom farEnough may draw allows upCost downCost siteCost inside strip price next final below T value leftmost choose capAll ties answer radicesOf twoSided siteShare rankOf all tiedOf isUsed usedFrom leastX slotsOf boundsKept backbones drops nextRank byRank slotAt comesFirst

@@ -20,23 +20,23 @@ use Rattle.labelling.proofs.Rules.{Rules, Bounded, obeys-rules, rules-obey}
 use Rattle.labelling.proofs.Earlier.{Earlier, better-e}
 use Rattle.labelling.proofs.Maker.{First, best-some-iff, best-none-iff}
 use Rattle.labelling.proofs.Pairs.{AllInOrder, rules-are-pairs}
 use Rattle.optimum.specs.Strips.{Point, Instance, labels, walked}
 use Rattle.optimum.specs.Budgets.{isUnbounded, digitIn}
 use Rattle.optimum.specs.CostWord.{layoutCost}
 use Rattle.optimum.specs.OneSided.{boundOf, wordOf, topWord, instanceOf, order, pointAt, pointsAt, scatter, tiesOf, oneSided}
 use Rattle.optimum.proofs.StripsHeld.{walked-first, walked-none}
 use Rattle.optimum.proofs.Neighbours.{Apart}
 use Rattle.optimum.proofs.Steps.{Steps, Pays, Tips, Turns, tips-all, turns-all, opened, total, run-e, run-i}
 use Rattle.optimum.proofs.Pairs.{zeros, StepAll, Pairs, steps-e, steps-i, first-step}
-use Rattle.optimum.proofs.Pays.{isOf, pays-e, pays-i}
+use Rattle.optimality.proofs.Pays.{isOf, pays-e, pays-i}
 use Rattle.optimum.proofs.Budgets.{bounded-low, full-digit}
-use Rattle.optimum.proofs.CostWord.{layout-low, better-costs}
-use Rattle.optimum.proofs.Order.{Rise, ordered, gather, scatter-long, gather-scatter}
-use Rattle.optimum.proofs.Distances.{good}
-use Rattle.optimum.proofs.Instance.{tip-clear, not-held, linear, budgeted}
-use Rattle.optimum.proofs.RankedPairs.{AllPairs, pairs-rising, rising-pairs, list-e, list-i}
-use Rattle.optimum.proofs.Counts.{shares-drops, count-is, lead-is, colour-is}
+use Rattle.optimality.proofs.CostWord.{layout-low, better-costs}
+use Rattle.optimality.proofs.Order.{Rise, ordered, gather, scatter-long, gather-scatter}
+use Rattle.optimality.proofs.Distances.{good}
+use Rattle.optimality.proofs.Instance.{tip-clear, not-held, linear, budgeted}
+use Rattle.optimality.proofs.RankedPairs.{AllPairs, pairs-rising, rising-pairs, list-e, list-i}
+use Rattle.optimality.proofs.Counts.{shares-drops, count-is, lead-is, colour-is}
 pub use Rattle.optimum.specs.Budgets.{fullBudget}
 
 -- ---- slots below m
 

@@ -16,11 +16,11 @@ use Rattle.labelling.proofs.Members.{noSite, used-head, used-tail}
 use Rattle.labelling.proofs.Earlier.{rankAt}
 use Rattle.labelling.proofs.LeftEnd.{start-one}
 use Rattle.labelling.proofs.Pairs.{AllInOrder}
 use Rattle.optimum.specs.Slots.{farEnough}
 use Rattle.optimum.specs.OneSided.{xOf, pointAt, pointsAt, instanceOf}
 use Rattle.optimum.proofs.Pairs.{Pair, PairAll, Pairs}
-use Rattle.optimum.proofs.Order.{rank-x, x-rank, Rise, gather, same-site}
-use Rattle.optimum.proofs.Distances.{good}
+use Rattle.optimality.proofs.Order.{rank-x, x-rank, Rise, gather, same-site}
+use Rattle.optimality.proofs.Distances.{good}
 
 abbrev pub yOf : Sheet → ℕ → ℕ
 yOf s i = (getD (s .sites) i noSite) .y

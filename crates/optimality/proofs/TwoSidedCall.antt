@@ -9,11 +9,11 @@ use Rattle.sheet.proofs.Accepted.{sound, sites-coloured}
 use Rattle.labelling.specs.Layout.{layoutWords}
 use Rattle.labelling.specs.Promise.{takesSheet}
 use Rattle.labelling.proofs.Maker.{First, Result, cleared, best-some-iff, best-none-iff, made, unmade}
 use Rattle.optimum.specs.UsedSlots.{value, capAll, ties}
 use Rattle.optimum.specs.CostWord.{topWord}
-use Rattle.optimum.specs.TwoSided.{instanceOf}
-use Rattle.optimum.proofs.TwoSidedAnswer.{some-is, none-is, numbers}
+use Rattle.optimality.specs.TwoSided.{instanceOf}
+use Rattle.optimality.proofs.TwoSidedAnswer.{some-is, none-is, numbers}
 unfoldable pub use Rattle.optimum.specs.CostWord.{countIn, lengthIn}
 
 -- the least cost of a sheet, and the caps at the end of the walk
 abbrev pub leastOf : Sheet → ℕ

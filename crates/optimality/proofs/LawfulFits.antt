@@ -24,19 +24,19 @@ use Rattle.labelling.proofs.Counted.{slots-at}
 use Rattle.search.specs.Sums.{tally, sumTo}
 use Rattle.search.proofs.Sums.{tally-mono}
 use Rattle.search.proofs.CappedSums.{sum-head}
 use Rattle.optimum.specs.Slots.{farFrom, farEnough, sheetSlots}
 use Rattle.optimum.specs.UsedSlots.{Instance, value}
-use Rattle.optimum.specs.TwoSided.{radicesOf, countUnit, lengthUnit, instanceOf}
+use Rattle.optimality.specs.TwoSided.{radicesOf, countUnit, lengthUnit, instanceOf}
 use Rattle.optimum.specs.Budgets.{boundOf, isUnbounded, fullBudget}
 use Rattle.optimum.specs.CostWord.{topWord, layoutCost}
 use Rattle.optimum.proofs.Slots.{far-i}
-use Rattle.optimum.proofs.Distances.{good}
+use Rattle.optimality.proofs.Distances.{good}
 use Rattle.optimum.proofs.Budgets.{full-digit, draws}
-use Rattle.optimum.proofs.CostWord.{word-units, layout-low}
+use Rattle.optimality.proofs.CostWord.{word-units, layout-low}
 use Rattle.optimum.proofs.Chain.{is-label}
 use Rattle.optimum.proofs.Fits.{Anchored, fits-from}
-use Rattle.optimum.proofs.Least.{value-low}
-use Rattle.optimum.proofs.Caps.{Respects}
+use Rattle.optimality.proofs.Least.{value-low}
+use Rattle.optimality.proofs.Caps.{Respects}
 
 -- THE CODE OF A SLOT: none, or the colour of the first site that has it
 unfoldable pub codeIn : ℕ → List Site → List ℕ → ℕ

@@ -12,11 +12,11 @@ use mathlib.Core.List.{List}
 use Prim.Native.Nat.{ℕ}
 use Rattle.sheet.specs.Sheet.{sheetIn, sheetFault}
 use Rattle.labelling.specs.Layout.{best}
 use Rattle.optimum.specs.OneSided.{oneSided}
-use Rattle.optimum.specs.TwoSided.{twoSided}
-use Rattle.optimum.specs.Optimum.{optimum}
-pub use Rattle.optimum.proofs.OneSidedBest.{one-sided-best, one-sided-made}
-pub use Rattle.optimum.proofs.TwoSidedAnswer.{two-sided-best, two-sided-made}
+use Rattle.optimality.specs.TwoSided.{twoSided}
+use Rattle.optimality.specs.Optimum.{optimum}
+pub use Rattle.optimality.proofs.OneSidedBest.{one-sided-best, one-sided-made}
+pub use Rattle.optimality.proofs.TwoSidedAnswer.{two-sided-best, two-sided-made}
 
 pub best-optimum : (ws : List ℕ) → sheetFault ws ≡ 0 → best (sheetIn ws) ≡ optimum (sheetIn ws)
 best-optimum ws h = go (sheetIn ws .isTwoSided) refl

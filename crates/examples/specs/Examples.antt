@@ -7,8 +7,8 @@ use Prim.Native.Nat.{ℕ}
 use Rattle.sheet.specs.Sheet.{Sheet, sheetIn}
 use Rattle.labelling.specs.Layout.{brokenIn, isBetter}
 use Rattle.labelling.specs.Promise.{a, shortest, gapThree, gapFour, boundZero, headAlone, twoSided as twoSidedA}
 use Rattle.optimum.specs.OneSided.{oneSided}
-use Rattle.optimum.specs.TwoSided.{twoSided}
+use Rattle.optimality.specs.TwoSided.{twoSided}
 
 -- the model's answer, and a layout that a misreading gives and rule r forbids
 abbrev pub Forbidden : (model : Sheet → Option (List ℕ)) → (words right wrong : List ℕ) → (rule : ℕ) → Type 0

@@ -17,20 +17,21 @@ use Rattle.labelling.specs.Layout.{countOf, lengthOf, layoutWords, best, isUsed
 use Rattle.labelling.specs.Promise.{takesSheet}
 use Rattle.labelling.proofs.Members.{noSite, all-at, used-head, used-tail}
 use Rattle.labelling.proofs.Maker.{First, best-none-iff, Result, made, unmade, cleared}
 use Rattle.optimum.specs.Strips.{Strip, Instance, rulesOf, stripsFrom, strips, labels, value, walked}
 use Rattle.optimum.specs.CostWord.{layoutCost}
 use Rattle.optimum.specs.OneSided.{topWord, instanceOf, order, pointsAt, tiesOf, oneSided}
 use Rattle.optimum.specs.Cells.{cells, cellOf, level, valueCells, oneSidedCells}
 use Rattle.optimum.proofs.StripsHeld.{laws, walked-first, walked-cost}
 use Rattle.optimum.proofs.Pairs.{zeros}
 use Rattle.optimum.proofs.Budgets.{full-low}
-use Rattle.optimum.proofs.CostWord.{layout-count, layout-length}
-use Rattle.optimum.proofs.Order.{ordered}
-use Rattle.optimum.proofs.Distances.{good}
-use Rattle.optimum.proofs.Instance.{turn-low}
-use Rattle.optimum.proofs.OneSidedBest.{fullBudget, putBack, found-long, found-first, found-cost, one-sided-best}
+use Rattle.optimality.proofs.CostWord.{layout-count, layout-length}
+use Rattle.optimality.proofs.Order.{ordered}
+use Rattle.optimality.proofs.Distances.{good}
+use Rattle.optimality.proofs.Instance.{turn-low}
+use Rattle.optimality.proofs.OneSidedBest.{fullBudget, putBack, found-long, found-first, found-cost, one-sided-best}
 use Rattle.optimum.proofs.Levels.{Coloured, level-holds, Kept, walk-cells, answer-cells}
+use Rattle.optimum.proofs.Reached.{empty-strips}
 unfoldable pub use Rattle.optimum.specs.CostWord.{countIn, lengthIn}
 
 -- the whole sheet: the strip between the edges
 abbrev pub wholeStrip : Sheet → Strip
@@ -50,13 +51,6 @@ slotsWalked s =
 -- the same in sheet order
 abbrev pub tiesWalked : Sheet → List ℕ
 tiesWalked s = putBack s (slotsWalked s)
-
--- the empty sheet has one strip
-pub empty-strips : (P : Instance) (L M : List ℕ) → ((j : ℕ) → getD L j 0 ≡ 0) → getD M 0 0 ≡ 0 → (r i : ℕ) → stripsFrom P r i 0 0 L M ≡ record { a = 0; ca = 0; b = suc (r + i); cb = 0; d = 0 } ∷ []
-unfolding stripsFrom
-empty-strips P L M h g zero i = rw g (ap (λ (b : ℕ). record { a = 0; ca = 0; b = suc b; cb = 0; d = 0 } ∷ []) (omega arith))
-empty-strips P L M h g (suc r) i =
-    rw (eq-eqb (getD L i 0) 0 (h i)) (empty-strips P L M h g r (suc i) ∙ ap (λ (b : ℕ). record { a = 0; ca = 0; b = suc b; cb = 0; d = 0 } ∷ []) (omega arith))
 
 coloured-at : (s : Sheet) (c : ℕ) → ((i : ℕ) → i < length (s .sites) → (getD (s .sites) i noSite) .colour < c) → (is : List ℕ) → ((i : ℕ) → isUsed i is ≡ true → i < length (s .sites)) → Coloured c (pointsAt s is)
 unfolding Coloured pointsAt

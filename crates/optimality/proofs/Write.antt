@@ -15,11 +15,11 @@ use Rattle.labelling.proofs.Maker.{Result, cleared}
 use Rattle.labelling.specs.Layout.{isUsed, tieWords, layoutWords}
 use Rattle.labelling.proofs.Members.{used-head, used-tail}
 use Rattle.labelling.proofs.Words.{length-tieWords}
 use Rattle.optimum.specs.OneSided.{headWord, tieWord, writeTies, topWord, order, scatter}
 use Rattle.optimum.proofs.StripsHeld.{set-same, set-other}
-use Rattle.optimum.proofs.OneSidedAnswer.{countIn, lengthIn, firstCell, slotsWalked, walk-long, call-made}
-use Rattle.optimum.proofs.Order.{ordered}
-use Rattle.optimum.proofs.OneSidedBest.{putBack}
+use Rattle.optimality.proofs.OneSidedAnswer.{countIn, lengthIn, firstCell, slotsWalked, walk-long, call-made}
+use Rattle.optimality.proofs.Order.{ordered}
+use Rattle.optimality.proofs.OneSidedBest.{putBack}
 
 -- what the list held at the places that are named has no part in the result
 scatter-any : (is ks o p : List ℕ) → length ks ≡ length is → length o ≡ length p → ((i : ℕ) → i < length o → isUsed i is ≡ false → getD o i 0 ≡ getD p i 0) → scatter o is ks ≡ scatter p is ks

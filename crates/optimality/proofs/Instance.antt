@@ -12,13 +12,13 @@ use Rattle.search.specs.Radix.{below}
 use Rattle.search.proofs.Radix.{digit-le, sharing}
 use Rattle.search.proofs.Digits.{place-same, digit-wide}
 use Rattle.sheet.specs.Sheet.{Sheet}
 use Rattle.optimum.specs.Strips.{Strip, Point}
 use Rattle.optimum.specs.Budgets.{boundOf, isUnbounded, radicesOf, digitIn, drawsOf}
 use Rattle.optimum.specs.OneSided.{mayOpen, tipClear, turnOf, heldOf, instanceOf}
 use Rattle.optimum.proofs.Steps.{Linear}
 use Rattle.optimum.proofs.Budgets.{positive, radix-at, draws-none, draws-one, draws}
-use Rattle.optimum.proofs.CostWord.{word-nothing, word-adds}
-use Rattle.optimum.proofs.Pays.{Budgeted}
+use Rattle.optimality.proofs.CostWord.{word-nothing, word-adds}
+use Rattle.optimality.proofs.Pays.{Budgeted}
 
 -- ---- what is asked of a step beside the slots: nothing; a site leaves no mark
 

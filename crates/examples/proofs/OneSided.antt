@@ -14,11 +14,11 @@ use Rattle.search.specs.Walk.{chooseBy, walkBy, answerBy}
 use Rattle.sheet.specs.Sheet.{all, rankOf, sheetIn, slotsIn, coloursIn, sitesRun, sitesIn, productOf}
 use Rattle.labelling.specs.Promise.{a}
 use Rattle.labelling.specs.Layout.{siteShare, tiedOf, isUsed, usedFrom, leastX, slotsOf, boundsKept, backbones, drops, byRank, slotAt, comesFirst}
 use Rattle.optimum.specs.Slots.{over, under, farFrom, clearFrom, farEnough}
 use Rattle.optimum.specs.Strips.{marked, inside, opens, joinsUp, joinsDown, cost, draw, children, stripsFrom, strips, holdFrom, hold, price, next, value, walked}
 use Rattle.optimum.specs.Cells.{cellOf, stripAt, shareAt, shareCells, stepCell, entryOf, level, joinCells, foldCells, startCells, valueCells, oneSidedCells}
-use Rattle.optimum.specs.Examples.{Starred, Telling}
+use Rattle.examples.specs.Examples.{Starred, Telling}
 use Rattle.optimum.specs.OneSided.{leadOf, mayOpen, tipClear, turnOf, heldOf, radicesOf, drawsOf, wordOf, nextRank, siteOf, orderFrom, order, pointsAt, scatter, oneSided}
 
 pub examples : Starred × Telling
 unfolding plus least first sum prod conv cheaper never just table rest below place weight T Rest chooseBy walkBy answerBy slotsIn coloursIn sitesRun sitesIn productOf over under inside farFrom clearFrom opens joinsUp joinsDown cost draw children stripsFrom strips holdFrom hold marked price next value walked farEnough siteShare leadOf mayOpen tipClear turnOf heldOf all radicesOf drawsOf wordOf nextRank rankOf siteOf orderFrom order pointsAt scatter oneSided tiedOf isUsed usedFrom leastX slotsOf boundsKept backbones drops byRank slotAt comesFirst Rattle.labelling.specs.Layout.nextRank

@@ -20,14 +20,14 @@ use Rattle.labelling.proofs.Earlier.{Earlier, Better, better-e, slot-at}
 use Rattle.labelling.proofs.Maker.{First, best-some-iff, best-none-iff}
 use Rattle.search.specs.Sums.{listing}
 use Rattle.search.proofs.Sums.{listing-of, listing-same, listing-at, length-listing, tally-le}
 use Rattle.optimum.specs.UsedSlots.{value, capAll, ties, answer}
 use Rattle.optimum.specs.Steady.{Steady}
 use Rattle.optimum.specs.CostWord.{topWord, countIn, lengthIn, layoutCost}
-use Rattle.optimum.specs.TwoSided.{instanceOf, twoSided}
-use Rattle.optimum.proofs.CostWord.{better-costs, layout-count, layout-length}
-use Rattle.optimum.proofs.Caps.{Respects, allows-uncapped, keeps, exact, none-ahead, passes-on, passes-last, passes-low}
-use Rattle.optimum.proofs.LawfulFits.{cost, cost-is, cost-top, lawful-low, low-slot}
-use Rattle.optimum.proofs.FitsLawful.{lawful-attained}
+use Rattle.optimality.specs.TwoSided.{instanceOf, twoSided}
+use Rattle.optimality.proofs.CostWord.{better-costs, layout-count, layout-length}
+use Rattle.optimality.proofs.Caps.{Respects, allows-uncapped, keeps, exact, none-ahead, passes-on, passes-last, passes-low}
+use Rattle.optimality.proofs.LawfulFits.{cost, cost-is, cost-top, lawful-low, low-slot}
+use Rattle.optimality.proofs.FitsLawful.{lawful-attained}
 
 -- sites with one x are one: with its own number for its slot, each is found by its x
 ranks-differ : (ss : List Site) → ranksDiffer ss ≡ true → (i j : ℕ) → i < length ss → j < length ss → rankOf (getD ss i noSite) ≡ rankOf (getD ss j noSite) → i ≡ j

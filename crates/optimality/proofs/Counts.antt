@@ -18,14 +18,14 @@ use Rattle.labelling.proofs.Members.{noSite, used-at, at-used, used-head, used-
 use Rattle.labelling.proofs.Earlier.{rankAt}
 use Rattle.labelling.proofs.LeftEnd.{left-end}
 use Rattle.labelling.proofs.Counted.{slots-at, at-slots, sumOver, length-over, backbones-over}
 use Rattle.optimum.specs.Strips.{Point}
 use Rattle.optimum.specs.OneSided.{leadOf, xOf, order, pointAt, pointsAt, instanceOf}
 use Rattle.optimum.proofs.Steps.{Steps, isFree, opened, shares}
 use Rattle.optimum.proofs.Pairs.{zeros}
-use Rattle.optimum.proofs.Opened.{firstOf, opened-sum}
-use Rattle.optimum.proofs.Pays.{isOf}
-use Rattle.optimum.proofs.Order.{rank-x, Rise, ordered, gather, sum-order}
-use Rattle.optimum.proofs.RankedPairs.{yOf, colourOf}
+use Rattle.optimality.proofs.Opened.{firstOf, opened-sum}
+use Rattle.optimality.proofs.Pays.{isOf}
+use Rattle.optimality.proofs.Order.{rank-x, Rise, ordered, gather, sum-order}
+use Rattle.optimality.proofs.RankedPairs.{yOf, colourOf}
 
 -- ---- sums
 

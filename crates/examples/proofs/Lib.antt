@@ -1,0 +1,2 @@
+pub mod OneSided
+pub mod TwoSided

@@ -1,0 +1,2 @@
+pub mod TwoSided
+pub mod Optimum
