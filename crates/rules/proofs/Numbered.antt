@@ -23,12 +23,10 @@ use Rattle.tied.specs.declared.Head.{Head}
 use Rattle.pairs.specs.declared.Test.{Test}
 use Rattle.pairs.specs.Pairs.{passes}
 use Rattle.rules.specs.declared.Place.{Place}
+use Rattle.rules.proofs.Steps.{site-no-colour}
 use Rattle.rules.specs.Words.{isColour, isSite, slotsRun, headOf, heightIn, begin, tiedFrom, tiedIn, passesAll, pairsPass, sumOver}
 
--- a site's word is no colour's; a slot's is neither
-site-no-colour : (w : ℕ) → isSite w ≡ true → isColour w ≡ false
-site-no-colour w e = ne-eqb (kindOf w) 3 λ q. omega (arith, eqb-true (kindOf w) 4 e)
-
+-- a slot's word is no colour's and no site's
 slot-no-colour : (w : ℕ) → eqb (kindOf w) 2 ≡ true → isColour w ≡ false
 slot-no-colour w e = ne-eqb (kindOf w) 3 λ q. omega (arith, eqb-true (kindOf w) 2 e)
 
@@ -182,11 +180,11 @@ module _ (ss ls : List ℕ) (ok : sheetFault ss ≡ 0) (form : isLayout (sheetIn
       rw (e, slot-at (bodyOf ss) (getD js i 0) (unrefused ss ok .order) k) refl
 
   pub count-seen : length ts ≡ n
-  count-seen = tied-length ss ls begin 0 (drop (h .body) ss) ∙ ap length (sites-after ss)
+  count-seen = tied-length ss ls (begin (h .body)) 0 (drop (h .body) ss) ∙ ap length (sites-after ss)
 
   pub seen-at : (i : ℕ) → i < n → getD ts i noTiedSite ≡ seenAt s js i
   seen-at i l =
-      tied-at ss ls begin 0 (i + 1) i (drop (h .body) ss) refl (omega arith) (omega (arith, ap length (sites-after ss))) ∙
+      tied-at ss ls (begin (h .body)) 0 (i + 1) i (drop (h .body) ss) refl (omega arith) (omega (arith, ap length (sites-after ss))) ∙
       ap (λ (l : List Site). siteTied ss ls (i + 1) (getD l i noSite)) (sites-after ss) ∙ seen i l
 
   pub all-seen : (f : TiedSite → Bool) → all f ts ≡ allBefore (λ i. f (seenAt s js i)) n

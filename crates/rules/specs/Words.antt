@@ -1,10 +1,11 @@
 -- The model that the loops follow: the tied sites of a stored sheet as its words give them, tests and sums over them.
 -- Assumes nothing: these are definitions. proofs/Kept shows that they come to document 01's rules.
+use mathlib.Core.Path.{_≡_}
 use mathlib.Core.Bool.{Bool, true, _&&_, _||_, not, cond}
 use mathlib.Core.List.{List, [], _∷_}
-use Prim.Native.Nat.{ℕ, suc, _+_, _-_, min}
+use Prim.Native.Nat.{ℕ, suc, _+_, _-_, _<_, _≤_, min}
 use lib.Dec.{eqb, leb}
-use lib.ListN.{getD, drop}
+use lib.ListN.{length, getD, drop}
 use Rattle.sheet.specs.Sheet.{all, kindOf, bits, headIn, bodyOf, Sheet}
 use Rattle.labelling.specs.Layout.{siteShare}
 use Rattle.tied.specs.declared.TiedSite.{TiedSite}
@@ -45,12 +46,15 @@ abbrev pub heightIn : (sheet : List ℕ) → (slot : ℕ) → ℕ
 heightIn ss k = bits (getD (bodyOf ss) k 0) 0 14
 
 -- THE TIED SITES, word by word
+abbrev pub placeAt : (at colours tie : ℕ) → Place
+placeAt i c k = record { at = i; colours = c; tie = k }
+
 -- no colour has been passed, and the first tie stands at place 1 of the layout
-abbrev pub begin : Place
-begin = record { colours = 0; tie = 1 }
+abbrev pub begin : (at : ℕ) → Place
+begin i = placeAt i 0 1
 
 abbrev pub placeAfter : Place → (word : ℕ) → Place
-placeAfter p w = record { colours = p .colours + oneIf (isColour w); tie = p .tie + oneIf (isSite w) }
+placeAfter p w = placeAt (p .at + 1) (p .colours + oneIf (isColour w)) (p .tie + oneIf (isSite w))
 
 -- the slot of the next site
 abbrev pub slotIn : (layout : List ℕ) → Place → ℕ
@@ -75,7 +79,15 @@ tiedFrom ss ls p (w ∷ ws) =
     cond (isSite w) (tiedAt ss ls p w ∷ tiedFrom ss ls (placeAfter p w) ws) (tiedFrom ss ls (placeAfter p w) ws)
 
 abbrev pub tiedIn : Head → (sheet layout : List ℕ) → List TiedSite
-tiedIn h ss ls = tiedFrom ss ls begin (drop (h .body) ss)
+tiedIn h ss ls = tiedFrom ss ls (begin (h .body)) (drop (h .body) ss)
+
+-- from a place on the next site, or none: the same sites are left
+pub record Next (sheet : List ℕ) (from to : Place) : Type 0 where
+  pub same : (layout : List ℕ) → tiedFrom sheet layout from (drop (from .at) sheet) ≡ tiedFrom sheet layout to (drop (to .at) sheet)
+  pub site : to .at < length sheet → isSite (getD sheet (to .at) 0) ≡ true
+  pub later : from .at ≤ to .at
+  pub colours : to .colours ≤ to .at
+  pub tie : to .tie ≡ from .tie
 
 -- a tied site beside each of them; each beside each
 abbrev pub passesAll : Test → Head → List TiedSite → TiedSite → Bool

@@ -1,12 +1,9 @@
 // Rules 1 to 6 on the words of a stored sheet, by loops over pairs of tied sites. No list of slots or labels is kept.
 ghost use mathlib.Core.Path.{_≡_};
-ghost use mathlib.Core.Bool.{_||_, not, cond};
-ghost use Prim.Native.Nat.{_+_, _-_, _<_, _≤_, min};
-ghost use lib.Dec.{eqb};
+ghost use Prim.Native.Nat.{_+_, _-_, _<_, _≤_};
 ghost use lib.ListN.{length, getD, drop};
-ghost use Rattle.sheet.specs.Sheet.{bits, sheetIn, bodyOf};
-ghost use Rattle.pairs.specs.Pairs.{passes};
-ghost use Rattle.rules.specs.Words.{oneIf, isSite, isColour, headOf, slotsRun, heightIn, placeAfter, slotIn, tiedAt, tiedIn, passesAll, pairsPass, passOne, passing, boundKept, boundsFrom, labelsIn, leftIn, lengthAt, lengthIn};
+ghost use Rattle.sheet.specs.Sheet.{sheetIn, bodyOf};
+ghost use Rattle.rules.specs.Words.{oneIf, headOf, slotsRun, heightIn, placeAt, Next, tiedAt, tiedIn, passesAll, pairsPass, passing, boundKept, boundsFrom, labelsIn, leftIn, lengthAt, lengthIn};
 use drops::share_of;
 use pairs::Test;
 use pairs::pass;
@@ -23,8 +20,9 @@ use words::monus;
 use words::same;
 use words::side_bit;
 
-// How far a loop over the sheet's words has come: the colours passed, and the place in the layout of the next site's tie.
+// Where a loop over the sites is: the place of the next one's word, the colours passed, and the place of its tie in the layout.
 pub struct Place {
+    pub at: usize,
     pub colours: usize,
     pub tie: usize,
 }
@@ -93,27 +91,41 @@ fn previous(n: usize) -> usize
     n - 1
 }
 
-fn place_after(p: Place, w: u32) -> Place
-    requires { ⌜ (p .colours < 18446744073709551615) × (p .tie < 18446744073709551615) ⌝ }
-    ensures { λ r. ⌜ r ≡ placeAfter p w ⌝ }
+// The next site from a place on, or the end.
+fn site_from(sheet: &[u32], at: usize, colours: usize, tie: usize) -> Place
+    requires { ⌜ colours ≤ at ⌝ }
+    ensures { λ r. ⌜ Next (now (sheet .entry)) (placeAt at colours tie) r ⌝ }
 {
-    let k = kind_of(w);
-    let colours = p.colours + one_if(same(k, 3));
-    let tie = p.tie + one_if(same(k, 4));
+    let mut c = colours;
+    let mut i = at;
+    while i < sheet.len() {
+        let k = kind_of(sheet[i]);
+        if k == 4 {
+            return Place {
+                at: i,
+                colours: c,
+                tie: tie,
+            };
+        }
+        c += one_if(same(k, 3));
+        i += 1;
+    }
     Place {
-        colours: colours,
+        at: i,
+        colours: c,
         tie: tie,
     }
 }
 
-fn tied_at(sheet: &[u32], layout: &[u32], p: Place, w: u32) -> TiedSite
-    ensures { λ r. ⌜ r ≡ tiedAt (now (sheet .entry)) (now (layout .entry)) p w ⌝ }
+// The tied site at a place.
+fn tied_at(sheet: &[u32], layout: &[u32], p: Place) -> TiedSite
+    ensures { λ r. ⌜ r ≡ tiedAt (now (sheet .entry)) (now (layout .entry)) p (getD (now (sheet .entry)) (p .at) 0) ⌝ }
 {
-    let tie = p.tie;
-    let slot = byte_field(word_at(layout, tie));
+    let w = word_at(sheet, p.at);
+    let slot = byte_field(word_at(layout, p.tie));
     let height = height_at(sheet, slot);
     TiedSite {
-        number: tie,
+        number: p.tie,
         x: high_field(w),
         y: low_field(w),
         colour: previous(p.colours),
@@ -122,76 +134,32 @@ fn tied_at(sheet: &[u32], layout: &[u32], p: Place, w: u32) -> TiedSite
     }
 }
 
-// The step of all_pass: a word that is no site passes.
-fn word_passes(
-    test: Test,
-    h: Head,
-    t: TiedSite,
-    sheet: &[u32],
-    layout: &[u32],
-    p: Place,
-    w: u32,
-) -> bool
-    ensures { λ r. ⌜ r ≡ (not (isSite w) || passes test h t (tiedAt (now (sheet .entry)) (now (layout .entry)) p w)) ⌝ }
-{
-    if kind_of(w) != 4 {
-        return true;
-    }
-    pass(test, h, t, tied_at(sheet, layout, p, w))
-}
-
 // Whether a tied site passes a test beside every tied site.
 fn all_pass(test: Test, h: Head, t: TiedSite, sheet: &[u32], layout: &[u32]) -> bool
     ensures { λ r. ⌜ r ≡ passesAll test h (tiedIn h (now (sheet .entry)) (now (layout .entry))) t ⌝ }
 {
-    let mut p = Place { colours: 0, tie: 1 };
-    let mut i = h.body;
-    while i < sheet.len() {
-        let w = sheet[i];
-        if !word_passes(test, h, t, sheet, layout, p, w) {
+    let mut p = site_from(sheet, h.body, 0, 1);
+    while p.at < sheet.len() {
+        if !pass(test, h, t, tied_at(sheet, layout, p)) {
             return false;
         }
-        p = place_after(p, w);
-        i += 1;
+        p = site_from(sheet, p.at + 1, p.colours, p.tie + 1);
     }
     true
-}
-
-// The step of pairs_pass.
-fn word_pairs(test: Test, h: Head, sheet: &[u32], layout: &[u32], p: Place, w: u32) -> bool
-    ensures { λ r. ⌜ r ≡ (not (isSite w) || passesAll test h (tiedIn h (now (sheet .entry)) (now (layout .entry))) (tiedAt (now (sheet .entry)) (now (layout .entry)) p w)) ⌝ }
-{
-    if kind_of(w) != 4 {
-        return true;
-    }
-    all_pass(test, h, tied_at(sheet, layout, p, w), sheet, layout)
 }
 
 // Whether every two tied sites pass a test.
 pub fn pairs_pass(test: Test, h: Head, sheet: &[u32], layout: &[u32]) -> bool
     ensures { λ r. ⌜ r ≡ pairsPass test h (tiedIn h (now (sheet .entry)) (now (layout .entry))) ⌝ }
 {
-    let mut p = Place { colours: 0, tie: 1 };
-    let mut i = h.body;
-    while i < sheet.len() {
-        let w = sheet[i];
-        if !word_pairs(test, h, sheet, layout, p, w) {
+    let mut p = site_from(sheet, h.body, 0, 1);
+    while p.at < sheet.len() {
+        if !all_pass(test, h, tied_at(sheet, layout, p), sheet, layout) {
             return false;
         }
-        p = place_after(p, w);
-        i += 1;
+        p = site_from(sheet, p.at + 1, p.colours, p.tie + 1);
     }
     true
-}
-
-// The step of passing_sites.
-fn word_passing(test: Test, h: Head, sheet: &[u32], layout: &[u32], p: Place, w: u32) -> usize
-    ensures { λ r. ⌜ r ≡ cond (isSite w) (passOne test h (tiedIn h (now (sheet .entry)) (now (layout .entry))) (tiedAt (now (sheet .entry)) (now (layout .entry)) p w)) 0 ⌝ }
-{
-    if kind_of(w) != 4 {
-        return 0;
-    }
-    one_if(all_pass(test, h, tied_at(sheet, layout, p, w), sheet, layout))
 }
 
 // How many tied sites pass a test beside every tied site.
@@ -199,62 +167,44 @@ pub fn passing_sites(test: Test, h: Head, sheet: &[u32], layout: &[u32]) -> usiz
     ensures { λ r. ⌜ r ≡ passing test h (tiedIn h (now (sheet .entry)) (now (layout .entry))) ⌝ }
 {
     let mut n: usize = 0;
-    let mut p = Place { colours: 0, tie: 1 };
-    let mut i = h.body;
-    while i < sheet.len() {
-        let w = sheet[i];
-        n += word_passing(test, h, sheet, layout, p, w);
-        p = place_after(p, w);
-        i += 1;
+    let mut p = site_from(sheet, h.body, 0, 1);
+    while p.at < sheet.len() {
+        n += one_if(all_pass(test, h, tied_at(sheet, layout, p), sheet, layout));
+        p = site_from(sheet, p.at + 1, p.colours, p.tie + 1);
     }
     n
 }
 
-// The step of bounds_pass.
-fn word_bounded(h: Head, sheet: &[u32], layout: &[u32], p: Place, w: u32) -> bool
-    ensures { λ r. ⌜ r ≡ (not (isColour w) || boundKept (labelsIn h (tiedIn h (now (sheet .entry)) (now (layout .entry))) (p .colours)) w) ⌝ }
+// Whether the colour in a word has no more labels than its bound.
+fn bound_kept(h: Head, sheet: &[u32], layout: &[u32], colour: usize, w: u32) -> bool
+    ensures { λ r. ⌜ r ≡ boundKept (labelsIn h (tiedIn h (now (sheet .entry)) (now (layout .entry))) colour) w ⌝ }
 {
-    if kind_of(w) != 3 {
-        return true;
-    }
-    let bound = w % 256;
+    let bound = byte_field(w);
     if bound == 255 {
         return true;
     }
     let most = bound as usize;
-    passing_sites(Test::FirstIn(p.colours), h, sheet, layout) <= most
+    passing_sites(Test::FirstIn(colour), h, sheet, layout) <= most
 }
 
 // Whether no colour has more labels than its bound.
 pub fn bounds_pass(h: Head, sheet: &[u32], layout: &[u32]) -> bool
     ensures { λ r. ⌜ r ≡ boundsFrom (labelsIn h (tiedIn h (now (sheet .entry)) (now (layout .entry)))) 0 (drop (h .body) (now (sheet .entry))) ⌝ }
 {
-    let mut p = Place { colours: 0, tie: 1 };
+    let mut colours: usize = 0;
     let mut i = h.body;
     while i < sheet.len() {
         let w = sheet[i];
-        if !word_bounded(h, sheet, layout, p, w) {
+        i += 1;
+        if kind_of(w) != 3 {
+            continue;
+        }
+        if !bound_kept(h, sheet, layout, colours, w) {
             return false;
         }
-        p = place_after(p, w);
-        i += 1;
+        colours += 1;
     }
     true
-}
-
-// The step of left_end: the lesser of a number and a site's x, if the site has the slot.
-fn word_least(slot: u32, low: u32, layout: &[u32], p: Place, w: u32) -> u32
-    ensures { λ r. ⌜ r ≡ cond (isSite w) (cond (eqb (slotIn (now (layout .entry)) p) slot) (min low (bits w 14 14)) low) low ⌝ }
-{
-    if kind_of(w) != 4 {
-        return low;
-    }
-    let tie = p.tie;
-    choose(
-        same(byte_field(word_at(layout, tie)), slot),
-        lesser(low, high_field(w)),
-        low,
-    )
 }
 
 // The left end of a slot's label.
@@ -265,13 +215,11 @@ fn left_end(h: Head, slot: u32, sheet: &[u32], layout: &[u32]) -> u32
         return 0;
     }
     let mut low = h.width;
-    let mut p = Place { colours: 0, tie: 1 };
-    let mut i = h.body;
-    while i < sheet.len() {
-        let w = sheet[i];
-        low = word_least(slot, low, layout, p, w);
-        p = place_after(p, w);
-        i += 1;
+    let mut p = site_from(sheet, h.body, 0, 1);
+    while p.at < sheet.len() {
+        let t = tied_at(sheet, layout, p);
+        low = choose(same(t.slot, slot), lesser(low, t.x), low);
+        p = site_from(sheet, p.at + 1, p.colours, p.tie + 1);
     }
     low
 }
@@ -289,30 +237,16 @@ fn site_length(h: Head, t: TiedSite, sheet: &[u32], layout: &[u32]) -> u32
     backbone + share
 }
 
-// The step of total_length.
-fn word_length(h: Head, sheet: &[u32], layout: &[u32], p: Place, w: u32) -> u32
-    requires { ⌜ h .width < 16384 ⌝ }
-    ensures { λ r. ⌜ r ≡ cond (isSite w) (lengthAt (sheetIn (now (sheet .entry))) h (tiedIn h (now (sheet .entry)) (now (layout .entry))) (tiedAt (now (sheet .entry)) (now (layout .entry)) p w)) 0 ⌝ }
-{
-    if kind_of(w) != 4 {
-        return 0;
-    }
-    site_length(h, tied_at(sheet, layout, p, w), sheet, layout)
-}
-
 // The length of the layout. So few words that the sum fits.
 pub fn total_length(h: Head, sheet: &[u32], layout: &[u32]) -> u32
     requires { ⌜ (h .width < 16384) × (length (now sheet) ≤ 65536) ⌝ }
     ensures { λ r. ⌜ r ≡ lengthIn (sheetIn (now (sheet .entry))) h (tiedIn h (now (sheet .entry)) (now (layout .entry))) ⌝ }
 {
     let mut n: u32 = 0;
-    let mut p = Place { colours: 0, tie: 1 };
-    let mut i = h.body;
-    while i < sheet.len() {
-        let w = sheet[i];
-        n += word_length(h, sheet, layout, p, w);
-        p = place_after(p, w);
-        i += 1;
+    let mut p = site_from(sheet, h.body, 0, 1);
+    while p.at < sheet.len() {
+        n += site_length(h, tied_at(sheet, layout, p), sheet, layout);
+        p = site_from(sheet, p.at + 1, p.colours, p.tie + 1);
     }
     n
 }
