@@ -5,7 +5,7 @@ ghost use Prim.Native.Nat.{_+_, _*_, _<_, _≤_};
 ghost use lib.ListN.{length, getD, drop};
 ghost use Rattle.sheet.specs.Sheet.{bits, sitesIn, sheetIn};
 ghost use Rattle.text.specs.Text.{decimal, written, pastOf};
-ghost use Rattle.lines.specs.Lines.{wordsIn, refusedLine, layoutLine, siteLine, siteLines, lineOf, countWith, layoutText};
+ghost use Rattle.lines.specs.Lines.{wordsIn, refusedLine, layoutLine, siteLines, lineOf, countWith, layoutText};
 use text::put_byte;
 use text::put_bytes;
 use text::put_decimal;
@@ -54,40 +54,21 @@ pub fn put_words(words: &mut [u32], bytes: &[u8]) -> usize
     past
 }
 
-// A name and a number.
-fn put_named(text: &mut [u8], at: usize, name: &[u8], number: u32) -> usize
-    ensures { λ r. ⌜ r ≡ pastOf (now (text .entry)) at (now (name .entry) ++ decimal number) ⌝ }
-    ensures { λ r. ⌜ now (text .exit) ≡ written (now (text .entry)) at (now (name .entry) ++ decimal number) ⌝ }
+// A name, a number and a last byte.
+fn put_named(text: &mut [u8], at: usize, name: &[u8], number: u32, last: u8) -> usize
+    ensures { λ r. ⌜ r ≡ pastOf (now (text .entry)) at (now (name .entry) ++ decimal number ++ (last ∷ [])) ⌝ }
+    ensures { λ r. ⌜ now (text .exit) ≡ written (now (text .entry)) at (now (name .entry) ++ decimal number ++ (last ∷ [])) ⌝ }
 {
-    let past = put_bytes(text, at, name);
-    put_decimal(text, past, number)
+    let mut past = put_bytes(text, at, name);
+    past = put_decimal(text, past, number);
+    put_byte(text, past, last)
 }
 
 pub fn put_refused(text: &mut [u8], at: usize, number: u32) -> usize
     ensures { λ r. ⌜ r ≡ pastOf (now (text .entry)) at (refusedLine number) ⌝ }
     ensures { λ r. ⌜ now (text .exit) ≡ written (now (text .entry)) at (refusedLine number) ⌝ }
 {
-    let past = put_named(text, at, b"refused ", number);
-    put_byte(text, past, b'\n')
-}
-
-fn put_layout_line(text: &mut [u8], at: usize, labels: u32, size: u32) -> usize
-    ensures { λ r. ⌜ r ≡ pastOf (now (text .entry)) at (layoutLine labels size) ⌝ }
-    ensures { λ r. ⌜ now (text .exit) ≡ written (now (text .entry)) at (layoutLine labels size) ⌝ }
-{
-    let mut past = put_named(text, at, b"labels ", labels);
-    past = put_named(text, past, b" length ", size);
-    put_byte(text, past, b'\n')
-}
-
-fn put_site_line(text: &mut [u8], at: usize, site: u32, colour: u32, slot: u32) -> usize
-    ensures { λ r. ⌜ r ≡ pastOf (now (text .entry)) at (siteLine site colour slot) ⌝ }
-    ensures { λ r. ⌜ now (text .exit) ≡ written (now (text .entry)) at (siteLine site colour slot) ⌝ }
-{
-    let mut past = put_named(text, at, b"site ", site);
-    past = put_named(text, past, b" colour ", colour);
-    past = put_named(text, past, b" slot ", slot);
-    put_byte(text, past, b'\n')
+    put_named(text, at, b"refused ", number, b'\n')
 }
 
 // The line of a site's word, and nothing for another word.
@@ -107,7 +88,9 @@ fn put_line_of(
         return at;
     }
     let slot = byte_field(get(layout, site + 1));
-    put_site_line(text, at, site, monus(colours, 1), slot)
+    let mut past = put_named(text, at, b"site ", site, b' ');
+    past = put_named(text, past, b"colour ", monus(colours, 1), b' ');
+    put_named(text, past, b"slot ", slot, b'\n')
 }
 
 // One more after a word of the kind.
@@ -140,18 +123,13 @@ fn put_site_lines(text: &mut [u8], at: usize, layout: &[u32], sheet: &[u32]) -> 
     past
 }
 
-// Bits 27 to 21 of a layout's first word: the label count.
-fn count_field(w: u32) -> u32
-    ensures { λ r. ⌜ r ≡ bits w 21 7 ⌝ }
+// The line of a layout's first word: bits 27 to 21 are the label count, bits 20 to 0 the length.
+fn put_layout_line(text: &mut [u8], first: u32) -> usize
+    ensures { λ r. ⌜ r ≡ pastOf (now (text .entry)) 0 (layoutLine (bits first 21 7) (bits first 0 21)) ⌝ }
+    ensures { λ r. ⌜ now (text .exit) ≡ written (now (text .entry)) 0 (layoutLine (bits first 21 7) (bits first 0 21)) ⌝ }
 {
-    w / 2097152 % 128
-}
-
-// Bits 20 to 0: the length.
-fn length_field(w: u32) -> u32
-    ensures { λ r. ⌜ r ≡ bits w 0 21 ⌝ }
-{
-    w % 2097152
+    let past = put_named(text, 0, b"labels ", first / 2097152 % 128, b' ');
+    put_named(text, past, b"length ", first % 2097152, b'\n')
 }
 
 pub fn put_layout(text: &mut [u8], layout: &[u32], sheet: &[u32]) -> usize
@@ -159,7 +137,6 @@ pub fn put_layout(text: &mut [u8], layout: &[u32], sheet: &[u32]) -> usize
     ensures { λ r. ⌜ r ≡ pastOf (now (text .entry)) 0 (layoutText (sheetIn (now (sheet .entry))) (now (layout .entry))) ⌝ }
     ensures { λ r. ⌜ now (text .exit) ≡ written (now (text .entry)) 0 (layoutText (sheetIn (now (sheet .entry))) (now (layout .entry))) ⌝ }
 {
-    let first = get(layout, 0);
-    let past = put_layout_line(text, 0, count_field(first), length_field(first));
+    let past = put_layout_line(text, get(layout, 0));
     put_site_lines(text, past, layout, sheet)
 }

@@ -7,12 +7,6 @@ use Rattle.lines.proofs.put_layout.Tie as tie
 get-requires : tie.Need-get-requires
 get-requires c κs = search needs
 
-count-field-requires : tie.Need-count-field-requires
-count-field-requires c κs = search needs
-
-length-field-requires : tie.Need-length-field-requires
-length-field-requires c κs = search needs
-
 put-layout-line-requires : tie.Need-put-layout-line-requires
 put-layout-line-requires c κs = search needs
 
@@ -25,18 +19,9 @@ same-length c = search needs
 returns : tie.Need-returns
 unfolding layoutText
 returns c =
-    put-more _ _ _ _
-    (rw (c .before .before .before .before .before .before .before .length-field .ensures, c .before .before .before .before .before .before .before .before .count-field .ensures, c .before .before .before .before .before .before .before .before .before .before .get .ensures) at (c .before .before .before .before .before .before .put-layout-line .ensures))
-    (c .before .before .put-site-lines .ensures)
+    put-more _ _ _ _ (rw (c .before .before .before .before .before .before .before .get .ensures) at (c .before .before .before .before .before .before .put-layout-line .ensures)) (c .before .before .put-site-lines .ensures)
 
 pub put-layout-spec : {M : Type 1} → statement M
 put-layout-spec =
     tie.close
-    (tie.spec
-    get-requires
-    count-field-requires
-    length-field-requires
-    put-layout-line-requires
-    put-site-lines-requires
-    same-length
-    returns)
+    (tie.spec get-requires put-layout-line-requires put-site-lines-requires same-length returns)

@@ -1,5 +1,4 @@
-use Rattle.text.proofs.Written.{put-more}
-use Rattle.lines.proofs.Lines.{named-more}
+use Rattle.lines.proofs.Lines.{layout-put, lowest-bits}
 use borrow.Author.Needs.{needs}
 use Rattle.lines.proofs.put_layout_line.Statement.{statement}
 use Rattle.lines.proofs.put_layout_line.Tie as tie
@@ -16,15 +15,12 @@ slice-aggregate-put-named-2 c = search needs
 put-named-requires-2 : tie.Need-put-named-requires-2
 put-named-requires-2 c κs = search needs
 
-put-byte-requires : tie.Need-put-byte-requires
-put-byte-requires c κs = search needs
-
 same-length : tie.Need-same-length
 same-length c = search needs
 
 returns : tie.Need-returns
 returns c =
-    put-more _ _ _ _ (named-more _ _ _ _ _ (c .before .before .before .before .before .before .before .before .before .before .before .put-named .ensures) (c .before .before .before .before .before .before .put-named2 .ensures)) (c .before .before .put-byte .ensures)
+    layout-put _ _ _ _ (c .before .before .before .before .before .before .before .put-named .ensures) (rw (lowest-bits (c .before .before .before .before .before .before .before .before .before .before .before .args .first)) at (c .before .before .put-named2 .ensures))
 
 pub put-layout-line-spec : {M : Type 1} → statement M
 put-layout-line-spec =
@@ -34,6 +30,5 @@ put-layout-line-spec =
     put-named-requires
     slice-aggregate-put-named-2
     put-named-requires-2
-    put-byte-requires
     same-length
     returns)
