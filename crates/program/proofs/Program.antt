@@ -21,20 +21,12 @@ use Rattle.lines.specs.Lines.{wordsIn, refusedLine, slotAt, siteLines, layoutTe
 use Rattle.program.specs.Report.{isUnfit, sheetText, programSheetText, programText, longest, reportSize, reportArea}
 use Rattle.lines.proofs.Words.{words-fit}
 
--- a refusal by its number
-by-fault : (g f : ℕ) (t : List ℕ) → f ≡ g → (f ≡ 0 → ⊥) → refusedLine f ≡ cond (eqb g 0) t (refusedLine g)
-by-fault g f t e n = rw (e, ne-eqb g 0 λ z. n (e ∙ z)) refl
+-- a refusal, or a layout
+pub text-refused : (f : ℕ) (t : List ℕ) → (f ≡ 0 → ⊥) → refusedLine f ≡ cond (eqb f 0) t (refusedLine f)
+text-refused f t n = rw (ne-eqb f 0 n) refl
 
-by-none : (g f : ℕ) (t u : List ℕ) → f ≡ g → f ≡ 0 → t ≡ cond (eqb g 0) t u
-by-none g f t u e z = rw (eq-eqb g 0 (sym e ∙ z)) refl
-
-pub text-refused : (ws k o : List ℕ) (f : ℕ) → f ≡ makeFault ws k o → (f ≡ 0 → ⊥) → refusedLine f ≡ sheetText ws k o
-unfolding sheetText
-text-refused ws k o f e n = by-fault (makeFault ws k o) f (layoutText (sheetIn ws) (makeAnswer ws k o)) e n
-
-pub text-layout : (ws k o : List ℕ) (f : ℕ) → f ≡ makeFault ws k o → f ≡ 0 → layoutText (sheetIn ws) (makeAnswer ws k o) ≡ sheetText ws k o
-unfolding sheetText
-text-layout ws k o f e z = by-none (makeFault ws k o) f (layoutText (sheetIn ws) (makeAnswer ws k o)) (refusedLine (makeFault ws k o)) e z
+pub text-layout : (f : ℕ) (t u : List ℕ) → f ≡ 0 → t ≡ cond (eqb f 0) t u
+text-layout f t u z = rw (eq-eqb f 0 z) refl
 
 -- an input by its size
 pub text-unfit : (bs : List ℕ) → isUnfit (length bs) ≡ true → refusedLine 12 ≡ programText bs

@@ -1,9 +1,13 @@
 // The program's text, from the bytes of its input; and its run, which reads, calls and writes.
 ghost use mathlib.Core.Path.{_≡_};
+ghost use mathlib.Core.Bool.{cond};
 ghost use Prim.Native.Nat.{_≤_};
+ghost use lib.Dec.{eqb};
 ghost use lib.ListN.{length};
+ghost use Rattle.sheet.specs.Sheet.{sheetIn};
 ghost use Rattle.text.specs.Text.{written, pastOf};
-ghost use Rattle.program.specs.Report.{sheetText, programSheetText, isUnfit, programText, reportSize, reportArea};
+ghost use Rattle.lines.specs.Lines.{refusedLine, layoutText};
+ghost use Rattle.program.specs.Report.{programSheetText, isUnfit, programText, reportSize, reportArea};
 use libc::STDIN_FILENO;
 use libc::STDOUT_FILENO;
 use lines::put_layout;
@@ -15,20 +19,19 @@ use maker::make_layout;
 // Bytes that hold every text: a first line of at most 36 and 32 lines of at most 50.
 pub const LONGEST: usize = 1636;
 
-// What the layout maker says of a sheet, with areas for its work and its answer.
-fn put_sheet(text: &mut [u8], sheet: &[u32], work: &mut [u32], answer: &mut [u32]) -> usize
+// A refusal, or the layout in an answer.
+fn put_answer(text: &mut [u8], sheet: &[u32], answer: &[u32], fault: u8) -> usize
     requires { ⌜ length (now sheet) ≤ 256 ⌝ }
-    ensures { λ r. ⌜ r ≡ pastOf (now (text .entry)) 0 (sheetText (now (sheet .entry)) (now (work .entry)) (now (answer .entry))) ⌝ }
-    ensures { λ r. ⌜ now (text .exit) ≡ written (now (text .entry)) 0 (sheetText (now (sheet .entry)) (now (work .entry)) (now (answer .entry))) ⌝ }
+    ensures { λ r. ⌜ r ≡ pastOf (now (text .entry)) 0 (cond (eqb fault 0) (layoutText (sheetIn (now (sheet .entry))) (now (answer .entry))) (refusedLine fault)) ⌝ }
+    ensures { λ r. ⌜ now (text .exit) ≡ written (now (text .entry)) 0 (cond (eqb fault 0) (layoutText (sheetIn (now (sheet .entry))) (now (answer .entry))) (refusedLine fault)) ⌝ }
 {
-    let fault = make_layout(sheet, work, answer);
     if fault != 0 {
         return put_refused(text, 0, wide(fault));
     }
     put_layout(text, answer, sheet)
 }
 
-// The same with the program's areas.
+// What the layout maker says of a sheet, with the program's areas for its work and its answer.
 fn put_program_sheet(text: &mut [u8], sheet: &[u32]) -> usize
     requires { ⌜ length (now sheet) ≤ 256 ⌝ }
     ensures { λ r. ⌜ r ≡ pastOf (now (text .entry)) 0 (programSheetText (now (sheet .entry))) ⌝ }
@@ -36,7 +39,8 @@ fn put_program_sheet(text: &mut [u8], sheet: &[u32]) -> usize
 {
     let mut work = [0u32; 16384];
     let mut answer = [0u32; 33];
-    put_sheet(text, sheet, &mut work, &mut answer)
+    let fault = make_layout(sheet, &mut work, &mut answer);
+    put_answer(text, sheet, &answer, fault)
 }
 
 fn put_program(text: &mut [u8], input: &[u8]) -> usize

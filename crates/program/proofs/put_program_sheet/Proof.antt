@@ -1,31 +1,39 @@
-use Rattle.program.specs.Report.{programSheetText}
+use Rattle.program.specs.Report.{sheetText, programSheetText}
 use borrow.Author.Needs.{needs}
 use Rattle.program.proofs.put_program_sheet.Statement.{statement}
 use Rattle.program.proofs.put_program_sheet.Tie as tie
 
-slice-aggregate-put-sheet : tie.Need-slice-aggregate-put-sheet
-slice-aggregate-put-sheet c = search needs
+slice-aggregate-make-layout : tie.Need-slice-aggregate-make-layout
+slice-aggregate-make-layout c = search needs
 
-slice-aggregate-put-sheet-2 : tie.Need-slice-aggregate-put-sheet-2
-slice-aggregate-put-sheet-2 c = search needs
+slice-aggregate-make-layout-2 : tie.Need-slice-aggregate-make-layout-2
+slice-aggregate-make-layout-2 c = search needs
 
-put-sheet-requires : tie.Need-put-sheet-requires
-put-sheet-requires c κs = search needs
+make-layout-requires : tie.Need-make-layout-requires
+make-layout-requires c κs = search needs
+
+slice-aggregate-put-answer : tie.Need-slice-aggregate-put-answer
+slice-aggregate-put-answer c = search needs
+
+put-answer-requires : tie.Need-put-answer-requires
+put-answer-requires c κs = search needs
 
 same-length : tie.Need-same-length
 same-length c = search needs
 
 returns : tie.Need-returns
-unfolding programSheetText
+unfolding programSheetText sheetText
 returns c =
-    c .before .before .before .before .put-sheet .ensures
+    rw (c .before .before .before .before .before .before .before .make-layout .ensures .0, c .before .before .before .before .before .before .before .make-layout .ensures .1 .1) at (c .before .before .put-answer .ensures)
 
 pub put-program-sheet-spec : {M : Type 1} → statement M
 put-program-sheet-spec =
     tie.close
     (tie.spec
-    slice-aggregate-put-sheet
-    slice-aggregate-put-sheet-2
-    put-sheet-requires
+    slice-aggregate-make-layout
+    slice-aggregate-make-layout-2
+    make-layout-requires
+    slice-aggregate-put-answer
+    put-answer-requires
     same-length
     returns)
