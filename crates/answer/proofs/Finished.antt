@@ -1,11 +1,11 @@
 -- With the table filled: the least cost, and where the walk starts. Assumes nothing.
 use mathlib.Core.Path.{_≡_, refl, sym, ap, _∙_}
 use mathlib.Core.Bool.{true, false}
-use mathlib.Core.List.{List}
-use Prim.Native.Nat.{ℕ, _+_, _-_, _*_, _≤_, _<_}
+use mathlib.Core.List.{List, _∷_}
+use Prim.Native.Nat.{ℕ, zero, suc, _+_, _-_, _*_, _≤_, _<_}
 use native.Mathlib.Omega.{arith}
 use lib.Dec.{ltb}
-use lib.ListN.{length, set, replicate, length-set, length-replicate}
+use lib.ListN.{length, set, take, replicate, length-set, length-replicate}
 use borrow.Author.Tests.{lt-ltb, le-ltb}
 use Rattle.arrays.specs.declared.Measures.{Measures}
 use Rattle.arrays.specs.Arrays.{instanceBy, pointsBy}
@@ -21,7 +21,16 @@ use Rattle.walk.proofs.Tying.{points-long}
 use Rattle.costs.specs.Costs.{headWord}
 use Rattle.answer.specs.Laid.{emptySheet, leastCost, written, laidFault, laidOut, TableFilled}
 
-module _ (q : Measures) (hs bs rs ds parts counts work xs ys cs order L out : List ℕ) (f : TableFilled q hs bs rs ds parts counts work xs ys cs order L out) where
+-- the front of an array of zeros
+pub zeros-part : (m n : ℕ) → m ≤ n → take m (replicate {A = ℕ} n 0) ≡ replicate m 0
+zeros-part zero n h = refl
+zeros-part (suc m) zero h = absurd (omega arith)
+zeros-part (suc m) (suc n) h = ap (λ (l : List ℕ). 0 ∷ l) (zeros-part m n (omega arith))
+
+pub front-long : (m n : ℕ) → m ≤ n → m ≡ length (take m (replicate {A = ℕ} n 0))
+front-long m n h = sym (ap length (zeros-part m n h) ∙ length-replicate m 0)
+
+module _ (q : Measures) (hs bs rs ds parts counts work xs ys cs order L out : List ℕ) (f : TableFilled q hs bs rs ds parts counts work xs ys cs order out) (z : L ≡ replicate (length hs) 0) where
   abbrev P : Instance
   P = instanceBy q hs bs rs ds
 
@@ -37,13 +46,13 @@ module _ (q : Measures) (hs bs rs ds parts counts work xs ys cs order L out : Li
   -- the first level stands in the work area
   pub first-level : LevelIn parts counts work 0 (q .colours) (q .budgets) L
   first-level =
-      let z : length L ≡ length hs = ap length (f .noLabel) ∙ length-replicate (length hs) 0 in
+      let l : length L ≡ length hs = ap length z ∙ length-replicate (length hs) 0 in
       record {
-        fewSlots = rw z (f .arrays .sheet .fewSlots);
+        fewSlots = rw l (f .arrays .sheet .fewSlots);
         fewColours = f .arrays .sheet .fewColours;
         splits = f .arrays .splits .within;
-        within = rw z (let e = whole (length order) (levelSize (length hs) (q .colours) (q .budgets)) in omega (arith, f .arrays .whole, e));
-        coloured = λ i. rw (f .noLabel) (omega (arith, zeros (length hs) i));
+        within = rw l (let e = whole (length order) (levelSize (length hs) (q .colours) (q .budgets)) in omega (arith, f .arrays .whole, e));
+        coloured = λ i. rw z (omega (arith, zeros (length hs) i));
       }
     where
       whole : (n s : ℕ) → s ≤ (n + 1) * s
@@ -60,9 +69,9 @@ module _ (q : Measures) (hs bs rs ds parts counts work xs ys cs order L out : Li
   unfolding valueIn
   least-is =
       let e : length points - length points ≡ 0 = omega arith in
-      let z : 0 ≡ (length points - length points) * levelSize (length hs) (q .colours) (q .budgets) = rw e (omega arith) in
-      rw (f .noLabel, length-replicate {A = ℕ} (length hs) 0)
-      (ap (λ (b : ℕ). restRows parts counts work b (length hs) (q .colours) (q .budgets) none (q .budgets - 1)) z ∙ worth)
+      let y : 0 ≡ (length points - length points) * levelSize (length hs) (q .colours) (q .budgets) = rw e (omega arith) in
+      rw (z, length-replicate {A = ℕ} (length hs) 0)
+      (ap (λ (b : ℕ). restRows parts counts work b (length hs) (q .colours) (q .budgets) none (q .budgets - 1)) y ∙ worth)
 
   -- the walk from the empty sheet
   walked : leastCost P (q .budgets) points < topWord
@@ -72,7 +81,7 @@ module _ (q : Measures) (hs bs rs ds parts counts work xs ys cs order L out : Li
 
   pub starts : (least x : ℕ) → least ≡ leastCost P (q .budgets) points → least < topWord → Standing P q parts counts work points L (set out 0 x) 0 (q .budgets - 1) least
   starts least x e h =
-      rw (f .noLabel)
+      rw z
       (record {
         tied = omega arith;
         room = rw (length-set out 0 x) (omega (arith, f .room, long));
@@ -86,12 +95,12 @@ module _ (q : Measures) (hs bs rs ds parts counts work xs ys cs order L out : Li
 
   pub ties : (least : ℕ) → least ≡ leastCost P (q .budgets) points → least < topWord
       → tiedFrom P q parts counts work points order L (set out 0 (headWord q least)) 0 (q .budgets - 1) ≡ written P q points order out
-  ties least e h = rw (f .noLabel, e, walked (omega arith) .0) refl
+  ties least e h = rw (z, e, walked (omega arith) .0) refl
 
   -- the answer by the least cost
   pub none-laid : (least : ℕ) → least ≡ leastCost P (q .budgets) points → least ≡ topWord → (10 ≡ laidFault P (q .budgets) points) × (out ≡ laidOut P q points order out)
-  none-laid least e h = let l : topWord ≤ leastCost P (q .budgets) points = omega arith in let z : ltb (leastCost P (q .budgets) points) topWord ≡ false = le-ltb _ topWord l in rw z (refl, refl)
+  none-laid least e h = let l : topWord ≤ leastCost P (q .budgets) points = omega arith in let t : ltb (leastCost P (q .budgets) points) topWord ≡ false = le-ltb _ topWord l in rw t (refl, refl)
 
   pub one-laid : (least : ℕ) → least ≡ leastCost P (q .budgets) points → least < topWord
       → (0 ≡ laidFault P (q .budgets) points) × (written P q points order out ≡ laidOut P q points order out)
-  one-laid least e h = let l : leastCost P (q .budgets) points < topWord = omega arith in let z : ltb (leastCost P (q .budgets) points) topWord ≡ true = lt-ltb _ topWord l in rw z (refl, refl)
+  one-laid least e h = let l : leastCost P (q .budgets) points < topWord = omega arith in let t : ltb (leastCost P (q .budgets) points) topWord ≡ true = lt-ltb _ topWord l in rw t (refl, refl)

@@ -40,11 +40,10 @@ wiped P q points work =
     replicate ((length points + 1) * levelSize (P .slots .m) (q .colours) (q .budgets)) 0
     ++ drop ((length points + 1) * levelSize (P .slots .m) (q .colours) (q .budgets)) work
 
--- what is asked where the table stands filled: the arrays are the sheet's, the heights rise, no label is open, there is room for the answer
-pub record TableFilled (q : Measures) (heights bounds radices draws parts counts work xs ys colours order labels out : List ℕ) : Type 0 where
+-- what is asked where the table stands filled: the arrays are the sheet's, the heights rise, there is room for the answer
+pub record TableFilled (q : Measures) (heights bounds radices draws parts counts work xs ys colours order out : List ℕ) : Type 0 where
   pub arrays : WalkArrays q heights bounds radices draws parts counts work xs ys colours order
   pub rising : (j k : ℕ) → j < k → k < length heights → getD heights j 0 < getD heights k 0
   pub table : TableOf (instanceBy q heights bounds radices draws) (q .colours) (q .budgets) (pointsBy xs ys colours) work
   pub someBudget : 0 < q .budgets
-  pub noLabel : labels ≡ replicate (length heights) 0
   pub room : length order < length out

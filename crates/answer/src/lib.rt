@@ -19,16 +19,17 @@ pub fn lay_least(
     ys: &[u32],
     colours: &[u32],
     order: &[u32],
-    labels: &mut [u32],
     work: &[u32],
     out: &mut [u32],
 ) -> u8
-    requires { ⌜ TableFilled q (now heights) (now bounds) (now radices) (now draws) (now parts) (now counts) (now work) (now xs) (now ys) (now colours) (now order) (now labels) (now out) ⌝ }
+    requires { ⌜ TableFilled q (now heights) (now bounds) (now radices) (now draws) (now parts) (now counts) (now work) (now xs) (now ys) (now colours) (now order) (now out) ⌝ }
     ensures { λ r. ⌜ r ≡ laidFault (instanceBy q (now (heights .entry)) (now (bounds .entry)) (now (radices .entry)) (now (draws .entry))) (q .budgets) (pointsBy (now (xs .entry)) (now (ys .entry)) (now (colours .entry))) ⌝ }
     ensures { λ r. ⌜ now (out .exit) ≡ laidOut (instanceBy q (now (heights .entry)) (now (bounds .entry)) (now (radices .entry)) (now (draws .entry))) q (pointsBy (now (xs .entry)) (now (ys .entry)) (now (colours .entry))) (now (order .entry)) (now (out .entry)) ⌝ }
 {
     let v = q.budgets - 1;
-    let least = rest::rest_of(parts, counts, work, 0, q, labels, v);
+    let m = heights.len();
+    let mut labels = [0u32; 48];
+    let least = rest::rest_of(parts, counts, work, 0, q, &labels[..m], v);
     if least == words::NONE {
         return 10;
     }
@@ -50,7 +51,7 @@ pub fn lay_least(
         ys,
         colours,
         order,
-        labels,
+        &mut labels[..m],
         out,
         0,
         left,

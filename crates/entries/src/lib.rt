@@ -5,7 +5,7 @@ ghost use Prim.Native.Nat.{ℕ, _+_, _-_, _<_, _≤_, min};
 ghost use lib.ListN.{length, getD};
 ghost use Rattle.search.specs.Cost.{plus, least};
 ghost use Rattle.optimum.specs.OneSided.{topWord};
-ghost use Rattle.strips.specs.Strips.{instanceOn, gapLeft, Measured, WindowOf};
+ghost use Rattle.strips.specs.Strips.{instanceOn, gapLeft, Measured};
 ghost use Rattle.rows.specs.Rows.{stripOf, pointOf, Lies, rowIn};
 ghost use Rattle.budgets.specs.Budgets.{Others, Within};
 ghost use Rattle.parts.specs.Parts.{Room};
@@ -156,47 +156,6 @@ fn open_slot(
     );
 }
 
-// Opens a label at each slot of a window.
-fn open_each(
-    work: &mut [u32],
-    q: Measures,
-    heights: &[u32],
-    bounds: &[u32],
-    parts: &[u8],
-    counts: &[u8],
-    left: &[u8],
-    p: Strip,
-    s: Site,
-    base: usize,
-    low: usize,
-    window: Window,
-)
-    requires { ⌜ Ready q (now heights) (now bounds) (now parts) (now counts) (now left) (length (now work)) base low (pointOf s) ⌝ }
-    requires { ⌜ Lies (length (now heights)) (q .colours) (stripOf p) ⌝ }
-    requires { ⌜ WindowOf (instanceOn q (now heights) (now bounds)) (stripOf p) (pointOf s) window × (window .from < window .to) ⌝ }
-    ensures { λ _. ⌜ Others (now (work .entry)) (now (work .exit)) base (q .budgets) ⌝ }
-    ensures { λ _. ⌜ ((v : ℕ) → v < q .budgets → getD (now (work .exit)) (base + v) 0 ≡ min (getD (now (work .entry)) (base + v) 0) (slotsLeast q (now (heights .entry)) (now (bounds .entry)) (now (parts .entry)) (now (counts .entry)) (now (left .entry)) (rowIn (now (work .entry)) low (length (now (heights .entry))) (q .colours) (q .budgets)) (stripOf p) (pointOf s) (p .b - 1 - p .a) v)) ⌝ }
-{
-    let mut k = window.from;
-    while k < window.to {
-        open_slot(
-            work,
-            q,
-            heights,
-            bounds,
-            parts,
-            counts,
-            left,
-            p,
-            s,
-            base,
-            low,
-            k,
-        );
-        k += 1;
-    }
-}
-
 // There is but one budget, and it allows the label.
 fn is_single(n: usize, parts: &[u8], counts: &[u8], left: &[u8]) -> bool
     requires { ⌜ Within n (now parts) (now counts) × (n ≤ length (now left)) × (0 < n) ⌝ }
@@ -264,23 +223,27 @@ fn open_slots(
         work[base] = t;
         return;
     }
-    open_each(
-        work,
-        q,
-        heights,
-        bounds,
-        parts,
-        counts,
-        left,
-        p,
-        s,
-        base,
-        low,
-        window,
-    );
+    let mut k = window.from;
+    while k < window.to {
+        open_slot(
+            work,
+            q,
+            heights,
+            bounds,
+            parts,
+            counts,
+            left,
+            p,
+            s,
+            base,
+            low,
+            k,
+        );
+        k += 1;
+    }
 }
 
-// Fills the row of a strip from the level below.
+// Fills the row of a strip, which begins at the word `base`, from the level below, if it is marked.
 pub fn fill_row(
     work: &mut [u32],
     q: Measures,
@@ -297,8 +260,11 @@ pub fn fill_row(
     requires { ⌜ Ready q (now heights) (now bounds) (now parts) (now counts) (now left) (length (now work)) base low (pointOf s) ⌝ }
     requires { ⌜ Lies (length (now heights)) (q .colours) (stripOf p) ⌝ }
     ensures { λ _. ⌜ Others (now (work .entry)) (now (work .exit)) base (q .budgets) ⌝ }
-    ensures { λ _. ⌜ ((v : ℕ) → v < q .budgets → getD (now (work .exit)) (base + v) 0 ≡ entryBy q (now (heights .entry)) (now (bounds .entry)) (now (parts .entry)) (now (counts .entry)) (now (left .entry)) (rowIn (now (work .entry)) low (length (now (heights .entry))) (q .colours) (q .budgets)) (stripOf p) (pointOf s) v) ⌝ }
+    ensures { λ _. ⌜ (getD (now (work .entry)) base 0 ≡ 1 → (v : ℕ) → v < q .budgets → getD (now (work .exit)) (base + v) 0 ≡ entryBy q (now (heights .entry)) (now (bounds .entry)) (now (parts .entry)) (now (counts .entry)) (now (left .entry)) (rowIn (now (work .entry)) low (length (now (heights .entry))) (q .colours) (q .budgets)) (stripOf p) (pointOf s) v) ⌝ }
 {
+    if work[base] != 1 {
+        return;
+    }
     let n = q.budgets as usize;
     let same = low + rows::row_place(q, heights.len(), p);
     if !strips::is_inside(q, heights, bounds, p, s) {

@@ -53,7 +53,7 @@ fn mark_window(
     }
 }
 
-// Marks what a strip asks for, where the site s comes next: itself, or the parts that a label leaves.
+// Marks what a strip asks for, where the site s comes next, if its row, which begins at the word `at`, is marked: itself, or the parts that a label leaves.
 fn mark_row(
     work: &mut [u32],
     q: Measures,
@@ -61,13 +61,18 @@ fn mark_row(
     bounds: &[u32],
     p: Strip,
     s: Site,
+    at: usize,
     low: usize,
 )
     requires { ⌜ Framed q (now heights) (now bounds) × Stands (q .colours) (pointOf s) ⌝ }
     requires { ⌜ Room q (length (now heights)) low (length (now work)) × Lies (length (now heights)) (q .colours) (stripOf p) ⌝ }
+    requires { ⌜ at < length (now work) ⌝ }
     ensures { λ _. ⌜ Marking (now (work .entry)) (now (work .exit)) low (levelSize q (now (heights .entry))) ⌝ }
-    ensures { λ _. ⌜ ((x : model.Strip) → Asks (instanceOn q (now (heights .entry)) (now (bounds .entry))) (stripOf p) (pointOf s) x → Marked (now (work .exit)) low (length (now (heights .entry))) (q .colours) (q .budgets) x) ⌝ }
+    ensures { λ _. ⌜ (getD (now (work .entry)) at 0 ≡ 1 → (x : model.Strip) → Asks (instanceOn q (now (heights .entry)) (now (bounds .entry))) (stripOf p) (pointOf s) x → Marked (now (work .exit)) low (length (now (heights .entry))) (q .colours) (q .budgets) x) ⌝ }
 {
+    if work[at] != 1 {
+        return;
+    }
     let m = heights.len();
     if !strips::is_inside(q, heights, bounds, p, s) {
         mark_own(work, q, m, p, low, true);
@@ -88,30 +93,7 @@ fn mark_row(
     }
 }
 
-// Marks what a strip asks for, if its row, which begins at the word `at`, is marked.
-fn follow(
-    work: &mut [u32],
-    q: Measures,
-    heights: &[u32],
-    bounds: &[u32],
-    p: Strip,
-    s: Site,
-    at: usize,
-    low: usize,
-)
-    requires { ⌜ Framed q (now heights) (now bounds) × Stands (q .colours) (pointOf s) ⌝ }
-    requires { ⌜ Room q (length (now heights)) low (length (now work)) × Lies (length (now heights)) (q .colours) (stripOf p) ⌝ }
-    requires { ⌜ at < length (now work) ⌝ }
-    ensures { λ _. ⌜ Marking (now (work .entry)) (now (work .exit)) low (levelSize q (now (heights .entry))) ⌝ }
-    ensures { λ _. ⌜ (getD (now (work .entry)) at 0 ≡ 1 → (x : model.Strip) → Asks (instanceOn q (now (heights .entry)) (now (bounds .entry))) (stripOf p) (pointOf s) x → Marked (now (work .exit)) low (length (now (heights .entry))) (q .colours) (q .budgets) x) ⌝ }
-{
-    if work[at] != 1 {
-        return;
-    }
-    mark_row(work, q, heights, bounds, p, s, low);
-}
-
-// Follows the marked strips below one upper end.
+// Follows the marked strips below one upper end, if a strip may have it.
 fn follow_below(
     work: &mut [u32],
     q: Measures,
@@ -127,6 +109,9 @@ fn follow_below(
     ensures { λ _. ⌜ Marking (now (work .entry)) (now (work .exit)) low (levelSize q (now (heights .entry))) ⌝ }
     ensures { λ _. ⌜ ((p : model.Strip) → Shaped (length (now (heights .entry))) (q .colours) p → endPlace (q .colours) (p .a) (p .ca) ≡ endPlace (q .colours) (above .slot) (above .colour) → Led (instanceOn q (now (heights .entry)) (now (bounds .entry))) q (now (work .entry)) (now (work .exit)) base low (pointOf s) p) ⌝ }
 {
+    if !rows::is_upper_end(above) {
+        return;
+    }
     let n = q.budgets as usize;
     let ends = (heights.len() as u32) + 2;
     let mut p = Strip {
@@ -137,30 +122,9 @@ fn follow_below(
     };
     let mut at = base + rows::row_place(q, heights.len(), p);
     while p.b < ends {
-        follow(work, q, heights, bounds, p, s, at, low);
+        mark_row(work, q, heights, bounds, p, s, at, low);
         at += n;
         p = rows::next_below(q.colours, p);
-    }
-}
-
-// The same, if the end is one that a strip may have.
-fn follow_end(
-    work: &mut [u32],
-    q: Measures,
-    heights: &[u32],
-    bounds: &[u32],
-    above: End,
-    s: Site,
-    base: usize,
-    low: usize,
-)
-    requires { ⌜ Ready q (now heights) (now bounds) (length (now work)) base low (pointOf s) ⌝ }
-    requires { ⌜ (above .slot ≤ length (now heights)) × (above .colour ≤ q .colours) ⌝ }
-    ensures { λ _. ⌜ Marking (now (work .entry)) (now (work .exit)) low (levelSize q (now (heights .entry))) ⌝ }
-    ensures { λ _. ⌜ ((p : model.Strip) → Shaped (length (now (heights .entry))) (q .colours) p → endPlace (q .colours) (p .a) (p .ca) ≡ endPlace (q .colours) (above .slot) (above .colour) → Led (instanceOn q (now (heights .entry)) (now (bounds .entry))) q (now (work .entry)) (now (work .exit)) base low (pointOf s) p) ⌝ }
-{
-    if rows::is_upper_end(above) {
-        follow_below(work, q, heights, bounds, above, s, base, low);
     }
 }
 
@@ -181,7 +145,7 @@ fn follow_level(
     let ends = (heights.len() as u32) + 1;
     let mut above = End { slot: 0, colour: 0 };
     while above.slot < ends {
-        follow_end(work, q, heights, bounds, above, s, base, low);
+        follow_below(work, q, heights, bounds, above, s, base, low);
         above = rows::next_end(q.colours, above);
     }
 }
@@ -218,11 +182,7 @@ fn mark_site(
     ensures { λ _. ⌜ Marking (now (work .entry)) (now (work .exit)) ((j + 1) * size) size ⌝ }
     ensures { λ _. ⌜ ((p : model.Strip) → Shaped (length (now (heights .entry))) (q .colours) p → Led (instanceOn q (now (heights .entry)) (now (bounds .entry))) q (now (work .entry)) (now (work .exit)) (j * size) ((j + 1) * size) (getD (pointsBy (now (xs .entry)) (now (ys .entry)) (now (cs .entry))) j noPoint) p) ⌝ }
 {
-    let s = Site {
-        x: xs[j],
-        y: ys[j],
-        c: cs[j],
-    };
+    let s = rows::site_at(xs, ys, cs, j);
     follow_level(work, q, heights, bounds, s, j * size, (j + 1) * size);
 }
 

@@ -6,7 +6,7 @@ use Prim.Native.Nat.{ℕ, zero, suc, _+_, _-_, _*_, _≤_, _<_}
 use native.Mathlib.Nat.{mul-le-mul}
 use native.Mathlib.Omega.{arith}
 use lib.Dec.{eqb}
-use lib.ListN.{length, getD, take, drop, replicate}
+use lib.ListN.{length, getD, drop, replicate}
 use borrow.Author.Tests.{ltb-true}
 use Rattle.lists.proofs.Tests.{by-test}
 use Rattle.sheet.specs.Sheet.{Colour, Sheet, sheetIn, sheetFault, productOf, workFor}
@@ -135,10 +135,10 @@ module _ (ws : List ℕ) (f : sheetFault ws ≡ 0) where
       })
 
 -- what the walk asks, from what the table was given
-pub filled-is : (q : Measures) (hs bs rs ds parts counts work xs ys cs os labels out : List ℕ) (area : ℕ) → length work ≡ area → Given q hs bs rs ds xs ys cs area → Ranked q xs os out
-    → Splits rs (q .budgets) parts counts → TableOf (instanceBy q hs bs rs ds) (q .colours) (q .budgets) (pointsBy xs ys cs) work → labels ≡ replicate (length hs) 0
-    → TableFilled q hs bs rs ds parts counts work xs ys cs os labels out
-filled-is q hs bs rs ds parts counts work xs ys cs os labels out area e g r splits table none =
+pub filled-is : (q : Measures) (hs bs rs ds parts counts work xs ys cs os out : List ℕ) (area : ℕ) → length work ≡ area → Given q hs bs rs ds xs ys cs area → Ranked q xs os out
+    → Splits rs (q .budgets) parts counts → TableOf (instanceBy q hs bs rs ds) (q .colours) (q .budgets) (pointsBy xs ys cs) work
+    → TableFilled q hs bs rs ds parts counts work xs ys cs os out
+filled-is q hs bs rs ds parts counts work xs ys cs os out area e g r splits table =
     record {
       arrays = record {
         sheet = record {
@@ -162,14 +162,8 @@ filled-is q hs bs rs ds parts counts work xs ys cs os labels out area e g r spli
       rising = g .framed .rising;
       table = table;
       someBudget = r .someBudget;
-      noLabel = none;
       room = r .room;
     }
-
-pub zeros-part : (m n : ℕ) → m ≤ n → take m (replicate {A = ℕ} n 0) ≡ replicate m 0
-zeros-part zero n h = refl
-zeros-part (suc m) zero h = absurd (omega arith)
-zeros-part (suc m) (suc n) h = ap (λ (l : List ℕ). 0 ∷ l) (zeros-part m n (omega arith))
 
 -- the words of the table are wiped alike where the rest of the area is the same
 pub wiped-same : (q : Measures) (hs bs rs ds xs ys cs old new : List ℕ) (area : ℕ) → Given q hs bs rs ds xs ys cs area

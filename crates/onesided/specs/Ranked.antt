@@ -1,13 +1,23 @@
--- What is asked of the order by rank where the sites are laid out. Definitions.
+-- What is asked of the sites by rank and of their order where they are laid out. Definitions.
 use mathlib.Core.Path.{_≡_}
 use mathlib.Core.List.{List}
 use Prim.Native.Nat.{ℕ, _<_}
 use lib.ListN.{length, getD}
+use Rattle.sheet.specs.Sheet.{Sheet}
+use Rattle.optimum.specs.OneSided.{order}
 use Rattle.arrays.specs.declared.Measures.{Measures}
+use Rattle.arrays.specs.Arrays.{xsOf, ysOf, coloursOf, gathered}
 
 -- the order names each site, there is a budget, and there is room for the answer
-pub record Ranked (q : Measures) (xs order out : List ℕ) : Type 0 where
-  pub long : length order ≡ length xs
-  pub low : (i : ℕ) → i < length order → getD order i 0 < length order
+pub record Ranked (q : Measures) (xs os out : List ℕ) : Type 0 where
+  pub long : length os ≡ length xs
+  pub low : (i : ℕ) → i < length os → getD os i 0 < length os
   pub someBudget : 0 < q .budgets
-  pub room : length order < length out
+  pub room : length os < length out
+
+-- the arrays are those of the sheet's sites, by rising rank
+pub record RankedSites (s : Sheet) (xs ys cs os : List ℕ) : Type 0 where
+  pub orderIs : os ≡ order s
+  pub xsIs : xs ≡ gathered (xsOf (s .sites)) (order s)
+  pub ysIs : ys ≡ gathered (ysOf (s .sites)) (order s)
+  pub csIs : cs ≡ gathered (coloursOf (s .sites)) (order s)

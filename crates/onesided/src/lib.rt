@@ -8,7 +8,7 @@ ghost use Rattle.labelling.specs.Entry.{makeFault, makeAnswer, makeWork};
 ghost use Rattle.labelling.specs.Promise.{takesSheet};
 ghost use Rattle.table.specs.Rows.{Given};
 ghost use Rattle.answer.specs.Laid.{laidFault, laidOut, wiped};
-ghost use Rattle.onesided.specs.Ranked.{Ranked};
+ghost use Rattle.onesided.specs.Ranked.{Ranked, RankedSites};
 use areas::clear;
 use arrays::Measures;
 use arrays::bounds_of;
@@ -42,15 +42,27 @@ fn lay_ranked(
     ensures { λ r. ⌜ now (work .exit) ≡ wiped (instanceBy q (now (heights .entry)) (now (bounds .entry)) (now (radices .entry)) (now (draws .entry))) q (pointsBy (now (xs .entry)) (now (ys .entry)) (now (colours .entry))) (now (work .entry)) ⌝ }
     ensures { λ r. ⌜ now (out .exit) ≡ laidOut (instanceBy q (now (heights .entry)) (now (bounds .entry)) (now (radices .entry)) (now (draws .entry))) q (pointsBy (now (xs .entry)) (now (ys .entry)) (now (colours .entry))) (now (order .entry)) (now (out .entry)) ⌝ }
 {
-    table::fill_table(work, q, heights, bounds, radices, draws, xs, ys, colours);
     let mut parts = [0u8; 4096];
     let mut counts = [0u8; 64];
     budgets::list_splits(radices, q.budgets as usize, &mut parts, &mut counts);
-    let mut labels = [0u32; 48];
-    let m = heights.len();
+    let parts = &parts[..];
+    let counts = &counts[..];
+    table::fill_table(
+        work,
+        q,
+        heights,
+        bounds,
+        radices,
+        draws,
+        parts,
+        counts,
+        xs,
+        ys,
+        colours,
+    );
     let fault = answer::lay_least(
-        &parts,
-        &counts,
+        parts,
+        counts,
         q,
         heights,
         bounds,
@@ -60,13 +72,55 @@ fn lay_ranked(
         ys,
         colours,
         order,
-        &mut labels[..m],
         work,
         out,
     );
-    let size = rest::level_size(q, m);
+    let size = rest::level_size(q, heights.len());
     clear(work, (order.len() + 1) * size);
     fault
+}
+
+// What the layout maker does with an accepted one-sided sheet whose sites are given by rising rank.
+fn lay_sites(
+    sheet: &[u32],
+    slots: usize,
+    colours: u32,
+    budgets: u32,
+    xs: &[u32],
+    ys: &[u32],
+    codes: &[u32],
+    order: &[u32],
+    work: &mut [u32],
+    out: &mut [u32],
+) -> u8
+    requires { ⌜ takesSheet (now sheet) (now work) (now out) ⌝ }
+    requires { ⌜ sheetIn (now sheet) .isTwoSided ≡ false ⌝ }
+    requires { ⌜ (slots ≡ length (sheetIn (now sheet) .slots)) × (colours ≡ length (sheetIn (now sheet) .colours)) × (budgets ≡ productOf (sheetIn (now sheet) .colours)) ⌝ }
+    requires { ⌜ RankedSites (sheetIn (now sheet)) (now xs) (now ys) (now codes) (now order) ⌝ }
+    ensures { λ r. ⌜ r ≡ makeFault (now (sheet .entry)) (now (work .entry)) (now (out .entry)) ⌝ }
+    ensures { λ _. ⌜ now (work .exit) ≡ makeWork (now (sheet .entry)) (now (work .entry)) (now (out .entry)) ⌝ }
+    ensures { λ _. ⌜ now (out .exit) ≡ makeAnswer (now (sheet .entry)) (now (work .entry)) (now (out .entry)) ⌝ }
+{
+    let q = measures_of(sheet, colours, budgets);
+    let heights = heights_of(sheet);
+    let bounds = bounds_of(sheet);
+    let kinds = colours as usize;
+    let bounds = &bounds[..kinds];
+    let radices = radices_of(bounds);
+    let draws = draws_of(bounds);
+    lay_ranked(
+        q,
+        &heights[..slots],
+        bounds,
+        &radices[..kinds],
+        &draws[..kinds],
+        xs,
+        ys,
+        codes,
+        order,
+        work,
+        out,
+    )
 }
 
 // What the layout maker does with an accepted one-sided sheet of these sizes, its areas long enough.
@@ -86,29 +140,24 @@ pub fn lay_one_sided(
     ensures { λ _. ⌜ now (work .exit) ≡ makeWork (now (sheet .entry)) (now (work .entry)) (now (out .entry)) ⌝ }
     ensures { λ _. ⌜ now (out .exit) ≡ makeAnswer (now (sheet .entry)) (now (work .entry)) (now (out .entry)) ⌝ }
 {
-    let q = measures_of(sheet, colours, budgets);
-    let heights = heights_of(sheet);
-    let bounds = bounds_of(sheet);
-    let kinds = colours as usize;
-    let radices = radices_of(&bounds[..kinds]);
-    let draws = draws_of(&bounds[..kinds]);
     let ranks = xs_of(sheet);
     let ys = ys_of(sheet);
     let codes = colours_of(sheet);
-    let order = order_of(&ranks[..sites]);
-    let ranked_xs = gathered_of(&ranks[..sites], &order[..sites]);
-    let ranked_ys = gathered_of(&ys[..sites], &order[..sites]);
-    let ranked_colours = gathered_of(&codes[..sites], &order[..sites]);
-    lay_ranked(
-        q,
-        &heights[..slots],
-        &bounds[..kinds],
-        &radices[..kinds],
-        &draws[..kinds],
+    let ranks = &ranks[..sites];
+    let order = order_of(ranks);
+    let order = &order[..sites];
+    let ranked_xs = gathered_of(ranks, order);
+    let ranked_ys = gathered_of(&ys[..sites], order);
+    let ranked_colours = gathered_of(&codes[..sites], order);
+    lay_sites(
+        sheet,
+        slots,
+        colours,
+        budgets,
         &ranked_xs[..sites],
         &ranked_ys[..sites],
         &ranked_colours[..sites],
-        &order[..sites],
+        order,
         work,
         out,
     )

@@ -2,7 +2,7 @@
 ghost use mathlib.Core.Path.{_≡_};
 ghost use mathlib.Core.List.{List};
 ghost use Prim.Native.Nat.{ℕ, suc, _+_, _*_, _<_, _≤_};
-ghost use lib.ListN.{length, replicate};
+ghost use lib.ListN.{length, getD, replicate};
 ghost use Rattle.optimum.specs.Strips as model;
 ghost use Rattle.arrays.specs.Arrays.{instanceBy};
 ghost use Rattle.arrays.specs.declared.Measures as measured;
@@ -33,6 +33,18 @@ pub struct End {
 pub struct PartRows {
     pub upper: usize,
     pub lower: usize,
+}
+
+// The site of rank j.
+pub fn site_at(xs: &[u32], ys: &[u32], colours: &[u32], j: usize) -> Site
+    requires { ⌜ (j < length (now xs)) × (j < length (now ys)) × (j < length (now colours)) ⌝ }
+    ensures { λ r. ⌜ pointOf r ≡ record { x = getD (now (xs .entry)) j 0; y = getD (now (ys .entry)) j 0; c = getD (now (colours .entry)) j 0 } ⌝ }
+{
+    Site {
+        x: xs[j],
+        y: ys[j],
+        c: colours[j],
+    }
 }
 
 // How many rows a level has.

@@ -21,7 +21,7 @@ use Rattle.optimum.proofs.Full.{none-at-full}
 use Rattle.optimum.proofs.Loops.{at-drop}
 use Rattle.arrays.specs.declared.Measures.{Measures}
 use Rattle.arrays.specs.Arrays.{instanceBy, pointsBy}
-use Rattle.strips.specs.Strips.{instanceOn}
+use Rattle.strips.specs.Strips.{instanceOn, Stands}
 use Rattle.budgets.specs.Budgets.{Others, Splits, leftBy}
 use Rattle.rows.specs.Rows.{rowOf, rowsOf, rowIn, levelSize, upperPart, lowerPart}
 use Rattle.rows.proofs.Places.{row-low, row-fits}
@@ -63,12 +63,13 @@ module _ (q : Measures) (hs bs rs ds xs ys cs : List ℕ) (area : ℕ) (g : Give
       room r rows n v h k = omega (arith, row-room r rows n h)
 
   -- a level from the one below it
-  pub level-right : (old new parts counts left : List ℕ) (j base low : ℕ) → Splits rs (q .budgets) parts counts → j < length xs
-      → ((v : ℕ) → v < q .budgets → getD left v 0 ≡ leftBy rs (getD ds (getD cs j 0) 0) v)
-      → ((p : Strip) → Shaped (length hs) (q .colours) p → RowFilled q hs bs parts counts left old new base low (record { x = getD xs j 0; y = getD ys j 0; c = getD cs j 0 }) p)
+  pub level-right : (old new parts counts left : List ℕ) (j base low : ℕ) (s : Point) → s ≡ record { x = getD xs j 0; y = getD ys j 0; c = getD cs j 0 }
+      → Splits rs (q .budgets) parts counts → j < length xs
+      → ((v : ℕ) → v < q .budgets → getD left v 0 ≡ leftBy rs (getD ds (s .c) 0) v)
+      → ((p : Strip) → Shaped (length hs) (q .colours) p → RowFilled q hs bs parts counts left old new base low s p)
       → LevelMarked P q ss j old base → LevelRight P q ss (j + 1) old low → LevelRight P q ss j new base
   unfolding Reached
-  level-right old new parts counts left j base low splits h drawn f m r p v a u =
+  level-right old new parts counts left j base low s is splits h drawn f m r p v a u =
       let t = shape j (omega arith) p a in
       ap (λ (z : ℕ). getD new z 0) (omega arith)
       ∙ f p t (m p a) v u
@@ -76,11 +77,8 @@ module _ (q : Measures) (hs bs rs ds xs ys cs : List ℕ) (area : ℕ) (g : Give
       ∙ entry-asked P (q .colours) (q .budgets) rising (drop low old) s (drop (j + 1) ss) p v rows u
       ∙ ap (λ (l : List Point). T (rulesOf P) l p v) (sym (drop-point ss j (omega (arith, sites-many)) ∙ ap (λ (x : Point). x ∷ drop (j + 1) ss) here))
     where
-      s : Point
-      s = record { x = getD xs j 0; y = getD ys j 0; c = getD cs j 0 }
-
       here : getD ss j noPoint ≡ s
-      here = point-at xs ys cs j (g .sites .ysLong) (g .sites .csLong) h
+      here = point-at xs ys cs j (g .sites .ysLong) (g .sites .csLong) h ∙ sym is
 
       next : (x : Strip) → Asks P p s x → Reached P ss (j + 1) x
       next x w = subst (λ (n : ℕ). Reached P ss n x) (sym (add-one j)) (p, a, subst (λ (y : Point). Asks P p y x) (sym here) w)
@@ -102,6 +100,10 @@ module _ (q : Measures) (hs bs rs ds xs ys cs : List ℕ) (area : ℕ) (g : Give
       falls i k o =
           let a = asks-parts q hs bs p s k i o in
           (none _ (asks-by q hs bs rs ds p s _ (a .0)), none _ (asks-by q hs bs rs ds p s _ (a .1)))
+
+  -- the site of rank j stands on the sheet
+  pub site-stands : (j : ℕ) (s : Point) → s ≡ record { x = getD xs j 0; y = getD ys j 0; c = getD cs j 0 } → j < length xs → Stands (q .colours) s
+  site-stands j s e h = subst (Stands (q .colours)) (sym e) (record { colourLow = g .sites .csLow j h; yLow = g .sites .ysLow j h })
 
   -- THE TABLE, from its levels
   pub table-right : (work : List ℕ) → ((j : ℕ) → j ≤ length xs → LevelRight P q ss j work (j * levelSize q hs)) → TableOf P (q .colours) (q .budgets) ss work

@@ -2,10 +2,8 @@
 ghost use mathlib.Core.Path.{_≡_};
 ghost use Prim.Native.Nat.{ℕ, _+_, _-_, _*_, _<_, _≤_};
 ghost use lib.ListN.{length, getD, drop};
-ghost use Rattle.rows.specs.Rows.{stripOf, pointOf, levelSize, rowIn, Lies, endPlace, endWords};
+ghost use Rattle.rows.specs.Rows.{pointOf, levelSize, endPlace, endWords};
 ghost use Rattle.optimum.specs.Strips as model;
-ghost use Rattle.entries.specs.Rows as entries;
-ghost use Rattle.entries.specs.Rows.{entryBy};
 ghost use Rattle.marks.specs.Marks.{Shaped};
 ghost use Rattle.budgets.specs.Budgets.{Others, Splits};
 ghost use Rattle.arrays.specs.Arrays.{instanceBy, pointsBy};
@@ -16,32 +14,7 @@ use rows::End;
 use rows::Site;
 use rows::Strip;
 
-// Fills the row of a strip, which begins at the word `at`, if it is marked.
-fn fill_marked(
-    work: &mut [u32],
-    q: Measures,
-    heights: &[u32],
-    bounds: &[u32],
-    parts: &[u8],
-    counts: &[u8],
-    left: &[u8],
-    p: Strip,
-    s: Site,
-    at: usize,
-    low: usize,
-)
-    requires { ⌜ entries.Ready q (now heights) (now bounds) (now parts) (now counts) (now left) (length (now work)) at low (pointOf s) ⌝ }
-    requires { ⌜ Lies (length (now heights)) (q .colours) (stripOf p) ⌝ }
-    ensures { λ _. ⌜ Others (now (work .entry)) (now (work .exit)) at (q .budgets) ⌝ }
-    ensures { λ _. ⌜ (getD (now (work .entry)) at 0 ≡ 1 → (v : ℕ) → v < q .budgets → getD (now (work .exit)) (at + v) 0 ≡ entryBy q (now (heights .entry)) (now (bounds .entry)) (now (parts .entry)) (now (counts .entry)) (now (left .entry)) (rowIn (now (work .entry)) low (length (now (heights .entry))) (q .colours) (q .budgets)) (stripOf p) (pointOf s) v) ⌝ }
-{
-    if work[at] != 1 {
-        return;
-    }
-    entries::fill_row(work, q, heights, bounds, parts, counts, left, p, s, at, low);
-}
-
-// Fills the marked rows below one upper end.
+// Fills the marked rows below one upper end, if a strip may have it.
 fn fill_below(
     work: &mut [u32],
     q: Measures,
@@ -60,6 +33,9 @@ fn fill_below(
     ensures { λ _. ⌜ Others (now (work .entry)) (now (work .exit)) (base + endPlace (q .colours) (above .slot) (above .colour) * endWords q (now (heights .entry))) (endWords q (now (heights .entry))) ⌝ }
     ensures { λ _. ⌜ ((p : model.Strip) → Shaped (length (now (heights .entry))) (q .colours) p → endPlace (q .colours) (p .a) (p .ca) ≡ endPlace (q .colours) (above .slot) (above .colour) → RowFilled q (now (heights .entry)) (now (bounds .entry)) (now (parts .entry)) (now (counts .entry)) (now (left .entry)) (now (work .entry)) (now (work .exit)) base low (pointOf s) p) ⌝ }
 {
+    if !rows::is_upper_end(above) {
+        return;
+    }
     let n = q.budgets as usize;
     let ends = (heights.len() as u32) + 2;
     let mut p = Strip {
@@ -70,45 +46,9 @@ fn fill_below(
     };
     let mut at = base + rows::row_place(q, heights.len(), p);
     while p.b < ends {
-        fill_marked(work, q, heights, bounds, parts, counts, left, p, s, at, low);
+        entries::fill_row(work, q, heights, bounds, parts, counts, left, p, s, at, low);
         at += n;
         p = rows::next_below(q.colours, p);
-    }
-}
-
-// The same, if the end is one that a strip may have.
-fn fill_end(
-    work: &mut [u32],
-    q: Measures,
-    heights: &[u32],
-    bounds: &[u32],
-    parts: &[u8],
-    counts: &[u8],
-    left: &[u8],
-    above: End,
-    s: Site,
-    base: usize,
-    low: usize,
-)
-    requires { ⌜ Ready q (now heights) (now bounds) (now parts) (now counts) (now left) (length (now work)) base low (pointOf s) ⌝ }
-    requires { ⌜ (above .slot ≤ length (now heights)) × (above .colour ≤ q .colours) ⌝ }
-    ensures { λ _. ⌜ Others (now (work .entry)) (now (work .exit)) (base + endPlace (q .colours) (above .slot) (above .colour) * endWords q (now (heights .entry))) (endWords q (now (heights .entry))) ⌝ }
-    ensures { λ _. ⌜ ((p : model.Strip) → Shaped (length (now (heights .entry))) (q .colours) p → endPlace (q .colours) (p .a) (p .ca) ≡ endPlace (q .colours) (above .slot) (above .colour) → RowFilled q (now (heights .entry)) (now (bounds .entry)) (now (parts .entry)) (now (counts .entry)) (now (left .entry)) (now (work .entry)) (now (work .exit)) base low (pointOf s) p) ⌝ }
-{
-    if rows::is_upper_end(above) {
-        fill_below(
-            work,
-            q,
-            heights,
-            bounds,
-            parts,
-            counts,
-            left,
-            above,
-            s,
-            base,
-            low,
-        );
     }
 }
 
@@ -132,7 +72,7 @@ fn fill_level(
     let ends = (heights.len() as u32) + 1;
     let mut above = End { slot: 0, colour: 0 };
     while above.slot < ends {
-        fill_end(
+        fill_below(
             work,
             q,
             heights,
@@ -184,13 +124,8 @@ fn fill_site(
     ensures { λ _. ⌜ Others (now (work .entry)) (now (work .exit)) (j * size) size ⌝ }
     ensures { λ _. ⌜ (LevelMarked (instanceBy q (now (heights .entry)) (now (bounds .entry)) (now (radices .entry)) (now (draws .entry))) q (pointsBy (now (xs .entry)) (now (ys .entry)) (now (cs .entry))) j (now (work .entry)) (j * size) → LevelRight (instanceBy q (now (heights .entry)) (now (bounds .entry)) (now (radices .entry)) (now (draws .entry))) q (pointsBy (now (xs .entry)) (now (ys .entry)) (now (cs .entry))) (j + 1) (now (work .entry)) ((j + 1) * size) → LevelRight (instanceBy q (now (heights .entry)) (now (bounds .entry)) (now (radices .entry)) (now (draws .entry))) q (pointsBy (now (xs .entry)) (now (ys .entry)) (now (cs .entry))) j (now (work .exit)) (j * size)) ⌝ }
 {
-    let c = cs[j];
-    let s = Site {
-        x: xs[j],
-        y: ys[j],
-        c: c,
-    };
-    let draw = words::get(draws, c);
+    let s = rows::site_at(xs, ys, cs, j);
+    let draw = words::get(draws, s.c);
     let mut left = [0u8; 64];
     budgets::list_left(radices, draw, q.budgets as usize, &mut left);
     fill_level(
@@ -215,17 +150,17 @@ pub fn fill_table(
     bounds: &[u32],
     radices: &[u32],
     draws: &[u32],
+    parts: &[u8],
+    counts: &[u8],
     xs: &[u32],
     ys: &[u32],
     cs: &[u32],
 )
     requires { ⌜ Given q (now heights) (now bounds) (now radices) (now draws) (now xs) (now ys) (now cs) (length (now work)) ⌝ }
+    requires { ⌜ Splits (now radices) (q .budgets) (now parts) (now counts) ⌝ }
     ensures { λ _. ⌜ TableOf (instanceBy q (now (heights .entry)) (now (bounds .entry)) (now (radices .entry)) (now (draws .entry))) (q .colours) (q .budgets) (pointsBy (now (xs .entry)) (now (ys .entry)) (now (cs .entry))) (now (work .exit)) ⌝ }
     ensures { λ _. ⌜ drop ((length (now (xs .entry)) + 1) * levelSize q (now (heights .entry))) (now (work .exit)) ≡ drop ((length (now (xs .entry)) + 1) * levelSize q (now (heights .entry))) (now (work .entry)) ⌝ }
 {
-    let mut parts = [0u8; 4096];
-    let mut counts = [0u8; 64];
-    budgets::list_splits(radices, q.budgets as usize, &mut parts, &mut counts);
     let rows = rows::rows_of(q, heights.len());
     let size = rows * (q.budgets as usize);
     marks::mark_table(work, q, heights, bounds, xs, ys, cs, rows);
@@ -240,8 +175,8 @@ pub fn fill_table(
             bounds,
             radices,
             draws,
-            &parts,
-            &counts,
+            parts,
+            counts,
             xs,
             ys,
             cs,

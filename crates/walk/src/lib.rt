@@ -1,26 +1,12 @@
 // The one-sided walk: ties the sites one after the other by rising rank, each to the lowest slot that keeps the least cost.
 ghost use mathlib.Core.Path.{_≡_};
 ghost use Prim.Native.Nat.{_+_, _<_};
-ghost use lib.ListN.{length, getD};
+ghost use lib.ListN.{length};
 ghost use Rattle.arrays.specs.Arrays.{instanceBy, pointsBy};
-ghost use Rattle.rows.specs.Rows.{pointOf};
 ghost use Rattle.walk.specs.Walk.{WalkArrays, Standing, tiedFrom};
 use arrays::Measures;
 use choice::Left;
 use choice::choose_slot;
-use rows::Site;
-
-// The site of rank j.
-fn site_at(xs: &[u32], ys: &[u32], colours: &[u32], j: usize) -> Site
-    requires { ⌜ (j < length (now xs)) × (j < length (now ys)) × (j < length (now colours)) ⌝ }
-    ensures { λ r. ⌜ pointOf r ≡ record { x = getD (now (xs .entry)) j 0; y = getD (now (ys .entry)) j 0; c = getD (now (colours .entry)) j 0 } ⌝ }
-{
-    Site {
-        x: xs[j],
-        y: ys[j],
-        c: colours[j],
-    }
-}
 
 // Ties the site of rank j, and says what is left.
 fn tie_site(
@@ -47,7 +33,7 @@ fn tie_site(
     ensures { λ r. ⌜ Standing (instanceBy q (now (heights .entry)) (now (bounds .entry)) (now (radices .entry)) (now (draws .entry))) q (now (parts .entry)) (now (counts .entry)) (now (work .entry)) (pointsBy (now (xs .entry)) (now (ys .entry)) (now (colours .entry))) (now (labels .exit)) (now (out .exit)) (j + 1) (r .budget) (r .cost) ⌝ }
     ensures { λ r. ⌜ tiedFrom (instanceBy q (now (heights .entry)) (now (bounds .entry)) (now (radices .entry)) (now (draws .entry))) q (now (parts .entry)) (now (counts .entry)) (now (work .entry)) (pointsBy (now (xs .entry)) (now (ys .entry)) (now (colours .entry))) (now (order .entry)) (now (labels .entry)) (now (out .entry)) j (left .budget) ≡ tiedFrom (instanceBy q (now (heights .entry)) (now (bounds .entry)) (now (radices .entry)) (now (draws .entry))) q (now (parts .entry)) (now (counts .entry)) (now (work .entry)) (pointsBy (now (xs .entry)) (now (ys .entry)) (now (colours .entry))) (now (order .entry)) (now (labels .exit)) (now (out .exit)) (j + 1) (r .budget) ⌝ }
 {
-    let s = site_at(xs, ys, colours, j);
+    let s = rows::site_at(xs, ys, colours, j);
     let p = rows::hold_of(heights, labels, s.y);
     let size = rest::level_size(q, heights.len());
     let base = (j + 1) * size;

@@ -1,10 +1,10 @@
 use Prim.Native.Nat.{min, _+_, _-_}
 use Rattle.rows.specs.Rows.{stripOf, pointOf}
-use Rattle.entries.proofs.Places.{upper-fits, lower-fits}
+use Rattle.entries.proofs.Places.{PartsFit, parts-fit, last-in}
 use Rattle.entries.proofs.Terms.{slot-none, slot-open}
 use mathlib.Core.Path.{refl, ap, sym, _∙_}
 use native.Mathlib.Omega.{arith}
-use lib.ListN.{getD}
+use lib.ListN.{length, getD}
 use borrow.Author.Needs.{needs}
 use Rattle.entries.proofs.open_slot.Statement.{statement}
 use Rattle.entries.proofs.open_slot.Tie as tie
@@ -15,6 +15,12 @@ use Rattle.rows.proofs.part_places.Reads as part-places-reads
 use Rattle.strips.proofs.open_cost.Reads as open-cost-reads
 use Rattle.words.proofs.either.Reads as either-reads
 use Rattle.words.proofs.same.Reads as same-reads
+
+-- the rows of both parts stand below the row that is filled
+fitting : (c : tie.After-part-places) → PartsFit (c .before .before .before .before .before .before .before .args .q .budgets) (c .before .before .before .before .before .before .before .args .base) (length (c .before .before .before .before .before .before .before .args .work .now)) (c .part-places .result .upper) (c .part-places .result .lower)
+fitting c =
+    let p = c .before .before .before .before .before .before .before .pre in
+    parts-fit (p .0) (stripOf (c .before .before .before .before .before .before .before .args .p)) (c .before .before .before .before .before .before .before .args .k) (p .1 .0 .0) (p .1 .0 .1) _ _ (c .part-places .ensures .0) (c .part-places .ensures .1)
 
 part-places-requires : tie.Need-part-places-requires
 part-places-requires c κs =
@@ -31,42 +37,30 @@ sub-last c =
 
 add-same : tie.Need-add-same
 add-same c =
-    let p = c .before .before .before .before .before .before .before .before .pre in
-    let a = c .before .before .before .before .before .before .before .before .args in
-    omega (arith, c .before .part-places .ensures .0, upper-fits (p .0) (stripOf (a .p)) (a .k) (p .1 .0 .0) (p .1 .0 .1), p .0 .framed .budgetsSome)
+    omega (arith, fitting (c .before) .upperIn)
 
 mul-same : tie.Need-mul-same
 mul-same c =
-    let p = c .before .before .before .before .before .before .before .before .pre in
-    let a = c .before .before .before .before .before .before .before .before .args in
-    omega (arith, c .before .part-places .ensures .0, upper-fits (p .0) (stripOf (a .p)) (a .k) (p .1 .0 .0) (p .1 .0 .1), p .0 .framed .budgetsSome)
+    omega (arith, fitting (c .before) .upperIn)
 
 slice-read-same : tie.Need-slice-read-same
 slice-read-same c =
-    let p = c .before .before .before .before .before .before .before .before .before .pre in
-    let a = c .before .before .before .before .before .before .before .before .before .args in
-    omega (arith, c .before .before .part-places .ensures .0, upper-fits (p .0) (stripOf (a .p)) (a .k) (p .1 .0 .0) (p .1 .0 .1), p .0 .framed .budgetsSome)
+    last-in _ _ _ (fitting (c .before .before) .some) (fitting (c .before .before) .upperIn)
 
 same-requires : tie.Need-same-requires
 same-requires c κs = search needs
 
 add-same-2 : tie.Need-add-same-2
 add-same-2 c =
-    let p = c .before .before .before .before .before .before .before .before .before .before .pre in
-    let a = c .before .before .before .before .before .before .before .before .before .before .args in
-    omega (arith, c .before .before .before .part-places .ensures .1, lower-fits (p .0) (stripOf (a .p)) (a .k) (p .1 .0 .0) (p .1 .0 .1), p .0 .framed .budgetsSome)
+    omega (arith, fitting (c .before .before .before) .lowerIn)
 
 mul-same-2 : tie.Need-mul-same-2
 mul-same-2 c =
-    let p = c .before .before .before .before .before .before .before .before .before .before .pre in
-    let a = c .before .before .before .before .before .before .before .before .before .before .args in
-    omega (arith, c .before .before .before .part-places .ensures .1, lower-fits (p .0) (stripOf (a .p)) (a .k) (p .1 .0 .0) (p .1 .0 .1), p .0 .framed .budgetsSome)
+    omega (arith, fitting (c .before .before .before) .lowerIn)
 
 slice-read-same-2 : tie.Need-slice-read-same-2
 slice-read-same-2 c =
-    let p = c .before .before .before .before .before .before .before .before .before .before .before .pre in
-    let a = c .before .before .before .before .before .before .before .before .before .before .before .args in
-    omega (arith, c .before .before .before .before .part-places .ensures .1, lower-fits (p .0) (stripOf (a .p)) (a .k) (p .1 .0 .0) (p .1 .0 .1), p .0 .framed .budgetsSome)
+    last-in _ _ _ (fitting (c .before .before .before .before) .some) (fitting (c .before .before .before .before) .lowerIn)
 
 same-requires-2 : tie.Need-same-requires-2
 same-requires-2 c κs = search needs
@@ -88,12 +82,7 @@ open-cost-requires c κs = search needs
 
 open-row-requires : tie.Need-open-row-requires
 open-row-requires c κs =
-    let p = c .before .before .before .before .before .before .before .before .before .before .before .before .before .before .before .before .pre in
-    let a = c .before .before .before .before .before .before .before .before .before .before .before .before .before .before .before .before .args in
-    let u = upper-fits (p .0) (stripOf (a .p)) (a .k) (p .1 .0 .0) (p .1 .0 .1) in
-    let l = lower-fits (p .0) (stripOf (a .p)) (a .k) (p .1 .0 .0) (p .1 .0 .1) in
-    let e = c .before .before .before .before .before .before .before .before .before .part-places .ensures in
-    (p .0 .listed, (p .0 .leftLong, omega (arith, p .0 .apart, e .0), omega (arith, p .0 .apart, e .1), omega (arith, e .0), omega (arith, e .1)))
+    let p = c .before .before .before .before .before .before .before .before .before .before .before .before .before .before .before .before .pre .0 in let f = fitting (c .before .before .before .before .before .before .before .before .before) in (p .listed, (p .leftLong, f .upperApart, f .lowerApart, f .upperIn, f .lowerIn))
 
 same-length : tie.Need-same-length
 same-length c = search needs

@@ -1,7 +1,9 @@
 use mathlib.Core.Path.{ap₂, _≡_, refl, ap, sym, _∙_}
 use Rattle.rows.specs.Rows.{stripOf, pointOf, rowOf, endPlace}
+use Rattle.lists.proofs.Tests.{not-f}
 use Rattle.rows.proofs.Places.{row-fits}
-use Rattle.marks.proofs.Followed.{Followed, followed-none, followed-more, followed-all, next-row, next-slot, later-end, start-lies, lies-at, room-of, at-low}
+use Rattle.parts.proofs.Marking.{marking-none}
+use Rattle.marks.proofs.Followed.{ended, Followed, followed-none, followed-more, followed-all, next-row, next-slot, later-end, start-lies, lies-at, room-of, at-low}
 use Prim.Native.Nat.{ℕ, _+_, _-_, _*_, _≤_}
 use native.Mathlib.Omega.{arith}
 use lib.ListN.{length}
@@ -11,7 +13,7 @@ use Rattle.marks.proofs.follow_below.Tie as tie
 use Rattle.marks.proofs.follow_below.Reads as reads
 use Rattle.marks.proofs.follow_below.Lts as lts
 use Rattle.rows.proofs.row_place.Reads as row-place-reads
-use Rattle.marks.proofs.follow.Reads as follow-reads
+use Rattle.marks.proofs.mark_row.Reads as mark-row-reads
 use Rattle.rows.proofs.next_below.Reads as next-below-reads
 
 abbrev Inv-loop : tie.InvT-loop
@@ -19,6 +21,11 @@ Inv-loop work₀ q heights bounds s base low n ends p₀ at₀ work p at = (p .a
 
 abbrev μ-loop : tie.MeasureT-loop
 μ-loop work₀ q heights bounds s base low n ends p₀ at₀ work p at = endPlace (q .colours) (length heights + 2) 0 - endPlace (q .colours) (p .b) (p .cb)
+
+returns : tie.Need-returns Inv-loop μ-loop
+returns c =
+    let a = c .before .before .before .before .before .args in
+    (marking-none _ _ _, λ p t e. absurd (ended _ (a .q .colours) (a .above .slot) (a .above .colour) (c .before .before .before .before .before .pre .1 .1) (sym (c .before .is-upper-end .ensures) ∙ not-f _ (c .if1 .taken)) p t e))
 
 cast-n : tie.Need-cast-n Inv-loop μ-loop
 cast-n c = search needs
@@ -29,65 +36,65 @@ cast-ends c = search needs
 add-ends : tie.Need-add-ends Inv-loop μ-loop
 add-ends c = search needs
 
-add-t14 : tie.Need-add-t14 Inv-loop μ-loop
-add-t14 c = search needs
+add-t16 : tie.Need-add-t16 Inv-loop μ-loop
+add-t16 c = search needs
 
 row-place-requires : tie.Need-row-place-requires Inv-loop μ-loop
 row-place-requires c κs =
-    let p = c .before .before .before .before .before .pre in
+    let p = c .before .before .before .before .before .before .before .pre in
     let f = p .0 .framed in
     ((f .slotsFew, f .coloursFew, f .budgetsFew), record { aLow = omega (arith, p .1 .0); caLow = omega (arith, p .1 .1); bLow = omega (arith, p .1 .0); cbLow = omega arith; dLow = refl })
 
 add-at : tie.Need-add-at Inv-loop μ-loop
 add-at c =
-    let p = c .before .before .before .before .before .before .pre in
-    let a = c .before .before .before .before .before .before .args in
+    let p = c .before .before .before .before .before .before .before .before .pre in
+    let a = c .before .before .before .before .before .before .before .before .args in
     omega (arith, c .row-place .ensures, p .0 .apart, p .0 .within, row-fits (length (a .heights .now)) (a .q .colours) (a .q .budgets) _ (start-lies (length (a .heights .now)) (a .q .colours) (a .above .slot) (a .above .colour) (p .1 .0) (p .1 .1)))
 
 loop-holds : tie.Need-loop-holds Inv-loop μ-loop
 loop-holds c =
-    let p = c .before .before .before .before .before .before .pre in
-    let a = c .before .before .before .before .before .before .args in
+    let p = c .before .before .before .before .before .before .before .before .pre in
+    let a = c .before .before .before .before .before .before .before .before .args in
     (refl, refl, omega arith, omega (arith, p .1 .0), ap (λ (z : ℕ). a .base + z) (c .row-place .ensures), refl, followed-none (a .q) (a .heights .now) (a .bounds .now) (a .base) (a .low) (pointOf (a .s)) (a .work .now) (a .above .slot) (a .above .colour) _ (p .1 .1) refl)
 
-follow-requires : tie.Need-follow-requires Inv-loop μ-loop
-follow-requires c κs =
-    let p = c .before .before .before .before .before .before .before .before .before .before .pre in
+mark-row-requires : tie.Need-mark-row-requires Inv-loop μ-loop
+mark-row-requires c κs =
+    let p = c .before .before .before .before .before .before .before .before .before .before .before .before .pre in
     let l = c .before .before .before .loop in
-    let r = lies-at (length (c .before .before .before .before .before .before .before .before .before .before .args .heights .now)) (c .before .before .before .before .before .before .before .before .before .before .args .q .colours) (stripOf (l .p)) (omega (arith, l .inv .0, p .1 .0)) (omega (arith, l .inv .1, p .1 .1)) (omega (arith, c .before .if1 .taken)) (l .inv .2) refl in
+    let r = lies-at (length (c .before .before .before .before .before .before .before .before .before .before .before .before .args .heights .now)) (c .before .before .before .before .before .before .before .before .before .before .before .before .args .q .colours) (stripOf (l .p)) (omega (arith, l .inv .0, p .1 .0)) (omega (arith, l .inv .1, p .1 .1)) (omega (arith, c .before .if2 .taken)) (l .inv .2) refl in
     ((p .0 .framed, p .0 .stands), ((rw (l .inv .5) (room-of (p .0)), r), omega (arith, at-low (p .0) _ r _ (l .inv .4), l .inv .5, p .0 .within)))
 
 add-at-2 : tie.Need-add-at-2 Inv-loop μ-loop
 add-at-2 c =
-    let p = c .before .before .before .before .before .before .before .before .before .before .before .before .before .pre in
+    let p = c .before .before .before .before .before .before .before .before .before .before .before .before .before .before .before .pre in
     let l = c .before .before .before .before .before .before .loop in
-    let r = lies-at (length (c .before .before .before .before .before .before .before .before .before .before .before .before .before .args .heights .now)) (c .before .before .before .before .before .before .before .before .before .before .before .before .before .args .q .colours) (stripOf (l .p)) (omega (arith, l .inv .0, p .1 .0)) (omega (arith, l .inv .1, p .1 .1)) (omega (arith, c .before .before .before .before .if1 .taken)) (l .inv .2) refl in
+    let r = lies-at (length (c .before .before .before .before .before .before .before .before .before .before .before .before .before .before .before .args .heights .now)) (c .before .before .before .before .before .before .before .before .before .before .before .before .before .before .before .args .q .colours) (stripOf (l .p)) (omega (arith, l .inv .0, p .1 .0)) (omega (arith, l .inv .1, p .1 .1)) (omega (arith, c .before .before .before .before .if2 .taken)) (l .inv .2) refl in
     omega (arith, at-low (p .0) _ r _ (l .inv .4), p .0 .within)
 
 next-below-requires : tie.Need-next-below-requires Inv-loop μ-loop
 next-below-requires c κs =
-    let p = c .before .before .before .before .before .before .before .before .before .before .before .before .before .pre in
+    let p = c .before .before .before .before .before .before .before .before .before .before .before .before .before .before .before .pre in
     let l = c .before .before .before .before .before .before .loop in
     (p .0 .framed .coloursFew, omega (arith, l .inv .3, p .0 .framed .slotsFew), l .inv .2)
 
 loop-less : tie.Need-loop-less Inv-loop μ-loop
 loop-less c =
-    let p = c .before .before .before .before .before .before .before .before .before .before .before .before .before .before .pre in
+    let p = c .before .before .before .before .before .before .before .before .before .before .before .before .before .before .before .before .pre in
     let l = c .before .before .before .before .before .before .before .loop in
-    omega (arith, c .next-below .ensures .3, later-end (c .before .before .before .before .before .before .before .before .before .before .before .before .before .before .args .q .colours) (l .p .b) (l .p .cb) (length (c .before .before .before .before .before .before .before .before .before .before .before .before .before .before .args .heights .now) + 2) 0 (l .inv .2) (omega (arith, c .before .before .before .before .before .if1 .taken)))
+    omega (arith, c .next-below .ensures .3, later-end (c .before .before .before .before .before .before .before .before .before .before .before .before .before .before .before .before .args .q .colours) (l .p .b) (l .p .cb) (length (c .before .before .before .before .before .before .before .before .before .before .before .before .before .before .before .before .args .heights .now) + 2) 0 (l .inv .2) (omega (arith, c .before .before .before .before .before .if2 .taken)))
 
 loop-again : tie.Need-loop-again Inv-loop μ-loop
 loop-again c =
-    let p = c .before .before .before .before .before .before .before .before .before .before .before .before .before .before .pre in
-    let a = c .before .before .before .before .before .before .before .before .before .before .before .before .before .before .args in
+    let p = c .before .before .before .before .before .before .before .before .before .before .before .before .before .before .before .before .pre in
+    let a = c .before .before .before .before .before .before .before .before .before .before .before .before .before .before .before .before .args in
     let l = c .before .before .before .before .before .before .before .loop in
-    let f = c .before .before .before .follow in
+    let f = c .before .before .before .mark-row in
     let e = c .next-below .ensures in
-    let r = lies-at (length (a .heights .now)) (a .q .colours) (stripOf (l .p)) (omega (arith, l .inv .0, p .1 .0)) (omega (arith, l .inv .1, p .1 .1)) (omega (arith, c .before .before .before .before .before .if1 .taken)) (l .inv .2) refl in (
+    let r = lies-at (length (a .heights .now)) (a .q .colours) (stripOf (l .p)) (omega (arith, l .inv .0, p .1 .0)) (omega (arith, l .inv .1, p .1 .1)) (omega (arith, c .before .before .before .before .before .if2 .taken)) (l .inv .2) refl in (
       e .0 ∙ l .inv .0,
       e .1 ∙ l .inv .1,
       e .2,
-      omega (arith, c .before .before .before .before .before .if1 .taken, next-slot (a .q .colours) (l .p .b) (l .p .cb) _ _ (l .inv .2) (e .3)),
+      omega (arith, c .before .before .before .before .before .if2 .taken, next-slot (a .q .colours) (l .p .b) (l .p .cb) _ _ (l .inv .2) (e .3)),
       next-row _ _ _ _ _ (stripOf (l .p)) (stripOf (c .next-below .result)) (e .0) (e .1) (e .3) (l .inv .4),
       f .kept .0 ∙ l .inv .5,
       rw (e .0, e .1, e .3) (followed-more (a .q) (a .heights .now) (a .bounds .now) (a .base) (a .low) (pointOf (a .s)) _ (l .work) (f .last .0) (stripOf (l .p)) _ (l .at) (p .0 .apart) r refl (l .inv .4) (p .0 .framed .budgetsSome) (l .inv .6) (f .ensures .0) (f .ensures .1)),
@@ -97,11 +104,14 @@ same-length : tie.Need-same-length Inv-loop μ-loop
 same-length c =
     c .before .before .loop .inv .5
 
-returns : tie.Need-returns Inv-loop μ-loop
-returns c =
+returns-2 : tie.Need-returns-2 Inv-loop μ-loop
+returns-2 c =
     let l = c .before .before .loop in
-    let a = c .before .before .before .before .before .before .before .before .before .args in
-    (l .inv .6 .marking, λ p t e. followed-all (a .q) (a .heights .now) (a .bounds .now) (a .base) (a .low) (pointOf (a .s)) (a .work .now) (l .work) _ _ _ (omega (arith, c .if1 .left)) (l .inv .6) p t (e ∙ ap₂ (endPlace (a .q .colours)) (sym (l .inv .0)) (sym (l .inv .1))))
+    let a = c .before .before .before .before .before .before .before .before .before .before .before .args in
+    (l .inv .6 .marking, λ p t e. followed-all (a .q) (a .heights .now) (a .bounds .now) (a .base) (a .low) (pointOf (a .s)) (a .work .now) (l .work) _ _ _ (omega (arith, c .if2 .left)) (l .inv .6) p t (e ∙ ap₂ (endPlace (a .q .colours)) (sym (l .inv .0)) (sym (l .inv .1))))
+
+is-upper-end-requires : tie.Need-is-upper-end-requires Inv-loop μ-loop
+is-upper-end-requires c κs = search needs
 
 pub follow-below-spec : {M : Type 1} → statement M
 follow-below-spec =
@@ -109,17 +119,19 @@ follow-below-spec =
     (tie.spec
     Inv-loop
     μ-loop
+    is-upper-end-requires
+    returns
     cast-n
     cast-ends
     add-ends
-    add-t14
+    add-t16
     row-place-requires
     add-at
     loop-holds
-    follow-requires
+    mark-row-requires
     add-at-2
     next-below-requires
     loop-less
     loop-again
     same-length
-    returns)
+    returns-2)

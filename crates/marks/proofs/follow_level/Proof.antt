@@ -9,7 +9,7 @@ use Rattle.marks.proofs.follow_level.Statement.{statement}
 use Rattle.marks.proofs.follow_level.Tie as tie
 use Rattle.marks.proofs.follow_level.Reads as reads
 use Rattle.marks.proofs.follow_level.Lts as lts
-use Rattle.marks.proofs.follow_end.Reads as follow-end-reads
+use Rattle.marks.proofs.follow_below.Reads as follow-below-reads
 use Rattle.rows.proofs.next_end.Reads as next-end-reads
 
 abbrev Inv-loop : tie.InvT-loop
@@ -29,8 +29,8 @@ loop-holds c =
     let a = c .before .before .before .args in
     (omega arith, omega arith, refl, passed-none (a .q) (a .heights .now) (a .bounds .now) (a .base) (a .low) (pointOf (a .s)) (a .work .now) _ (omega arith))
 
-follow-end-requires : tie.Need-follow-end-requires Inv-loop μ-loop
-follow-end-requires c κs =
+follow-below-requires : tie.Need-follow-below-requires Inv-loop μ-loop
+follow-below-requires c κs =
     let p = c .before .before .before .before .before .before .before .pre in
     let l = c .before .before .before .loop in
     (rw (l .inv .2) p, (omega (arith, c .before .if1 .taken), l .inv .0))
@@ -51,7 +51,7 @@ loop-again c =
     let p = c .before .before .before .before .before .before .before .before .before .before .before .pre in
     let a = c .before .before .before .before .before .before .before .before .before .before .before .args in
     let l = c .before .before .before .before .before .before .before .loop in
-    let f = c .before .before .before .follow-end in
+    let f = c .before .before .before .follow-below in
     let e = c .next-end .ensures in (
       e .0,
       omega (arith, c .before .before .before .before .before .if1 .taken, next-slot (a .q .colours) (l .above .slot) (l .above .colour) _ _ (l .inv .0) (e .1)),
@@ -78,7 +78,7 @@ follow-level-spec =
     cast-ends
     add-ends
     loop-holds
-    follow-end-requires
+    follow-below-requires
     next-end-requires
     loop-less
     loop-again

@@ -1,7 +1,8 @@
 use Rattle.marks.proofs.Reach.{at-site}
 use Rattle.marks.proofs.Levels.{next-level, level-room}
 use Rattle.marks.proofs.Points.{point-at}
-use mathlib.Core.Path.{refl}
+use Rattle.strips.specs.Strips.{Stands}
+use mathlib.Core.Path.{refl, sym, _∙_, subst}
 use Prim.Native.Nat.{_-_}
 use native.Mathlib.Omega.{arith}
 use lib.ListN.{length}
@@ -12,45 +13,31 @@ use Rattle.marks.proofs.mark_site.Reads as reads
 use Rattle.marks.proofs.mark_site.Lts as lts
 use Rattle.marks.proofs.follow_level.Reads as follow-level-reads
 
-mul-t11 : tie.Need-mul-t11
-mul-t11 c = search needs
-
-shared-slice-read-t13 : tie.Need-shared-slice-read-t13
-shared-slice-read-t13 c = search needs
-
-mul-t14 : tie.Need-mul-t14
-mul-t14 c = search needs
-
-shared-slice-read-t16 : tie.Need-shared-slice-read-t16
-shared-slice-read-t16 c = search needs
-
-mul-t17 : tie.Need-mul-t17
-mul-t17 c = search needs
-
-shared-slice-read-t19 : tie.Need-shared-slice-read-t19
-shared-slice-read-t19 c = search needs
+site-at-requires : tie.Need-site-at-requires
+site-at-requires c κs =
+    let p = c .before .before .before .before .before .before .pre in (p .1 .2, omega (arith, p .0 .1 .ysLong, p .1 .2), omega (arith, p .0 .1 .csLong, p .1 .2))
 
 mul-follow-level : tie.Need-mul-follow-level
 mul-follow-level c =
-    let p = c .before .before .before .before .before .before .before .before .before .before .pre in
-    omega (arith, level-room (c .before .before .before .before .before .before .before .before .before .before .args .j) (length (c .before .before .before .before .before .before .before .before .before .before .args .xs .now)) (c .before .before .before .before .before .before .before .before .before .before .args .size) _ _ refl (p .1 .2) (p .1 .1))
+    let p = c .before .before .before .before .before .before .before .before .pre in
+    omega (arith, level-room (c .before .before .before .before .before .before .before .before .args .j) (length (c .before .before .before .before .before .before .before .before .args .xs .now)) (c .before .before .before .before .before .before .before .before .args .size) _ _ refl (p .1 .2) (p .1 .1))
 
 add-follow-level : tie.Need-add-follow-level
 add-follow-level c = search needs
 
 mul-follow-level-2 : tie.Need-mul-follow-level-2
 mul-follow-level-2 c =
-    let p = c .before .before .before .before .before .before .before .before .before .before .pre in
-    omega (arith, level-room (c .before .before .before .before .before .before .before .before .before .before .args .j) (length (c .before .before .before .before .before .before .before .before .before .before .args .xs .now)) (c .before .before .before .before .before .before .before .before .before .before .args .size) _ _ refl (p .1 .2) (p .1 .1))
+    let p = c .before .before .before .before .before .before .before .before .pre in
+    omega (arith, level-room (c .before .before .before .before .before .before .before .before .args .j) (length (c .before .before .before .before .before .before .before .before .args .xs .now)) (c .before .before .before .before .before .before .before .before .args .size) _ _ refl (p .1 .2) (p .1 .1))
 
 follow-level-requires : tie.Need-follow-level-requires
 follow-level-requires c κs =
-    let p = c .before .before .before .before .before .before .before .before .before .before .pre in
-    let a = c .before .before .before .before .before .before .before .before .before .before .args in
+    let p = c .before .before .before .before .before .before .before .before .pre in
+    let a = c .before .before .before .before .before .before .before .before .args in
     let r = level-room (a .j) (length (a .xs .now)) (a .size) _ _ refl (p .1 .2) (p .1 .1) in
     record {
       framed = p .0 .0;
-      stands = record { colourLow = p .0 .1 .csLow (a .j) (p .1 .2); yLow = p .0 .1 .ysLow (a .j) (p .1 .2) };
+      stands = subst (Stands (a .q .colours)) (sym (c .before .site-at .ensures)) (record { colourLow = p .0 .1 .csLow (a .j) (p .1 .2); yLow = p .0 .1 .ysLow (a .j) (p .1 .2) });
       apart = omega (arith, p .1 .0, next-level (a .j) (a .size));
       within = omega (arith, p .1 .0, r .1);
     }
@@ -60,20 +47,15 @@ same-length c = search needs
 
 returns : tie.Need-returns
 returns c =
-    let p = c .before .before .before .before .before .before .before .before .before .before .before .before .before .pre in
-    let a = c .before .before .before .before .before .before .before .before .before .before .before .before .before .args in
-    at-site (a .q) (a .heights .now) (a .bounds .now) (a .work .now) (c .before .before .follow-level .last .0) (a .size) _ _ _ _ (p .1 .0) (point-at (a .xs .now) (a .ys .now) (a .cs .now) (a .j) (p .0 .1 .ysLong) (p .0 .1 .csLong) (p .1 .2)) (c .before .before .follow-level .ensures)
+    let p = c .before .before .before .before .before .before .before .before .before .before .before .pre in
+    let a = c .before .before .before .before .before .before .before .before .before .before .before .args in
+    at-site (a .q) (a .heights .now) (a .bounds .now) (a .work .now) (c .before .before .follow-level .last .0) (a .size) _ _ _ _ (p .1 .0) (point-at (a .xs .now) (a .ys .now) (a .cs .now) (a .j) (p .0 .1 .ysLong) (p .0 .1 .csLong) (p .1 .2) ∙ sym (c .before .before .before .before .site-at .ensures)) (c .before .before .follow-level .ensures)
 
 pub mark-site-spec : {M : Type 1} → statement M
 mark-site-spec =
     tie.close
     (tie.spec
-    mul-t11
-    shared-slice-read-t13
-    mul-t14
-    shared-slice-read-t16
-    mul-t17
-    shared-slice-read-t19
+    site-at-requires
     mul-follow-level
     add-follow-level
     mul-follow-level-2

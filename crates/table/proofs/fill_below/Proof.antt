@@ -1,7 +1,8 @@
-use mathlib.Core.Path.{ap₂, _≡_, refl, ap, _∙_}
+use mathlib.Core.Path.{ap₂, _≡_, refl, ap, sym, _∙_}
+use Rattle.lists.proofs.Tests.{not-f}
 use Rattle.rows.specs.Rows.{stripOf, pointOf, rowOf, endPlace}
 use Rattle.rows.proofs.Places.{row-fits}
-use Rattle.marks.proofs.Followed.{next-row, later-end, start-lies, lies-at}
+use Rattle.marks.proofs.Followed.{ended, next-row, later-end, start-lies, lies-at}
 use Rattle.table.proofs.Filling.{Filled, filled-none, filled-more, filled-all, row-low, start-end, to-end}
 use Prim.Native.Nat.{ℕ, _+_, _-_, _*_, _≤_}
 use native.Mathlib.Omega.{arith}
@@ -13,13 +14,18 @@ use Rattle.table.proofs.fill_below.Reads as reads
 use Rattle.table.proofs.fill_below.Lts as lts
 use Rattle.rows.proofs.row_place.Reads as row-place-reads
 use Rattle.rows.proofs.next_below.Reads as next-below-reads
-use Rattle.table.proofs.fill_marked.Reads as fill-marked-reads
+use Rattle.entries.proofs.fill_row.Reads as fill-row-reads
 
 abbrev Inv-loop : tie.InvT-loop
 Inv-loop work₀ q heights bounds parts counts left s base low n ends p₀ at₀ work p at = (p .a ≡ p₀ .a) × (p .ca ≡ p₀ .ca) × (p .cb ≤ q .colours) × (endPlace (q .colours) (p .b) (p .cb) ≤ endPlace (q .colours) (length heights + 2) 0) × (at ≡ base + rowOf (length heights) (q .colours) (stripOf p) * q .budgets) × (length work ≡ length work₀) × Filled q heights bounds parts counts left base low (pointOf s) work₀ work (endPlace (q .colours) (p .a) (p .ca)) (endPlace (q .colours) (p .b) (p .cb))
 
 abbrev μ-loop : tie.MeasureT-loop
 μ-loop work₀ q heights bounds parts counts left s base low n ends p₀ at₀ work p at = endPlace (q .colours) (length heights + 2) 0 - endPlace (q .colours) (p .b) (p .cb)
+
+returns : tie.Need-returns Inv-loop μ-loop
+returns c =
+    let a = c .before .before .before .before .before .before .before .before .args in
+    (record { before = λ i h. refl; after = λ i h. refl }, λ p t e. absurd (ended _ (a .q .colours) (a .above .slot) (a .above .colour) (c .before .before .before .before .before .before .before .before .pre .1 .1) (sym (c .before .is-upper-end .ensures) ∙ not-f _ (c .if1 .taken)) p t e))
 
 cast-n : tie.Need-cast-n Inv-loop μ-loop
 cast-n c = search needs
@@ -30,33 +36,33 @@ cast-ends c = search needs
 add-ends : tie.Need-add-ends Inv-loop μ-loop
 add-ends c = search needs
 
-add-t17 : tie.Need-add-t17 Inv-loop μ-loop
-add-t17 c = search needs
+add-t19 : tie.Need-add-t19 Inv-loop μ-loop
+add-t19 c = search needs
 
 row-place-requires : tie.Need-row-place-requires Inv-loop μ-loop
 row-place-requires c κs =
-    let p = c .before .before .before .before .before .before .before .before .pre in
+    let p = c .before .before .before .before .before .before .before .before .before .before .pre in
     let f = p .0 .framed in
     ((f .slotsFew, f .coloursFew, f .budgetsFew), start-lies _ _ _ _ (p .1 .0) (p .1 .1))
 
 add-at : tie.Need-add-at Inv-loop μ-loop
 add-at c =
-    let p = c .before .before .before .before .before .before .before .before .before .pre in
-    let a = c .before .before .before .before .before .before .before .before .before .args in
+    let p = c .before .before .before .before .before .before .before .before .before .before .before .pre in
+    let a = c .before .before .before .before .before .before .before .before .before .before .before .args in
     omega (arith, c .row-place .ensures, p .0 .apart, p .0 .within, row-fits (length (a .heights .now)) (a .q .colours) (a .q .budgets) _ (start-lies (length (a .heights .now)) (a .q .colours) (a .above .slot) (a .above .colour) (p .1 .0) (p .1 .1)))
 
 loop-holds : tie.Need-loop-holds Inv-loop μ-loop
 loop-holds c =
-    let p = c .before .before .before .before .before .before .before .before .before .pre in
-    let a = c .before .before .before .before .before .before .before .before .before .args in
+    let p = c .before .before .before .before .before .before .before .before .before .before .before .pre in
+    let a = c .before .before .before .before .before .before .before .before .before .before .before .args in
     (refl, refl, omega arith, start-end (a .q .colours) (a .above .slot) (length (a .heights .now)) (p .1 .0), ap (λ (z : ℕ). a .base + z) (c .row-place .ensures), refl, filled-none (a .q) (a .heights .now) (a .bounds .now) (a .parts .now) (a .counts .now) (a .left .now) (a .base) (a .low) (pointOf (a .s)) (a .work .now) (a .above .slot) (a .above .colour) _ (p .1 .1) refl)
 
-fill-marked-requires : tie.Need-fill-marked-requires Inv-loop μ-loop
-fill-marked-requires c κs =
-    let p = c .before .before .before .before .before .before .before .before .before .before .before .before .before .pre in
-    let a = c .before .before .before .before .before .before .before .before .before .before .before .before .before .args in
+fill-row-requires : tie.Need-fill-row-requires Inv-loop μ-loop
+fill-row-requires c κs =
+    let p = c .before .before .before .before .before .before .before .before .before .before .before .before .before .before .before .pre in
+    let a = c .before .before .before .before .before .before .before .before .before .before .before .before .before .before .before .args in
     let l = c .before .before .before .loop in
-    let r = lies-at (length (a .heights .now)) (a .q .colours) (stripOf (l .p)) (omega (arith, l .inv .0, p .1 .0)) (omega (arith, l .inv .1, p .1 .1)) (omega (arith, c .before .if1 .taken)) (l .inv .2) refl in (
+    let r = lies-at (length (a .heights .now)) (a .q .colours) (stripOf (l .p)) (omega (arith, l .inv .0, p .1 .0)) (omega (arith, l .inv .1, p .1 .1)) (omega (arith, c .before .if2 .taken)) (l .inv .2) refl in (
       record {
         framed = p .0 .framed;
         listed = p .0 .listed;
@@ -70,33 +76,33 @@ fill-marked-requires c κs =
 
 add-at-2 : tie.Need-add-at-2 Inv-loop μ-loop
 add-at-2 c =
-    let p = c .before .before .before .before .before .before .before .before .before .before .before .before .before .before .before .before .pre in
-    let a = c .before .before .before .before .before .before .before .before .before .before .before .before .before .before .before .before .args in
+    let p = c .before .before .before .before .before .before .before .before .before .before .before .before .before .before .before .before .before .before .pre in
+    let a = c .before .before .before .before .before .before .before .before .before .before .before .before .before .before .before .before .before .before .args in
     let l = c .before .before .before .before .before .before .loop in
-    let r = lies-at (length (a .heights .now)) (a .q .colours) (stripOf (l .p)) (omega (arith, l .inv .0, p .1 .0)) (omega (arith, l .inv .1, p .1 .1)) (omega (arith, c .before .before .before .before .if1 .taken)) (l .inv .2) refl in
+    let r = lies-at (length (a .heights .now)) (a .q .colours) (stripOf (l .p)) (omega (arith, l .inv .0, p .1 .0)) (omega (arith, l .inv .1, p .1 .1)) (omega (arith, c .before .before .before .before .if2 .taken)) (l .inv .2) refl in
     let z = row-low (a .q) (a .heights .now) (a .bounds .now) (a .parts .now) (a .counts .now) (a .left .now) (a .base) (a .low) (pointOf (a .s)) (stripOf (l .p)) (l .at) (p .0 .apart) r (l .inv .4) in
-    omega (arith, z, c .before .before .before .before .before .before .before .before .before .before .before .before .before .before .before .before .fits)
+    omega (arith, z, c .before .before .before .before .before .before .before .before .before .before .before .before .before .before .before .before .before .before .fits)
 
 next-below-requires : tie.Need-next-below-requires Inv-loop μ-loop
 next-below-requires c κs =
-    let p = c .before .before .before .before .before .before .before .before .before .before .before .before .before .before .before .before .pre in
+    let p = c .before .before .before .before .before .before .before .before .before .before .before .before .before .before .before .before .before .before .pre in
     let l = c .before .before .before .before .before .before .loop in
-    (p .0 .framed .coloursFew, omega (arith, c .before .before .before .before .if1 .taken, p .0 .framed .slotsFew), l .inv .2)
+    (p .0 .framed .coloursFew, omega (arith, c .before .before .before .before .if2 .taken, p .0 .framed .slotsFew), l .inv .2)
 
 loop-less : tie.Need-loop-less Inv-loop μ-loop
 loop-less c =
     let l = c .before .before .before .before .before .before .before .loop in
-    omega (arith, c .next-below .ensures .3, later-end (c .before .before .before .before .before .before .before .before .before .before .before .before .before .before .before .before .before .args .q .colours) (l .p .b) (l .p .cb) (length (c .before .before .before .before .before .before .before .before .before .before .before .before .before .before .before .before .before .args .heights .now) + 2) 0 (l .inv .2) (omega (arith, c .before .before .before .before .before .if1 .taken)))
+    omega (arith, c .next-below .ensures .3, later-end (c .before .before .before .before .before .before .before .before .before .before .before .before .before .before .before .before .before .before .before .args .q .colours) (l .p .b) (l .p .cb) (length (c .before .before .before .before .before .before .before .before .before .before .before .before .before .before .before .before .before .before .before .args .heights .now) + 2) 0 (l .inv .2) (omega (arith, c .before .before .before .before .before .if2 .taken)))
 
 loop-again : tie.Need-loop-again Inv-loop μ-loop
 loop-again c =
-    let p = c .before .before .before .before .before .before .before .before .before .before .before .before .before .before .before .before .before .pre in
-    let a = c .before .before .before .before .before .before .before .before .before .before .before .before .before .before .before .before .before .args in
+    let p = c .before .before .before .before .before .before .before .before .before .before .before .before .before .before .before .before .before .before .before .pre in
+    let a = c .before .before .before .before .before .before .before .before .before .before .before .before .before .before .before .before .before .before .before .args in
     let l = c .before .before .before .before .before .before .before .loop in
-    let f = c .before .before .before .fill-marked in
+    let f = c .before .before .before .fill-row in
     let e = c .next-below .ensures in
-    let r = lies-at (length (a .heights .now)) (a .q .colours) (stripOf (l .p)) (omega (arith, l .inv .0, p .1 .0)) (omega (arith, l .inv .1, p .1 .1)) (omega (arith, c .before .before .before .before .before .if1 .taken)) (l .inv .2) refl in
-    let z = later-end (a .q .colours) (l .p .b) (l .p .cb) (length (a .heights .now) + 2) 0 (l .inv .2) (omega (arith, c .before .before .before .before .before .if1 .taken)) in (
+    let r = lies-at (length (a .heights .now)) (a .q .colours) (stripOf (l .p)) (omega (arith, l .inv .0, p .1 .0)) (omega (arith, l .inv .1, p .1 .1)) (omega (arith, c .before .before .before .before .before .if2 .taken)) (l .inv .2) refl in
+    let z = later-end (a .q .colours) (l .p .b) (l .p .cb) (length (a .heights .now) + 2) 0 (l .inv .2) (omega (arith, c .before .before .before .before .before .if2 .taken)) in (
       e .0 ∙ l .inv .0,
       e .1 ∙ l .inv .1,
       e .2,
@@ -110,11 +116,14 @@ same-length : tie.Need-same-length Inv-loop μ-loop
 same-length c =
     c .before .before .loop .inv .5
 
-returns : tie.Need-returns Inv-loop μ-loop
-returns c =
+returns-2 : tie.Need-returns-2 Inv-loop μ-loop
+returns-2 c =
     let l = c .before .before .loop in
-    let a = c .before .before .before .before .before .before .before .before .before .before .before .before .args in
-    to-end (a .q) (a .heights .now) (a .bounds .now) (a .parts .now) (a .counts .now) (a .left .now) (a .base) (a .low) (pointOf (a .s)) (a .work .now) (l .work) _ _ (ap₂ (endPlace (a .q .colours)) (l .inv .0) (l .inv .1)) (filled-all (a .q) (a .heights .now) (a .bounds .now) (a .parts .now) (a .counts .now) (a .left .now) (a .base) (a .low) (pointOf (a .s)) (a .work .now) (l .work) (endPlace (a .q .colours) (l .p .a) (l .p .ca)) _ _ (omega (arith, c .if1 .left)) (l .inv .3) (l .inv .6))
+    let a = c .before .before .before .before .before .before .before .before .before .before .before .before .before .before .args in
+    to-end (a .q) (a .heights .now) (a .bounds .now) (a .parts .now) (a .counts .now) (a .left .now) (a .base) (a .low) (pointOf (a .s)) (a .work .now) (l .work) _ _ (ap₂ (endPlace (a .q .colours)) (l .inv .0) (l .inv .1)) (filled-all (a .q) (a .heights .now) (a .bounds .now) (a .parts .now) (a .counts .now) (a .left .now) (a .base) (a .low) (pointOf (a .s)) (a .work .now) (l .work) (endPlace (a .q .colours) (l .p .a) (l .p .ca)) _ _ (omega (arith, c .if2 .left)) (l .inv .3) (l .inv .6))
+
+is-upper-end-requires : tie.Need-is-upper-end-requires Inv-loop μ-loop
+is-upper-end-requires c κs = search needs
 
 pub fill-below-spec : {M : Type 1} → statement M
 fill-below-spec =
@@ -122,17 +131,19 @@ fill-below-spec =
     (tie.spec
     Inv-loop
     μ-loop
+    is-upper-end-requires
+    returns
     cast-n
     cast-ends
     add-ends
-    add-t17
+    add-t19
     row-place-requires
     add-at
     loop-holds
-    fill-marked-requires
+    fill-row-requires
     add-at-2
     next-below-requires
     loop-less
     loop-again
     same-length
-    returns)
+    returns-2)

@@ -11,7 +11,7 @@ use Rattle.table.proofs.fill_level.Tie as tie
 use Rattle.table.proofs.fill_level.Reads as reads
 use Rattle.table.proofs.fill_level.Lts as lts
 use Rattle.rows.proofs.next_end.Reads as next-end-reads
-use Rattle.table.proofs.fill_end.Reads as fill-end-reads
+use Rattle.table.proofs.fill_below.Reads as fill-below-reads
 
 abbrev Inv-loop : tie.InvT-loop
 Inv-loop work₀ q heights bounds parts counts left s base low ends above₀ work above = (above .colour ≤ q .colours) × (endPlace (q .colours) (above .slot) (above .colour) ≤ endPlace (q .colours) (length heights + 1) 0) × (length work ≡ length work₀) × Passed q heights bounds parts counts left base low (pointOf s) work₀ work (endPlace (q .colours) (above .slot) (above .colour))
@@ -30,8 +30,8 @@ loop-holds c =
     let a = c .before .before .before .before .before .before .args in
     (omega arith, slot-low (a .q .colours) 0 (length (a .heights .now) + 1) 0 (omega arith), refl, passed-none (a .q) (a .heights .now) (a .bounds .now) (a .parts .now) (a .counts .now) (a .left .now) (a .base) (a .low) (pointOf (a .s)) (a .work .now) _ (omega arith))
 
-fill-end-requires : tie.Need-fill-end-requires Inv-loop μ-loop
-fill-end-requires c κs =
+fill-below-requires : tie.Need-fill-below-requires Inv-loop μ-loop
+fill-below-requires c κs =
     let p = c .before .before .before .before .before .before .before .before .before .before .pre in
     let l = c .before .before .before .loop in
     (rw (l .inv .2) p, (omega (arith, c .before .if1 .taken), l .inv .0))
@@ -52,7 +52,7 @@ loop-again c =
     let p = c .before .before .before .before .before .before .before .before .before .before .before .before .before .before .pre in
     let a = c .before .before .before .before .before .before .before .before .before .before .before .before .before .before .args in
     let l = c .before .before .before .before .before .before .before .loop in
-    let f = c .before .before .before .fill-end in
+    let f = c .before .before .before .fill-below in
     let e = c .next-end .ensures in
     let z = later-end (a .q .colours) (l .above .slot) (l .above .colour) (length (a .heights .now) + 1) 0 (l .inv .0) (omega (arith, c .before .before .before .before .before .if1 .taken)) in (
       e .0,
@@ -80,7 +80,7 @@ fill-level-spec =
     cast-ends
     add-ends
     loop-holds
-    fill-end-requires
+    fill-below-requires
     next-end-requires
     loop-less
     loop-again

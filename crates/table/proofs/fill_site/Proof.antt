@@ -1,6 +1,6 @@
 use Rattle.table.proofs.Filling.{others-of}
 use Rattle.marks.proofs.Levels.{next-level, level-room, place-small}
-use Rattle.table.proofs.Right.{level-right}
+use Rattle.table.proofs.Right.{level-right, site-stands}
 use Prim.Native.Nat.{_+_, _-_}
 use native.Mathlib.Omega.{arith}
 use borrow.Author.Needs.{needs}
@@ -12,23 +12,9 @@ use Rattle.budgets.proofs.list_left.Reads as list-left-reads
 use Rattle.table.proofs.fill_level.Reads as fill-level-reads
 use Rattle.words.proofs.get.Reads as get-reads
 
-mul-c : tie.Need-mul-c
-mul-c c = search needs
-
-shared-slice-read-c : tie.Need-shared-slice-read-c
-shared-slice-read-c c = search needs
-
-mul-t18 : tie.Need-mul-t18
-mul-t18 c = search needs
-
-shared-slice-read-t20 : tie.Need-shared-slice-read-t20
-shared-slice-read-t20 c = search needs
-
-mul-t22 : tie.Need-mul-t22
-mul-t22 c = search needs
-
-shared-slice-read-t24 : tie.Need-shared-slice-read-t24
-shared-slice-read-t24 c = search needs
+site-at-requires : tie.Need-site-at-requires
+site-at-requires c κs =
+    let p = c .before .before .before .before .before .before .before .before .before .before .pre in (p .1 .1 .0, omega (arith, p .0 .sites .ysLong, p .1 .1 .0), omega (arith, p .0 .sites .csLong, p .1 .1 .0))
 
 get-requires : tie.Need-get-requires
 get-requires c κs = search needs
@@ -41,34 +27,34 @@ slice-aggregate-list-left c = search needs
 
 list-left-requires : tie.Need-list-left-requires
 list-left-requires c κs =
-    let g = c .before .before .before .before .before .before .before .before .before .before .before .before .before .before .before .before .pre .0 in (g .divides, (g .framed .budgetsFew, omega (arith, g .framed .budgetsFew)))
+    let g = c .before .before .before .before .before .before .before .before .before .before .before .before .before .before .pre .0 in (g .divides, (g .framed .budgetsFew, omega (arith, g .framed .budgetsFew)))
 
 slice-aggregate-fill-level : tie.Need-slice-aggregate-fill-level
 slice-aggregate-fill-level c = search needs
 
 mul-fill-level : tie.Need-mul-fill-level
 mul-fill-level c =
-    let p = c .before .before .before .before .before .before .before .before .before .before .before .before .before .before .before .before .before .before .before .before .pre in
-    omega (arith, place-small _ _ _ (p .0 .framed) (c .before .before .before .before .before .before .before .before .before .before .before .before .before .before .before .before .before .before .before .before .args .j) _ (omega (arith, p .1 .1 .0, p .0 .sites .sitesFew)) (p .1 .1 .1))
+    let p = c .before .before .before .before .before .before .before .before .before .before .before .before .before .before .before .before .before .before .pre in
+    omega (arith, place-small _ _ _ (p .0 .framed) (c .before .before .before .before .before .before .before .before .before .before .before .before .before .before .before .before .before .before .args .j) _ (omega (arith, p .1 .1 .0, p .0 .sites .sitesFew)) (p .1 .1 .1))
 
 add-fill-level : tie.Need-add-fill-level
 add-fill-level c = search needs
 
 mul-fill-level-2 : tie.Need-mul-fill-level-2
 mul-fill-level-2 c =
-    let p = c .before .before .before .before .before .before .before .before .before .before .before .before .before .before .before .before .before .before .before .before .pre in
-    omega (arith, place-small _ _ _ (p .0 .framed) (c .before .before .before .before .before .before .before .before .before .before .before .before .before .before .before .before .before .before .before .before .args .j + 1) _ (omega (arith, p .1 .1 .0, p .0 .sites .sitesFew)) (p .1 .1 .1))
+    let p = c .before .before .before .before .before .before .before .before .before .before .before .before .before .before .before .before .before .before .pre in
+    omega (arith, place-small _ _ _ (p .0 .framed) (c .before .before .before .before .before .before .before .before .before .before .before .before .before .before .before .before .before .before .args .j + 1) _ (omega (arith, p .1 .1 .0, p .0 .sites .sitesFew)) (p .1 .1 .1))
 
 fill-level-requires : tie.Need-fill-level-requires
 fill-level-requires c κs =
-    let a = c .before .before .before .before .before .before .before .before .before .before .before .before .before .before .before .before .before .before .before .before .args in
-    let p = c .before .before .before .before .before .before .before .before .before .before .before .before .before .before .before .before .before .before .before .before .pre in
+    let a = c .before .before .before .before .before .before .before .before .before .before .before .before .before .before .before .before .before .before .args in
+    let p = c .before .before .before .before .before .before .before .before .before .before .before .before .before .before .before .before .before .before .pre in
     let r = level-room (a .j) _ (a .size) _ _ (p .1 .1 .1) (p .1 .1 .0) (p .0 .within) in
     record {
       framed = p .0 .framed;
       listed = p .1 .0 .within;
       leftLong = omega (arith, p .0 .framed .budgetsFew, c .before .before .before .list-left .kept);
-      stands = record { colourLow = p .0 .sites .csLow (a .j) (p .1 .1 .0); yLow = p .0 .sites .ysLow (a .j) (p .1 .1 .0) };
+      stands = site-stands (a .q) (a .heights .now) (a .bounds .now) (a .radices .now) (a .draws .now) (a .xs .now) (a .ys .now) (a .cs .now) _ (p .0) (a .j) _ (c .before .before .before .before .before .before .before .site-at .ensures) (p .1 .1 .0);
       apart = omega (arith, next-level (a .j) (a .size), p .1 .1 .1);
       within = omega (arith, r .1, p .1 .1 .1);
     }
@@ -78,23 +64,18 @@ same-length c = search needs
 
 returns : tie.Need-returns
 returns c =
-    let a = c .before .before .before .before .before .before .before .before .before .before .before .before .before .before .before .before .before .before .before .before .before .before .before .args in
-    let p = c .before .before .before .before .before .before .before .before .before .before .before .before .before .before .before .before .before .before .before .before .before .before .before .pre in
+    let a = c .before .before .before .before .before .before .before .before .before .before .before .before .before .before .before .before .before .before .before .before .before .args in
+    let p = c .before .before .before .before .before .before .before .before .before .before .before .before .before .before .before .before .before .before .before .before .before .pre in
     let f = c .before .before .fill-level .ensures in (
       others-of _ _ _ _ _ (p .1 .1 .1) (f .0),
-      λ m h. level-right (a .q) (a .heights .now) (a .bounds .now) (a .radices .now) (a .draws .now) (a .xs .now) (a .ys .now) (a .cs .now) _ (p .0) (a .work .now) (c .before .before .fill-level .last .0) _ _ _ (a .j) _ _ (p .1 .0) (p .1 .1 .0) (rw (← (c .before .before .before .before .before .before .before .before .before .get .ensures)) (c .before .before .before .before .before .before .list-left .ensures)) (f .1) m h,
+      λ m h. level-right (a .q) (a .heights .now) (a .bounds .now) (a .radices .now) (a .draws .now) (a .xs .now) (a .ys .now) (a .cs .now) _ (p .0) (a .work .now) (c .before .before .fill-level .last .0) _ _ _ (a .j) _ _ _ (c .before .before .before .before .before .before .before .before .before .before .site-at .ensures) (p .1 .0) (p .1 .1 .0) (rw (← (c .before .before .before .before .before .before .before .before .before .get .ensures)) (c .before .before .before .before .before .before .list-left .ensures)) (f .1) m h,
     )
 
 pub fill-site-spec : {M : Type 1} → statement M
 fill-site-spec =
     tie.close
     (tie.spec
-    mul-c
-    shared-slice-read-c
-    mul-t18
-    shared-slice-read-t20
-    mul-t22
-    shared-slice-read-t24
+    site-at-requires
     get-requires
     cast-list-left
     slice-aggregate-list-left

@@ -11,61 +11,47 @@ use Rattle.table.proofs.fill_table.Statement.{statement}
 use Rattle.table.proofs.fill_table.Tie as tie
 use Rattle.table.proofs.fill_table.Reads as reads
 use Rattle.table.proofs.fill_table.Lts as lts
-use Rattle.budgets.proofs.list_splits.Reads as list-splits-reads
 use Rattle.marks.proofs.mark_table.Reads as mark-table-reads
 use Rattle.table.proofs.fill_site.Reads as fill-site-reads
 use Rattle.rows.proofs.rows_of.Reads as rows-of-reads
 use Rattle.table.proofs.zero_level.Reads as zero-level-reads
 
 abbrev Inv-loop : tie.InvT-loop
-Inv-loop work₀ q heights bounds radices draws xs ys cs parts counts rows size j₀ work j = (size ≡ levelSize q heights) × (j ≤ length xs) × (length work ≡ length work₀) × ((area : ℕ) (g : Given q heights bounds radices draws xs ys cs area) → Done q heights bounds radices draws xs ys cs area g work₀ work size j)
+Inv-loop work₀ q heights bounds radices draws parts counts xs ys cs rows size j₀ work j = (size ≡ levelSize q heights) × (j ≤ length xs) × (length work ≡ length work₀) × ((area : ℕ) (g : Given q heights bounds radices draws xs ys cs area) → Done q heights bounds radices draws xs ys cs area g work₀ work size j)
 
 abbrev μ-loop : tie.MeasureT-loop
-μ-loop work₀ q heights bounds radices draws xs ys cs parts counts rows size j₀ work j = j
-
-cast-list-splits : tie.Need-cast-list-splits Inv-loop μ-loop
-cast-list-splits c = search needs
-
-slice-aggregate-list-splits : tie.Need-slice-aggregate-list-splits Inv-loop μ-loop
-slice-aggregate-list-splits c = search needs
-
-slice-aggregate-list-splits-2 : tie.Need-slice-aggregate-list-splits-2 Inv-loop μ-loop
-slice-aggregate-list-splits-2 c = search needs
-
-list-splits-requires : tie.Need-list-splits-requires Inv-loop μ-loop
-list-splits-requires c κs =
-    let g = c .before .before .before .before .before .before .before .before .before .before .before .pre in (g .divides, (g .framed .budgetsFew, refl, refl))
+μ-loop work₀ q heights bounds radices draws parts counts xs ys cs rows size j₀ work j = j
 
 rows-of-requires : tie.Need-rows-of-requires Inv-loop μ-loop
 rows-of-requires c κs =
-    let g = c .before .before .before .before .before .before .before .before .before .before .before .before .before .before .pre in (g .framed .slotsFew, g .framed .coloursFew)
+    let g = c .before .before .before .before .before .before .before .before .before .before .pre .0 in (g .framed .slotsFew, g .framed .coloursFew)
 
 cast-size : tie.Need-cast-size Inv-loop μ-loop
 cast-size c = search needs
 
 mul-size : tie.Need-mul-size Inv-loop μ-loop
 mul-size c =
-    let g = c .before .before .before .before .before .before .before .before .before .before .before .before .before .before .before .before .pre in
-    omega (arith, level-small _ _ _ (g .framed), ap (λ (z : ℕ). z * c .before .before .before .before .before .before .before .before .before .before .before .before .before .before .before .before .args .q .budgets) (c .before .rows-of .ensures))
+    let g = c .before .before .before .before .before .before .before .before .before .before .before .before .pre .0 in
+    omega (arith, level-small _ _ _ (g .framed), ap (λ (z : ℕ). z * c .before .before .before .before .before .before .before .before .before .before .before .before .args .q .budgets) (c .before .rows-of .ensures))
 
 mark-table-requires : tie.Need-mark-table-requires Inv-loop μ-loop
 mark-table-requires c κs =
-    let g = c .before .before .before .before .before .before .before .before .before .before .before .before .before .before .before .before .before .pre in ((g .framed, g .sites), (c .before .before .rows-of .ensures, g .within))
+    let g = c .before .before .before .before .before .before .before .before .before .before .before .before .before .pre .0 in ((g .framed, g .sites), (c .before .before .rows-of .ensures, g .within))
 
 mul-zero-level : tie.Need-mul-zero-level Inv-loop μ-loop
 mul-zero-level c =
-    let g = c .before .before .before .before .before .before .before .before .before .before .before .before .before .before .before .before .before .before .before .before .before .pre in
-    omega (arith, place-small _ _ _ (g .framed) (length (c .before .before .before .before .before .before .before .before .before .before .before .before .before .before .before .before .before .before .before .before .before .args .xs .now)) _ (omega (arith, g .sites .sitesFew)) (ap (λ (z : ℕ). z * c .before .before .before .before .before .before .before .before .before .before .before .before .before .before .before .before .before .before .before .before .before .args .q .budgets) (c .before .before .before .before .before .before .rows-of .ensures)))
+    let g = c .before .before .before .before .before .before .before .before .before .before .before .before .before .before .before .before .before .pre .0 in
+    omega (arith, place-small _ _ _ (g .framed) (length (c .before .before .before .before .before .before .before .before .before .before .before .before .before .before .before .before .before .args .xs .now)) _ (omega (arith, g .sites .sitesFew)) (ap (λ (z : ℕ). z * c .before .before .before .before .before .before .before .before .before .before .before .before .before .before .before .before .before .args .q .budgets) (c .before .before .before .before .before .before .rows-of .ensures)))
 
 zero-level-requires : tie.Need-zero-level-requires Inv-loop μ-loop
 zero-level-requires c κs =
-    let g = c .before .before .before .before .before .before .before .before .before .before .before .before .before .before .before .before .before .before .before .before .before .pre in
-    let a = c .before .before .before .before .before .before .before .before .before .before .before .before .before .before .before .before .before .before .before .before .before .args in
+    let g = c .before .before .before .before .before .before .before .before .before .before .before .before .before .before .before .before .before .pre .0 in
+    let a = c .before .before .before .before .before .before .before .before .before .before .before .before .before .before .before .before .before .args in
     last-room (length (a .xs .now)) _ _ _ _ (ap (λ (z : ℕ). z * a .q .budgets) (c .before .before .before .before .before .before .rows-of .ensures)) (g .within) (c .before .before .before .mark-table .kept .0)
 
 loop-holds : tie.Need-loop-holds Inv-loop μ-loop
 loop-holds c =
-    let a = c .before .before .before .before .before .before .before .before .before .before .before .before .before .before .before .before .before .before .before .before .before .before .before .before .args in
+    let a = c .before .before .before .before .before .before .before .before .before .before .before .before .before .before .before .before .before .before .before .before .args in
     let e = ap (λ (z : ℕ). z * a .q .budgets) (c .before .before .before .before .before .before .before .before .before .rows-of .ensures) in
     let z = c .before .before .zero-level .ensures in
     (e, omega arith, refl, λ area g. done-last (a .q) (a .heights .now) (a .bounds .now) (a .radices .now) (a .draws .now) (a .xs .now) (a .ys .now) (a .cs .now) area g (c .before .before .before .before .before .before .mark-table .last .0) (c .before .before .zero-level .last .0) _ e (c .before .before .before .before .before .before .mark-table .ensures .0) (z .0) (z .1))
@@ -73,18 +59,12 @@ loop-holds c =
 sub-j : tie.Need-sub-j Inv-loop μ-loop
 sub-j c = search needs
 
-slice-aggregate-fill-site : tie.Need-slice-aggregate-fill-site Inv-loop μ-loop
-slice-aggregate-fill-site c = search needs
-
-slice-aggregate-fill-site-2 : tie.Need-slice-aggregate-fill-site-2 Inv-loop μ-loop
-slice-aggregate-fill-site-2 c = search needs
-
 fill-site-requires : tie.Need-fill-site-requires Inv-loop μ-loop
 fill-site-requires c κs =
-    let p = c .before .before .before .before .before .before .before .before .before .before .before .before .before .before .before .before .before .before .before .before .before .before .before .before .before .before .before .before .before .pre in
-    let l = c .before .before .before .before .loop in (
-      given-area _ _ _ _ _ _ _ _ _ _ p (l .inv .2 ∙ c .before .before .before .before .before .before .before .zero-level .kept .0 ∙ c .before .before .before .before .before .before .before .before .before .before .before .mark-table .kept .0),
-      (c .before .before .before .before .before .before .before .before .before .before .before .before .before .before .before .before .before .list-splits .ensures, (omega (arith, c .before .before .before .loop-test .taken, l .inv .1), l .inv .0)),
+    let p = c .before .before .before .before .before .before .before .before .before .before .before .before .before .before .before .before .before .before .before .before .before .before .before .pre in
+    let l = c .before .before .loop in (
+      given-area _ _ _ _ _ _ _ _ _ _ (p .0) (l .inv .2 ∙ c .before .before .before .before .before .zero-level .kept .0 ∙ c .before .before .before .before .before .before .before .before .before .mark-table .kept .0),
+      (p .1, (omega (arith, c .before .loop-test .taken, l .inv .1), l .inv .0)),
     )
 
 loop-less : tie.Need-loop-less Inv-loop μ-loop
@@ -92,13 +72,13 @@ loop-less c = search needs
 
 loop-again : tie.Need-loop-again Inv-loop μ-loop
 loop-again c =
-    let l = c .before .before .before .before .before .before .before .loop in
-    let a = c .before .before .before .before .before .before .before .before .before .before .before .before .before .before .before .before .before .before .before .before .before .before .before .before .before .before .before .before .before .before .before .before .args in
+    let l = c .before .before .before .before .before .loop in
+    let a = c .before .before .before .before .before .before .before .before .before .before .before .before .before .before .before .before .before .before .before .before .before .before .before .before .before .before .args in
     let f = c .before .before .fill-site in (
       l .inv .0,
       omega (arith, l .inv .1),
       f .kept .0 ∙ l .inv .2,
-      λ area g. done-more (a .q) (a .heights .now) (a .bounds .now) (a .radices .now) (a .draws .now) (a .xs .now) (a .ys .now) (a .cs .now) area g _ (l .work) (f .last .0) _ (l .j) _ (l .inv .0) (omega (arith, c .before .before .before .before .before .before .loop-test .taken)) (l .inv .1) (f .kept .0) (f .ensures .0) (f .ensures .1) (l .inv .3 area g),
+      λ area g. done-more (a .q) (a .heights .now) (a .bounds .now) (a .radices .now) (a .draws .now) (a .xs .now) (a .ys .now) (a .cs .now) area g _ (l .work) (f .last .0) _ (l .j) _ (l .inv .0) (omega (arith, c .before .before .before .before .loop-test .taken)) (l .inv .1) (f .kept .0) (f .ensures .0) (f .ensures .1) (l .inv .3 area g),
     )
 
 same-length : tie.Need-same-length Inv-loop μ-loop
@@ -107,8 +87,8 @@ same-length c =
 
 returns : tie.Need-returns Inv-loop μ-loop
 returns c =
-    let p = c .before .before .before .before .before .before .before .before .before .before .before .before .before .before .before .before .before .before .before .before .before .before .before .before .before .before .pre in
-    let a = c .before .before .before .before .before .before .before .before .before .before .before .before .before .before .before .before .before .before .before .before .before .before .before .before .before .before .args in
+    let p = c .before .before .before .before .before .before .before .before .before .before .before .before .before .before .before .before .before .before .before .before .before .before .pre .0 in
+    let a = c .before .before .before .before .before .before .before .before .before .before .before .before .before .before .before .before .before .before .before .before .before .before .args in
     let l = c .before .loop in
     let z : l .j ≡ 0 = omega (arith, c .loop-test .left) in
     let m = c .before .before .before .before .before .before .before .before .mark-table in
@@ -121,10 +101,6 @@ fill-table-spec =
     (tie.spec
     Inv-loop
     μ-loop
-    cast-list-splits
-    slice-aggregate-list-splits
-    slice-aggregate-list-splits-2
-    list-splits-requires
     rows-of-requires
     cast-size
     mul-size
@@ -133,8 +109,6 @@ fill-table-spec =
     zero-level-requires
     loop-holds
     sub-j
-    slice-aggregate-fill-site
-    slice-aggregate-fill-site-2
     fill-site-requires
     loop-less
     loop-again
