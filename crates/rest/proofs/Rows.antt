@@ -1,17 +1,19 @@
 -- One step of the loops that share a budget. Assumes nothing.
-use mathlib.Core.Path.{_≡_, refl, sym, ap, _∙_}
+use mathlib.Core.Path.{_≡_, refl, sym, ap, ap₂, _∙_}
 use mathlib.Core.Bool.{Bool, true, false, cond}
-use mathlib.Core.List.{List}
-use Prim.Native.Nat.{ℕ, suc, _+_, _-_, _≤_, _<_}
+use mathlib.Core.List.{List, _∷_}
+use Prim.Native.Nat.{ℕ, zero, suc, _+_, _-_, _≤_, _<_}
 use native.Mathlib.Numerals.{add-one}
 use native.Mathlib.Omega.{arith}
 use lib.Dec.{eqb}
-use lib.ListN.{length, getD, set, length-set}
+use lib.ListN.{length, getD, set, take, replicate, length-set}
 use lib.Seq.{ext-getD, getD-set-same, getD-set-other}
+use borrow.Author.Tests.{ne-eqb}
 use Rattle.lists.proofs.Tests.{by-equal}
 use Rattle.search.specs.Cost.{plus}
 use Rattle.search.proofs.Cost.{least-cong}
 use Rattle.optimum.specs.OneSided.{topWord}
+use Rattle.search.specs.Share.{just}
 use Rattle.search.specs.Sums.{listing}
 use Rattle.search.proofs.Sums.{listing-first, length-listing}
 use native.Mathlib.Nat.{mul-le-mul}
@@ -126,24 +128,21 @@ last-strip parts counts work base C R L start acc a ca i p f =
       cbLow = omega arith;
     }
 
--- ---- a row filled from the front by a function of the place
+-- ---- the row that takes nothing and costs nothing
 
-pub record Filled (f : ℕ → ℕ) (old acc : List ℕ) (i : ℕ) : Type 0 where
-  pub long : length acc ≡ length old
-  pub within : i ≤ length old
-  pub done : (k : ℕ) → k < i → getD acc k 0 ≡ f k
+tops : (k r n : ℕ) → r ≤ n → take r (replicate {A = ℕ} n topWord) ≡ listing (just topWord 0 0) (suc k) r
+unfolding listing just
+tops k zero n h = refl
+tops k (suc r) zero h = absurd (omega arith)
+tops k (suc r) (suc n) h =
+    let e : topWord ≡ just topWord 0 0 (suc k) = rw (ne-eqb (suc k) 0 (λ (z : suc k ≡ 0). omega arith)) in
+    ap₂ (λ (x : ℕ) (l : List ℕ). x ∷ l) e (tops (suc k) r n (omega arith))
 
-pub filled-none : (f : ℕ → ℕ) (old : List ℕ) → Filled f old old 0
-filled-none f old = record { long = refl; within = omega arith; done = λ k h. absurd (omega arith) }
+pub start-is : (r n : ℕ) → r ≤ n → take r (set (replicate {A = ℕ} n topWord) 0 0) ≡ listing (just topWord 0 0) 0 r
+unfolding listing just
+start-is zero n h = refl
+start-is (suc r) zero h = absurd (omega arith)
+start-is (suc r) (suc n) h = ap (λ (l : List ℕ). 0 ∷ l) (tops 0 r n (omega arith))
 
-pub filled-more : (f : ℕ → ℕ) (old acc : List ℕ) (i x : ℕ) → Filled f old acc i → i < length acc → x ≡ f i → Filled f old (set acc i x) (i + 1)
-filled-more f old acc i x j l e =
-    record {
-      long = length-set acc i x ∙ j .long;
-      within = omega (arith, j .long);
-      done = λ k h. by-equal k i (λ q. rw q (getD-set-same acc i x 0 l ∙ e)) (λ q. getD-set-other acc i k x 0 q ∙ j .done k (omega arith));
-    }
-
-pub filled-all : (f : ℕ → ℕ) (old acc : List ℕ) (i : ℕ) → Filled f old acc i → length acc ≤ i → acc ≡ listing f 0 (length old)
-filled-all f old acc i j l =
-    ext-getD 0 acc _ (j .long ∙ sym (length-listing f 0 (length old))) (λ k h. j .done k (omega arith) ∙ sym (listing-first f (length old) k (omega (arith, j .long))))
+pub start-long : (r n : ℕ) → r ≤ n → length (take r (set (replicate {A = ℕ} n topWord) 0 0)) ≡ r
+start-long r n h = ap length (start-is r n h) ∙ length-listing (just topWord 0 0) 0 r

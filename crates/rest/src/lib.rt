@@ -3,10 +3,7 @@ ghost use mathlib.Core.Path.{_≡_};
 ghost use mathlib.Core.Bool.{cond};
 ghost use Prim.Native.Nat.{_+_, _*_, _<_, _≤_};
 ghost use lib.Dec.{eqb};
-ghost use lib.ListN.{length};
-ghost use Rattle.search.specs.Share.{just};
-ghost use Rattle.optimum.specs.OneSided.{topWord};
-ghost use Rattle.search.specs.Sums.{listing};
+ghost use lib.ListN.{length, getD};
 ghost use Rattle.budgets.specs.Budgets.{Within};
 ghost use Rattle.rest.specs.Rest.{rowOf, levelSize, StripIn, LevelIn, joinRow, foldRows, restRows};
 use arrays::Measures;
@@ -74,7 +71,7 @@ fn fold_at(
     join_row(parts, counts, acc, work, row);
 }
 
-// All strips of the open labels take their shares, by rising slot.
+// All strips of the open labels take their shares, by rising slot; what the budget v then costs.
 fn fold_rows(
     parts: &[u8],
     counts: &[u8],
@@ -82,11 +79,12 @@ fn fold_rows(
     base: usize,
     q: Measures,
     labels: &[u32],
+    v: u32,
     acc: &mut [u32],
-)
+) -> u32
     requires { ⌜ LevelIn (now parts) (now counts) (now work) base (q .colours) (q .budgets) (now labels) ⌝ }
-    requires { ⌜ length (now acc) ≡ q .budgets ⌝ }
-    ensures { λ _. ⌜ now (acc .exit) ≡ foldRows (now (parts .entry)) (now (counts .entry)) (now (work .entry)) base (length (now (labels .entry))) (q .colours) (q .budgets) (length (now (labels .entry))) 0 0 0 (now (labels .entry)) (now (acc .entry)) ⌝ }
+    requires { ⌜ (length (now acc) ≡ q .budgets) × (v < q .budgets) ⌝ }
+    ensures { λ r. ⌜ r ≡ getD (foldRows (now (parts .entry)) (now (counts .entry)) (now (work .entry)) base (length (now (labels .entry))) (q .colours) (q .budgets) (length (now (labels .entry))) 0 0 0 (now (labels .entry)) (now (acc .entry))) v 0 ⌝ }
 {
     let m = labels.len();
     let mut a: u32 = 0;
@@ -104,36 +102,6 @@ fn fold_rows(
     let end = m as u32 + 1;
     let row = base + row_of(q, m, a, ca, end, 0);
     join_row(parts, counts, acc, work, row);
-}
-
-// A row that takes nothing and costs nothing.
-fn start_row(acc: &mut [u32])
-    ensures { λ _. ⌜ now (acc .exit) ≡ listing (just topWord 0 0) 0 (length (now (acc .entry))) ⌝ }
-{
-    let mut i: usize = 0;
-    while i < acc.len() {
-        acc[i] = words::choose(i == 0, 0, words::NONE);
-        i += 1;
-    }
-}
-
-// REST by way of a row for all budgets, whatever it held.
-fn rest_in(
-    parts: &[u8],
-    counts: &[u8],
-    work: &[u32],
-    base: usize,
-    q: Measures,
-    labels: &[u32],
-    v: u32,
-    acc: &mut [u32],
-) -> u32
-    requires { ⌜ LevelIn (now parts) (now counts) (now work) base (q .colours) (q .budgets) (now labels) ⌝ }
-    requires { ⌜ (length (now acc) ≡ q .budgets) × (v < q .budgets) ⌝ }
-    ensures { λ r. ⌜ r ≡ restRows (now (parts .entry)) (now (counts .entry)) (now (work .entry)) base (length (now (labels .entry))) (q .colours) (q .budgets) (now (labels .entry)) v ⌝ }
-{
-    start_row(acc);
-    fold_rows(parts, counts, work, base, q, labels, acc);
     let at = v as usize;
     acc[at]
 }
@@ -153,6 +121,7 @@ pub fn rest_of(
     ensures { λ r. ⌜ r ≡ restRows (now (parts .entry)) (now (counts .entry)) (now (work .entry)) base (length (now (labels .entry))) (q .colours) (q .budgets) (now (labels .entry)) v ⌝ }
 {
     let r = q.budgets as usize;
-    let mut acc = [0u32; 64];
-    rest_in(parts, counts, work, base, q, labels, v, &mut acc[..r])
+    let mut acc = [words::NONE; 64];
+    acc[0] = 0;
+    fold_rows(parts, counts, work, base, q, labels, v, &mut acc[..r])
 }

@@ -1,6 +1,6 @@
 -- The decisions' equations, and that radices and draws have no part in them. Assumes nothing.
 use mathlib.Core.Path.{_≡_, refl, sym, ap, ap₂, _∙_}
-use mathlib.Core.Bool.{Bool, true, false, not, _&&_, _||_}
+use mathlib.Core.Bool.{Bool, true, false, cond, not, _&&_, _||_}
 use mathlib.Core.List.{List}
 use Prim.Native.Nat.{ℕ, suc, _+_}
 use native.Mathlib.Omega.{arith}
@@ -69,15 +69,9 @@ module _ (q : Measures) (hs bs : List ℕ) (p : Strip) (s : Point) (k : ℕ) whe
   unfolding cost
   cost-opens e = rw e
 
-  pub cost-joins : opens (instanceOn q hs bs) p s k ≡ false → joinsUp (instanceOn q hs bs) p s k || joinsDown (instanceOn q hs bs) p s k ≡ true
-      → cost (instanceOn q hs bs) p s k ≡ joinCost q hs s k
+  pub cost-joins : opens (instanceOn q hs bs) p s k ≡ false → cost (instanceOn q hs bs) p s k ≡ cond (joinsUp (instanceOn q hs bs) p s k || joinsDown (instanceOn q hs bs) p s k) (joinCost q hs s k) topWord
   unfolding cost
-  cost-joins e f = rw (e, f)
-
-  pub cost-none : opens (instanceOn q hs bs) p s k ≡ false → joinsUp (instanceOn q hs bs) p s k || joinsDown (instanceOn q hs bs) p s k ≡ false
-      → cost (instanceOn q hs bs) p s k ≡ topWord
-  unfolding cost
-  cost-none e f = rw (e, f)
+  cost-joins e = rw e
 
 pub and-true : (b : Bool) → b && true ≡ b
 and-true true = refl

@@ -1,12 +1,10 @@
 // The decisions on one strip: does the site lie in it, which slots may open a label, which may be joined, and what a step costs.
 // Each is the model's definition for the instance of these arrays.
 ghost use mathlib.Core.Path.{_≡_};
-ghost use mathlib.Core.Bool.{_&&_, _||_};
 ghost use Prim.Native.Nat.{ℕ, _+_, _-_, _<_};
-ghost use lib.Dec.{ltb};
 ghost use lib.ListN.{length, getD};
 ghost use Rattle.optimum.specs.Strips as model;
-ghost use Rattle.strips.specs.Strips.{Framed, Stands, joinLeast, instanceOn, Measured, Small, gapLeft, FirstFar, FarEnd, WindowOf, siteOpens, openCost, joinCost};
+ghost use Rattle.strips.specs.Strips.{Framed, Stands, joinLeast, instanceOn, Measured, Small, FirstFar, FarEnd, WindowOf, siteOpens, openCost, joinCost};
 ghost use Rattle.rows.specs.Rows.{stripOf, pointOf, Lies};
 ghost use Rattle.arrays.specs.Arrays.{instanceBy};
 ghost use Rattle.strips.specs.Steps.{priceIn, budgetLeft, SheetArrays, SiteIn};
@@ -48,18 +46,6 @@ pub fn is_inside(q: Measures, heights: &[u32], bounds: &[u32], p: Strip, s: Site
     both(
         is_over(q, heights, p.a, s.y),
         is_under(q, heights, p.b, s.y),
-    )
-}
-
-// Both ends of the strip let a label of the site's colour be at slot k.
-pub fn leaves_gap(q: Measures, heights: &[u32], bounds: &[u32], p: Strip, s: Site, k: u32) -> bool
-    requires { ⌜ s .c < 8 ⌝ }
-    ensures { λ r. ⌜ r ≡ gapLeft (instanceOn q (now (heights .entry)) (now (bounds .entry))) (stripOf p) (pointOf s) k ⌝ }
-{
-    let c = s.c + 1;
-    both(
-        is_far(q, heights, p.a, p.ca, k, c),
-        is_far(q, heights, p.b, p.cb, k, c),
     )
 }
 
@@ -120,29 +106,23 @@ pub fn site_opens(q: Measures, heights: &[u32], bounds: &[u32], p: Strip, s: Sit
     both(clear, is_not(same(bounds[c], 0)))
 }
 
-// Slot k stands between the strip's ends.
-fn is_between(heights: &[u32], p: Strip, k: u32) -> bool
-    requires { ⌜ k < 64 ⌝ }
-    ensures { λ r. ⌜ r ≡ ltb (p .a) (k + 1) && ltb (k + 1) (p .b) && ltb k (length (now (heights .entry))) ⌝ }
-{
-    let low = (k as usize) < heights.len();
-    both(both(less(p.a, k + 1), less(k + 1, p.b)), low)
-}
-
 // The site, which lies in the strip, may open a label at slot k.
-pub fn opens(q: Measures, heights: &[u32], bounds: &[u32], p: Strip, s: Site, k: u32) -> bool
+fn opens(q: Measures, heights: &[u32], bounds: &[u32], p: Strip, s: Site, k: u32) -> bool
     requires { ⌜ Small (now bounds) (s .c) k ⌝ }
     ensures { λ r. ⌜ r ≡ model.opens (instanceOn q (now (heights .entry)) (now (bounds .entry))) (stripOf p) (pointOf s) k ⌝ }
 {
-    let gap = leaves_gap(q, heights, bounds, p, s, k);
-    both(
-        is_between(heights, p, k),
-        both(gap, site_opens(q, heights, bounds, p, s)),
-    )
+    let c = s.c + 1;
+    let low = (k as usize) < heights.len();
+    let between = both(both(less(p.a, k + 1), less(k + 1, p.b)), low);
+    let gap = both(
+        is_far(q, heights, p.a, p.ca, k, c),
+        is_far(q, heights, p.b, p.cb, k, c),
+    );
+    both(between, both(gap, site_opens(q, heights, bounds, p, s)))
 }
 
 // It may join the label above, at slot k; the label below.
-pub fn joins_up(q: Measures, heights: &[u32], bounds: &[u32], p: Strip, s: Site, k: u32) -> bool
+fn joins_up(q: Measures, heights: &[u32], bounds: &[u32], p: Strip, s: Site, k: u32) -> bool
     requires { ⌜ Small (now bounds) (s .c) k ⌝ }
     ensures { λ r. ⌜ r ≡ model.joinsUp (instanceOn q (now (heights .entry)) (now (bounds .entry))) (stripOf p) (pointOf s) k ⌝ }
 {
@@ -150,23 +130,13 @@ pub fn joins_up(q: Measures, heights: &[u32], bounds: &[u32], p: Strip, s: Site,
     both(own, is_clear(q, heights, p.b, s.y))
 }
 
-pub fn joins_down(q: Measures, heights: &[u32], bounds: &[u32], p: Strip, s: Site, k: u32) -> bool
+fn joins_down(q: Measures, heights: &[u32], bounds: &[u32], p: Strip, s: Site, k: u32) -> bool
     requires { ⌜ Small (now bounds) (s .c) k ⌝ }
     ensures { λ r. ⌜ r ≡ model.joinsDown (instanceOn q (now (heights .entry)) (now (bounds .entry))) (stripOf p) (pointOf s) k ⌝ }
 {
     let low = (k as usize) < heights.len();
     let own = both(both(same(p.b, k + 1), low), same(p.cb, s.c + 1));
     both(own, is_clear(q, heights, p.a, s.y))
-}
-
-pub fn joins(q: Measures, heights: &[u32], bounds: &[u32], p: Strip, s: Site, k: u32) -> bool
-    requires { ⌜ Small (now bounds) (s .c) k ⌝ }
-    ensures { λ r. ⌜ r ≡ model.joinsUp (instanceOn q (now (heights .entry)) (now (bounds .entry))) (stripOf p) (pointOf s) k || model.joinsDown (instanceOn q (now (heights .entry)) (now (bounds .entry))) (stripOf p) (pointOf s) k ⌝ }
-{
-    either(
-        joins_up(q, heights, bounds, p, s, k),
-        joins_down(q, heights, bounds, p, s, k),
-    )
 }
 
 // What it costs to open a label at slot k; to join one there.
@@ -177,26 +147,11 @@ pub fn open_cost(q: Measures, heights: &[u32], s: Site, k: u32) -> u32
     word_of(q, 1, monus(q.width, s.x) + apart_of(get(heights, k), s.y))
 }
 
-pub fn join_cost(q: Measures, heights: &[u32], s: Site, k: u32) -> u32
+fn join_cost(q: Measures, heights: &[u32], s: Site, k: u32) -> u32
     requires { ⌜ Measured q (now heights) (s .y) ⌝ }
     ensures { λ r. ⌜ r ≡ joinCost q (now (heights .entry)) (pointOf s) k ⌝ }
 {
     word_of(q, 0, apart_of(get(heights, k), s.y))
-}
-
-// What it costs to tie the site to slot k, NONE if that is not lawful.
-pub fn step_cost(q: Measures, heights: &[u32], bounds: &[u32], p: Strip, s: Site, k: u32) -> u32
-    requires { ⌜ Measured q (now heights) (s .y) ⌝ }
-    requires { ⌜ Small (now bounds) (s .c) k ⌝ }
-    ensures { λ r. ⌜ r ≡ model.cost (instanceOn q (now (heights .entry)) (now (bounds .entry))) (stripOf p) (pointOf s) k ⌝ }
-{
-    if opens(q, heights, bounds, p, s, k) {
-        return open_cost(q, heights, s, k);
-    }
-    if joins(q, heights, bounds, p, s, k) {
-        return join_cost(q, heights, s, k);
-    }
-    NONE
 }
 
 // The least that joining a label costs.
@@ -212,28 +167,6 @@ pub fn join_least(q: Measures, heights: &[u32], bounds: &[u32], p: Strip, s: Sit
     let below = joins_down(q, heights, bounds, p, s, down);
     let rise = choose(above, join_cost(q, heights, s, up), NONE);
     lesser(rise, choose(below, join_cost(q, heights, s, down), NONE))
-}
-
-// What it takes from the budget to tie the site to slot k.
-fn draw_of(
-    q: Measures,
-    heights: &[u32],
-    bounds: &[u32],
-    radices: &[u32],
-    draws: &[u32],
-    p: Strip,
-    s: Site,
-    k: u32,
-) -> u32
-    requires { ⌜ Small (now bounds) (s .c) k ⌝ }
-    requires { ⌜ s .c < length (now draws) ⌝ }
-    ensures { λ r. ⌜ r ≡ model.draw (instanceBy q (now (heights .entry)) (now (bounds .entry)) (now (radices .entry)) (now (draws .entry))) (stripOf p) (pointOf s) k ⌝ }
-{
-    if opens(q, heights, bounds, p, s, k) {
-        let c = s.c as usize;
-        return draws[c];
-    }
-    0
 }
 
 // The step that ties the site to slot k with the budget v.
@@ -253,11 +186,20 @@ pub fn step_of(
     ensures { λ r. ⌜ r .left ≡ budgetLeft (instanceBy q (now (heights .entry)) (now (bounds .entry)) (now (radices .entry)) (now (draws .entry))) (stripOf p) (pointOf s) v k ⌝ }
     ensures { λ r. ⌜ r .price ≡ priceIn (instanceBy q (now (heights .entry)) (now (bounds .entry)) (now (radices .entry)) (now (draws .entry))) (stripOf p) (pointOf s) v k ⌝ }
 {
-    let d = draw_of(q, heights, bounds, radices, draws, p, s, k);
-    let left = monus(v, d);
-    if masks::is_below(radices, d, v) {
-        let price = step_cost(q, heights, bounds, p, s, k);
-        return Step { left, price };
+    if opens(q, heights, bounds, p, s, k) {
+        let draw = get(draws, s.c);
+        let cost = open_cost(q, heights, s, k);
+        return Step {
+            left: monus(v, draw),
+            price: choose(masks::is_below(radices, draw, v), cost, NONE),
+        };
     }
-    Step { left, price: NONE }
+    let joins = either(
+        joins_up(q, heights, bounds, p, s, k),
+        joins_down(q, heights, bounds, p, s, k),
+    );
+    Step {
+        left: v,
+        price: choose(joins, join_cost(q, heights, s, k), NONE),
+    }
 }

@@ -1,9 +1,10 @@
 use Rattle.rest.proofs.Rows.{last-strip}
 use Rattle.rest.proofs.Rows.{row-inside, Folding, folding-none, folding-more, folding-all}
-use mathlib.Core.Path.{sym, _∙_}
-use Prim.Native.Nat.{_-_}
+use mathlib.Core.Path.{ap, sym, _∙_}
+use mathlib.Core.List.{List}
+use Prim.Native.Nat.{ℕ, _-_}
 use native.Mathlib.Omega.{arith}
-use lib.ListN.{length}
+use lib.ListN.{length, getD}
 use borrow.Author.Needs.{needs}
 use Rattle.rest.proofs.fold_rows.Statement.{statement}
 use Rattle.rest.proofs.fold_rows.Tie as tie
@@ -15,14 +16,14 @@ use Rattle.rest.proofs.row_of.Reads as row-of-reads
 use Rattle.words.proofs.choose.Reads as choose-reads
 
 abbrev Inv-loop : tie.InvT-loop
-Inv-loop parts counts work base q labels acc₀ m a₀ ca₀ i₀ acc a ca i = Folding parts counts work base (q .colours) (q .budgets) labels acc₀ acc a ca i
+Inv-loop parts counts work base q labels v acc₀ m a₀ ca₀ i₀ acc a ca i = Folding parts counts work base (q .colours) (q .budgets) labels acc₀ acc a ca i
 
 abbrev μ-loop : tie.MeasureT-loop
-μ-loop parts counts work base q labels acc₀ m a₀ ca₀ i₀ acc a ca i = length labels - i
+μ-loop parts counts work base q labels v acc₀ m a₀ ca₀ i₀ acc a ca i = length labels - i
 
 loop-holds : tie.Need-loop-holds Inv-loop μ-loop
 loop-holds c =
-    folding-none _ _ _ _ _ _ _ _ (c .before .before .before .before .before .pre .1)
+    folding-none _ _ _ _ _ _ _ _ (c .before .before .before .before .before .pre .1 .0)
 
 mul-e : tie.Need-mul-e Inv-loop μ-loop
 mul-e c = search needs
@@ -96,12 +97,19 @@ join-row-requires c κs =
 
 same-length : tie.Need-same-length Inv-loop μ-loop
 same-length c =
-    let f = c .before .before .before .before .before .before .loop .inv in
-    c .before .before .join-row .kept .1 .1 .0 ∙ f .long ∙ sym (c .before .before .before .before .before .before .before .before .before .before .before .before .pre .1)
+    let f = c .before .before .before .before .before .before .before .loop .inv in
+    c .before .before .before .join-row .kept .1 .1 .0 ∙ f .long ∙ sym (c .before .before .before .before .before .before .before .before .before .before .before .before .before .pre .1 .0)
 
 returns : tie.Need-returns Inv-loop μ-loop
 returns c =
-    c .before .before .join-row .ensures ∙ rw (c .before .before .before .before .row-of .ensures) (folding-all _ _ _ _ _ _ _ _ _ _ _ _ (c .before .before .before .before .before .before .loop .inv) (c .before .before .before .before .before .loop-test .left))
+    let e = rw (c .before .before .before .before .before .row-of .ensures) at (c .before .before .before .join-row .ensures) in
+    ap (λ (l : List ℕ). getD l (c .before .before .before .before .before .before .before .before .before .before .before .before .before .args .v) 0) (e ∙ (folding-all _ _ _ _ _ _ _ _ _ _ _ _ (c .before .before .before .before .before .before .before .loop .inv) (c .before .before .before .before .before .before .loop-test .left)))
+
+mul-result : tie.Need-mul-result Inv-loop μ-loop
+mul-result c = search needs
+
+slice-read-result : tie.Need-slice-read-result Inv-loop μ-loop
+slice-read-result c = search needs
 
 pub fold-rows-spec : {M : Type 1} → statement M
 fold-rows-spec =
@@ -125,5 +133,7 @@ fold-rows-spec =
     row-of-requires
     add-row
     join-row-requires
+    mul-result
+    slice-read-result
     same-length
     returns)

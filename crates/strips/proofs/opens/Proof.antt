@@ -1,24 +1,37 @@
+use Rattle.strips.specs.Strips.{gapLeft}
 use Rattle.strips.proofs.Decisions.{opens-split}
 use mathlib.Core.Path.{refl}
 use Prim.Native.Nat.{_-_}
+use native.Mathlib.Numerals.{add-one}
 use borrow.Author.Needs.{needs}
 use Rattle.strips.proofs.opens.Statement.{statement}
 use Rattle.strips.proofs.opens.Tie as tie
 use Rattle.strips.proofs.opens.Reads as reads
 use Rattle.strips.proofs.opens.Lts as lts
-use Rattle.strips.proofs.is_between.Reads as is-between-reads
-use Rattle.strips.proofs.leaves_gap.Reads as leaves-gap-reads
-use Rattle.strips.proofs.site_opens.Reads as site-opens-reads
 use Rattle.words.proofs.both.Reads as both-reads
+use Rattle.words.proofs.less.Reads as less-reads
+use Rattle.places.proofs.is_far.Reads as is-far-reads
+use Rattle.strips.proofs.site_opens.Reads as site-opens-reads
 
-leaves-gap-requires : tie.Need-leaves-gap-requires
-leaves-gap-requires c κs = search needs
+returns : tie.Need-returns
+unfolding gapLeft
+returns c =
+    rw (opens-split, ← (add-one (c .before .before .before .before .before .before .before .before .before .before .before .before .before .args .s .c)), c .both5 .ensures, c .before .both4 .ensures, c .before .before .site-opens .ensures, c .before .before .before .both3 .ensures, c .before .before .before .before .is-far2 .ensures, c .before .before .before .before .before .is-far .ensures, c .before .before .before .before .before .before .both2 .ensures, c .before .before .before .before .before .before .before .both .ensures, c .before .before .before .before .before .before .before .before .less2 .ensures, c .before .before .before .before .before .before .before .before .before .less .ensures) refl
 
-is-between-requires : tie.Need-is-between-requires
-is-between-requires c κs = search needs
+add-c : tie.Need-add-c
+add-c c = search needs
 
-site-opens-requires : tie.Need-site-opens-requires
-site-opens-requires c κs = search needs
+add-less : tie.Need-add-less
+add-less c = search needs
+
+less-requires : tie.Need-less-requires
+less-requires c κs = search needs
+
+add-less-2 : tie.Need-add-less-2
+add-less-2 c = search needs
+
+less-requires-2 : tie.Need-less-requires-2
+less-requires-2 c κs = search needs
 
 both-requires : tie.Need-both-requires
 both-requires c κs = search needs
@@ -26,17 +39,39 @@ both-requires c κs = search needs
 both-requires-2 : tie.Need-both-requires-2
 both-requires-2 c κs = search needs
 
-returns : tie.Need-returns
-returns c =
-    rw (opens-split, c .both2 .ensures, c .before .both .ensures, c .before .before .site-opens .ensures, c .before .before .before .is-between .ensures, c .before .before .before .before .leaves-gap .ensures) refl
+is-far-requires : tie.Need-is-far-requires
+is-far-requires c κs = search needs
+
+is-far-requires-2 : tie.Need-is-far-requires-2
+is-far-requires-2 c κs = search needs
+
+both-requires-3 : tie.Need-both-requires-3
+both-requires-3 c κs = search needs
+
+site-opens-requires : tie.Need-site-opens-requires
+site-opens-requires c κs = search needs
+
+both-requires-4 : tie.Need-both-requires-4
+both-requires-4 c κs = search needs
+
+both-requires-5 : tie.Need-both-requires-5
+both-requires-5 c κs = search needs
 
 pub opens-spec : {M : Type 1} → statement M
 opens-spec =
     tie.close
     (tie.spec
-    leaves-gap-requires
-    is-between-requires
-    site-opens-requires
+    add-c
+    add-less
+    less-requires
+    add-less-2
+    less-requires-2
     both-requires
     both-requires-2
+    is-far-requires
+    is-far-requires-2
+    both-requires-3
+    site-opens-requires
+    both-requires-4
+    both-requires-5
     returns)

@@ -1,58 +1,79 @@
 use Rattle.rows.specs.Rows.{stripOf, pointOf}
-use Rattle.strips.proofs.Steps.{price-had, price-not, small, measured}
-use mathlib.Core.Path.{ap, sym, _∙_}
-use Prim.Native.Nat.{ℕ, _-_}
-use native.Mathlib.Omega.{arith}
+use Rattle.strips.proofs.Steps.{step-opens, step-joins, small, measured}
+use mathlib.Core.Path.{sym, ap₂, _∙_}
+use mathlib.Core.Bool.{_||_}
+use Prim.Native.Nat.{_-_}
 use borrow.Author.Needs.{needs}
 use Rattle.strips.proofs.step_of.Statement.{statement}
 use Rattle.strips.proofs.step_of.Tie as tie
 use Rattle.strips.proofs.step_of.Reads as reads
 use Rattle.strips.proofs.step_of.Lts as lts
-use Rattle.masks.proofs.is_below.Reads as is-below-reads
-use Rattle.strips.proofs.draw_of.Reads as draw-of-reads
-use Rattle.strips.proofs.step_cost.Reads as step-cost-reads
-use Rattle.words.proofs.monus.Reads as monus-reads
 
-draw-of-requires : tie.Need-draw-of-requires
-draw-of-requires c κs =
-    let p = c .before .before .before .before .pre in
-    (small _ _ _ _ _ _ _ (p .0) (p .1 .0) (p .1 .1), omega (arith, p .0 .drawn, p .1 .0 .colourLow))
+opens-requires : tie.Need-opens-requires
+opens-requires c κs =
+    let p = c .before .before .before .before .pre in small _ _ _ _ _ _ _ (p .0) (p .1 .0) (p .1 .1)
+
+open-cost-requires : tie.Need-open-cost-requires
+open-cost-requires c κs =
+    let p = c .before .before .before .before .before .before .before .pre in measured _ _ _ _ _ _ (p .0) (p .1 .0)
+
+is-below-requires : tie.Need-is-below-requires
+is-below-requires c κs =
+    c .before .before .before .before .before .before .before .before .before .pre .0 .divides
+
+returns : tie.Need-returns
+returns c =
+    let a = c .before .before .before .before .before .before .before .before .before .before .before .args in
+    let r = step-opens (a .q) (a .heights .now) (a .bounds .now) (a .radices .now) (a .draws .now) (stripOf (a .p)) (pointOf (a .s)) (a .k) (a .v) (c .before .before .before .before .get .result) (c .before .before .before .open-cost .result) (c .before .is-below .result) (sym (c .before .before .before .before .before .before .opens .ensures) ∙ c .before .before .before .before .before .if1 .taken) (c .before .before .before .before .get .ensures) (c .before .is-below .ensures) (c .before .before .before .open-cost .ensures) in
+    (c .before .before .monus .ensures ∙ r .0, c .choose .ensures ∙ r .1)
+
+joins-up-requires : tie.Need-joins-up-requires
+joins-up-requires c κs =
+    let p = c .before .before .before .before .before .before .pre in small _ _ _ _ _ _ _ (p .0) (p .1 .0) (p .1 .1)
+
+joins-down-requires : tie.Need-joins-down-requires
+joins-down-requires c κs =
+    let p = c .before .before .before .before .before .before .before .pre in small _ _ _ _ _ _ _ (p .0) (p .1 .0) (p .1 .1)
+
+join-cost-requires : tie.Need-join-cost-requires
+join-cost-requires c κs =
+    let p = c .before .before .before .before .before .before .before .before .before .pre in measured _ _ _ _ _ _ (p .0) (p .1 .0)
+
+returns-2 : tie.Need-returns-2
+returns-2 c =
+    let a = c .before .before .before .before .before .before .before .before .before .before .before .args in
+    let r = step-joins (a .q) (a .heights .now) (a .bounds .now) (a .radices .now) (a .draws .now) (stripOf (a .p)) (pointOf (a .s)) (a .k) (a .v) (c .before .join-cost .result) (c .before .before .either .result) (sym (c .before .before .before .before .before .before .opens .ensures) ∙ c .before .before .before .before .before .if1 .left) (c .before .before .either .ensures ∙ ap₂ _||_ (c .before .before .before .before .joins-up .ensures) (c .before .before .before .joins-down .ensures)) (c .before .join-cost .ensures) in
+    (r .0, c .choose2 .ensures ∙ r .1)
+
+get-requires : tie.Need-get-requires
+get-requires c κs = search needs
 
 monus-requires : tie.Need-monus-requires
 monus-requires c κs = search needs
 
-is-below-requires : tie.Need-is-below-requires
-is-below-requires c κs =
-    c .before .before .before .before .before .before .pre .0 .divides
+choose-requires : tie.Need-choose-requires
+choose-requires c κs = search needs
 
-step-cost-requires : tie.Need-step-cost-requires
-step-cost-requires c κs =
-    let p = c .before .before .before .before .before .before .before .before .pre in
-    (measured _ _ _ _ _ _ (p .0) (p .1 .0), small _ _ _ _ _ _ _ (p .0) (p .1 .0) (p .1 .1))
+either-requires : tie.Need-either-requires
+either-requires c κs = search needs
 
-returns : tie.Need-returns
-returns c =
-    let a = c .before .before .before .before .before .before .before .before .before .args in (
-      c .before .before .before .monus .ensures ∙ ap (λ (z : ℕ). a .v - z) (c .before .before .before .before .draw-of .ensures),
-      c .step-cost .ensures ∙ sym (price-had (a .q) (a .heights .now) (a .bounds .now) (a .radices .now) (a .draws .now) (stripOf (a .p)) (pointOf (a .s)) (a .k) (a .v)
-          (rw (c .before .before .before .before .draw-of .ensures) at (sym (c .before .before .is-below .ensures) ∙ c .before .if1 .taken))),
-    )
-
-returns-2 : tie.Need-returns-2
-returns-2 c =
-    let a = c .before .before .before .before .before .before .before .before .args in (
-      c .before .before .monus .ensures ∙ ap (λ (z : ℕ). a .v - z) (c .before .before .before .draw-of .ensures),
-      sym (price-not (a .q) (a .heights .now) (a .bounds .now) (a .radices .now) (a .draws .now) (stripOf (a .p)) (pointOf (a .s)) (a .k) (a .v)
-          (rw (c .before .before .before .draw-of .ensures) at (sym (c .before .is-below .ensures) ∙ c .if1 .left))),
-    )
+choose-requires-2 : tie.Need-choose-requires-2
+choose-requires-2 c κs = search needs
 
 pub step-of-spec : {M : Type 1} → statement M
 step-of-spec =
     tie.close
     (tie.spec
-    draw-of-requires
+    opens-requires
+    get-requires
+    open-cost-requires
     monus-requires
     is-below-requires
-    step-cost-requires
+    choose-requires
     returns
+    joins-up-requires
+    joins-down-requires
+    either-requires
+    join-cost-requires
+    choose-requires-2
     returns-2)
