@@ -127,11 +127,13 @@ module _ (q : Measures) (hs bs parts counts left : List ℕ) where
       (tried-closed old old base low p s 0 (p .b - 1 - p .a) (tried-none old base low p s h) (λ i a b. window-shut q hs bs p s w f (p .a + i) (omega arith) (omega arith) (by-order (w .from) (p .a + i) (λ x. inr (omega arith)) (λ x. inl x))))
 
   -- the row of a strip that the site lies outside; that of one in which it may only join; that of one in which it may open a label
-  pub row-copied : (old new : List ℕ) (base low same : ℕ) (p : Strip) (s : Point) → inside (instanceOn q hs bs) p s ≡ false
-      → same ≡ low + rowOf (length hs) (q .colours) p * q .budgets → ((v : ℕ) → v < q .budgets → getD new (base + v) 0 ≡ getD old (same + v) 0)
+  pub row-copied : (old new : List ℕ) (base low same : ℕ) (p : Strip) (s : Point) → ((i : ℕ) → getD old i 0 ≤ topWord) → inside (instanceOn q hs bs) p s ≡ false
+      → same ≡ low + rowOf (length hs) (q .colours) p * q .budgets → ((v : ℕ) → v < q .budgets → getD new (base + v) 0 ≡ plus topWord 0 (getD old (same + v) 0))
       → (v : ℕ) → v < q .budgets → getD new (base + v) 0 ≡ entryBy q hs bs parts counts left (rowIn old low (length hs) (q .colours) (q .budgets)) p s v
-  unfolding entryBy
-  row-copied old new base low same p s e f g v h = rw e (g v h ∙ ap (λ (z : ℕ). getD old (z + v) 0) f)
+  unfolding entryBy plus
+  row-copied old new base low same p s words e f g v h =
+      let z : min (0 + getD old (same + v) 0) topWord ≡ getD old (same + v) 0 = omega (arith, words (same + v)) in
+      rw e (g v h ∙ z ∙ ap (λ (z : ℕ). getD old (z + v) 0) f)
 
   pub row-joined : (old new : List ℕ) (base low same c : ℕ) (p : Strip) (s : Point) → inside (instanceOn q hs bs) p s ≡ true → siteOpens (instanceOn q hs bs) p s ≡ false
       → c ≡ joinLeast q hs bs p s → same ≡ low + rowOf (length hs) (q .colours) p * q .budgets

@@ -20,20 +20,6 @@ use words::either;
 use words::lesser;
 use words::same;
 
-// A row's n words are those of the row at `from`.
-fn copy_row(work: &mut [u32], base: usize, from: usize, n: usize)
-    requires { ⌜ (base + n ≤ from) × (from + n ≤ length (now work)) ⌝ }
-    ensures { λ _. ⌜ Others (now (work .entry)) (now (work .exit)) base n ⌝ }
-    ensures { λ _. ⌜ ((v : ℕ) → v < n → getD (now (work .exit)) (base + v) 0 ≡ getD (now (work .entry)) (from + v) 0) ⌝ }
-{
-    let mut v: usize = 0;
-    while v < n {
-        let t = work[from + v];
-        work[base + v] = t;
-        v += 1;
-    }
-}
-
 // A row's n words are those of the row at `from`, at a further cost.
 fn start_row(work: &mut [u32], base: usize, from: usize, n: usize, cost: u32)
     requires { ⌜ (base + n ≤ from) × (from + n ≤ length (now work)) ⌝ }
@@ -268,7 +254,7 @@ pub fn fill_row(
     let n = q.budgets as usize;
     let same = low + rows::row_place(q, heights.len(), p);
     if !strips::is_inside(q, heights, bounds, p, s) {
-        copy_row(work, base, same, n);
+        start_row(work, base, same, n, 0);
         return;
     }
     start_row(

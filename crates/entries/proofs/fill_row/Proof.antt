@@ -12,7 +12,6 @@ use Rattle.entries.proofs.fill_row.Reads as reads
 use Rattle.entries.proofs.fill_row.Lts as lts
 use Rattle.strips.proofs.is_inside.Reads as is-inside-reads
 use Rattle.strips.proofs.site_opens.Reads as site-opens-reads
-use Rattle.entries.proofs.copy_row.Reads as copy-row-reads
 use Rattle.strips.proofs.join_least.Reads as join-least-reads
 use Rattle.entries.proofs.open_slots.Reads as open-slots-reads
 use Rattle.rows.proofs.row_place.Reads as row-place-reads
@@ -46,31 +45,32 @@ add-same c =
 is-inside-requires : tie.Need-is-inside-requires
 is-inside-requires c κs = search needs
 
-copy-row-requires : tie.Need-copy-row-requires
-copy-row-requires c κs =
+start-row-requires : tie.Need-start-row-requires
+start-row-requires c κs =
     let p = c .before .before .before .before .before .before .before .before .before .before .before .before .before .pre in
     let e = c .before .before .before .row-place .ensures in
     let f = own-fits (p .0) (stripOf (c .before .before .before .before .before .before .before .before .before .before .before .before .before .args .p)) (p .1) in
     (omega (arith, p .0 .apart), omega arith)
 
 same-length : tie.Need-same-length
-same-length c = search needs
+same-length c =
+    c .before .before .start-row .kept .0
 
 returns-2 : tie.Need-returns-2
 returns-2 c =
     let a = c .before .before .before .before .before .before .before .before .before .before .before .before .before .before .before .before .args in
-    let o = c .before .before .copy-row in
+    let o = c .before .before .start-row in
     let g = sym (c .before .before .before .before .before .is-inside .ensures) ∙ not-f _ (c .before .before .before .before .if2 .taken) in
     let f = ap (λ (z : ℕ). a .low + z) (c .before .before .before .before .before .before .row-place .ensures) in
-    (o .ensures .0, λ m. row-copied (a .q) (a .heights .now) (a .bounds .now) (a .parts .now) (a .counts .now) (a .left .now) (a .work .now) (o .last .0) (a .base) (a .low) _ (stripOf (a .p)) (pointOf (a .s)) g f (o .ensures .1))
+    (o .ensures .0, λ m. row-copied (a .q) (a .heights .now) (a .bounds .now) (a .parts .now) (a .counts .now) (a .left .now) (a .work .now) (o .last .0) (a .base) (a .low) _ (stripOf (a .p)) (pointOf (a .s)) (λ i. omega (arith, c .before .before .before .before .before .before .before .before .before .before .before .before .before .before .before .slice-known .given i)) g f (o .ensures .1))
 
 join-least-requires : tie.Need-join-least-requires
 join-least-requires c κs =
     let p = c .before .before .before .before .before .before .before .before .before .before .before .before .before .pre in
     (p .0 .framed, (p .1, p .0 .stands))
 
-start-row-requires : tie.Need-start-row-requires
-start-row-requires c κs =
+start-row-requires-2 : tie.Need-start-row-requires-2
+start-row-requires-2 c κs =
     let p = c .before .before .before .before .before .before .before .before .before .before .before .before .before .before .pre in
     let e = c .before .before .before .before .row-place .ensures in
     let f = own-fits (p .0) (stripOf (c .before .before .before .before .before .before .before .before .before .before .before .before .before .before .args .p)) (p .1) in
@@ -78,22 +78,22 @@ start-row-requires c κs =
 
 site-opens-requires : tie.Need-site-opens-requires
 site-opens-requires c κs =
-    search needs
+    let p = c .before .before .before .before .before .before .before .before .before .before .before .before .before .before .before .before .before .pre .0 in omega (arith, p .stands .colourLow, p .framed .bounded)
 
 open-slots-requires : tie.Need-open-slots-requires
 open-slots-requires c κs =
     let p = c .before .before .before .before .before .before .before .before .before .before .before .before .before .before .before .before .before .before .before .before .pre in
-    (rw (c .before .before .before .before .before .start-row .kept .0) (p .0), p .1)
+    (rw (c .before .before .before .before .before .start-row2 .kept .0) (p .0), p .1)
 
 same-length-2 : tie.Need-same-length-2
 same-length-2 c =
-    c .before .before .open-slots .kept .0 ∙ c .before .before .before .before .before .before .before .before .start-row .kept .0
+    c .before .before .open-slots .kept .0 ∙ c .before .before .before .before .before .before .before .before .start-row2 .kept .0
 
 returns-3 : tie.Need-returns-3
 returns-3 c =
     let a = c .before .before .before .before .before .before .before .before .before .before .before .before .before .before .before .before .before .before .before .before .before .before .before .args in
     let p = c .before .before .before .before .before .before .before .before .before .before .before .before .before .before .before .before .before .before .before .before .before .before .before .pre in
-    let r = c .before .before .before .before .before .before .before .before .start-row in
+    let r = c .before .before .before .before .before .before .before .before .start-row2 in
     let o = c .before .before .open-slots in
     let g = sym (c .before .before .before .before .before .before .before .before .before .before .before .before .is-inside .ensures) ∙ not-e _ (c .before .before .before .before .before .before .before .before .before .before .before .if2 .left) in
     let h = sym (c .before .before .before .before .before .site-opens .ensures) ∙ c .before .before .before .before .if3 .taken in
@@ -104,12 +104,13 @@ returns-3 c =
     )
 
 same-length-3 : tie.Need-same-length-3
-same-length-3 c = search needs
+same-length-3 c =
+    c .before .before .before .before .start-row2 .kept .0
 
 returns-4 : tie.Need-returns-4
 returns-4 c =
     let a = c .before .before .before .before .before .before .before .before .before .before .before .before .before .before .before .before .before .before .before .args in
-    let r = c .before .before .before .before .start-row in
+    let r = c .before .before .before .before .start-row2 in
     let g = sym (c .before .before .before .before .before .before .before .before .is-inside .ensures) ∙ not-e _ (c .before .before .before .before .before .before .before .if2 .left) in
     let h = sym (c .before .site-opens .ensures) ∙ c .if3 .left in
     let f = ap (λ (z : ℕ). a .low + z) (c .before .before .before .before .before .before .before .before .before .row-place .ensures) in (
@@ -129,11 +130,11 @@ fill-row-spec =
     row-place-requires
     add-same
     is-inside-requires
-    copy-row-requires
+    start-row-requires
     same-length
     returns-2
     join-least-requires
-    start-row-requires
+    start-row-requires-2
     site-opens-requires
     open-slots-requires
     same-length-2

@@ -78,14 +78,16 @@ returns c =
     )
 
 open-cost-requires : tie.Need-open-cost-requires
-open-cost-requires c κs = search needs
+open-cost-requires c κs =
+    let p = c .before .before .before .before .before .before .before .before .before .before .before .before .before .before .before .pre .0 in record { narrow = p .framed .narrow; heightLow = p .framed .heightLow; yLow = p .stands .yLow }
 
 open-row-requires : tie.Need-open-row-requires
 open-row-requires c κs =
     let p = c .before .before .before .before .before .before .before .before .before .before .before .before .before .before .before .before .pre .0 in let f = fitting (c .before .before .before .before .before .before .before .before .before) in (p .listed, (p .leftLong, f .upperApart, f .lowerApart, f .upperIn, f .lowerIn))
 
 same-length : tie.Need-same-length
-same-length c = search needs
+same-length c =
+    c .before .before .open-row .kept .0
 
 returns-2 : tie.Need-returns-2
 returns-2 c =

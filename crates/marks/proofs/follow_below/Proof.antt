@@ -1,5 +1,5 @@
 use mathlib.Core.Path.{ap₂, _≡_, refl, ap, sym, _∙_}
-use Rattle.rows.specs.Rows.{stripOf, pointOf, rowOf, endPlace}
+use Rattle.rows.specs.Rows.{Lies, stripOf, pointOf, rowOf, endPlace}
 use Rattle.lists.proofs.Tests.{not-f}
 use Rattle.rows.proofs.Places.{row-fits}
 use Rattle.parts.proofs.Marking.{marking-none}
@@ -22,6 +22,13 @@ Inv-loop work₀ q heights bounds s base low n ends p₀ at₀ work p at = (p .a
 abbrev μ-loop : tie.MeasureT-loop
 μ-loop work₀ q heights bounds s base low n ends p₀ at₀ work p at = endPlace (q .colours) (length heights + 2) 0 - endPlace (q .colours) (p .b) (p .cb)
 
+-- the row that the loop has come to
+row-lies : (c : tie.Then2 Inv-loop μ-loop) → Lies (length (c .before .before .before .before .before .before .before .before .before .before .before .args .heights .now)) (c .before .before .before .before .before .before .before .before .before .before .before .args .q .colours) (stripOf (c .before .before .loop .p))
+row-lies c =
+    let p = c .before .before .before .before .before .before .before .before .before .before .before .pre .1 in
+    let l = c .before .before .loop in
+    lies-at (length (c .before .before .before .before .before .before .before .before .before .before .before .args .heights .now)) (c .before .before .before .before .before .before .before .before .before .before .before .args .q .colours) (stripOf (l .p)) (omega (arith, l .inv .0, p .0)) (omega (arith, l .inv .1, p .1)) (omega (arith, c .if2 .taken)) (l .inv .2) refl
+
 returns : tie.Need-returns Inv-loop μ-loop
 returns c =
     let a = c .before .before .before .before .before .args in
@@ -43,7 +50,7 @@ row-place-requires : tie.Need-row-place-requires Inv-loop μ-loop
 row-place-requires c κs =
     let p = c .before .before .before .before .before .before .before .pre in
     let f = p .0 .framed in
-    ((f .slotsFew, f .coloursFew, f .budgetsFew), record { aLow = omega (arith, p .1 .0); caLow = omega (arith, p .1 .1); bLow = omega (arith, p .1 .0); cbLow = omega arith; dLow = refl })
+    ((f .slotsFew, f .coloursFew, f .budgetsFew), start-lies _ _ _ _ (p .1 .0) (p .1 .1))
 
 add-at : tie.Need-add-at Inv-loop μ-loop
 add-at c =
@@ -61,14 +68,14 @@ mark-row-requires : tie.Need-mark-row-requires Inv-loop μ-loop
 mark-row-requires c κs =
     let p = c .before .before .before .before .before .before .before .before .before .before .before .before .pre in
     let l = c .before .before .before .loop in
-    let r = lies-at (length (c .before .before .before .before .before .before .before .before .before .before .before .before .args .heights .now)) (c .before .before .before .before .before .before .before .before .before .before .before .before .args .q .colours) (stripOf (l .p)) (omega (arith, l .inv .0, p .1 .0)) (omega (arith, l .inv .1, p .1 .1)) (omega (arith, c .before .if2 .taken)) (l .inv .2) refl in
+    let r = row-lies (c .before) in
     ((p .0 .framed, p .0 .stands), ((rw (l .inv .5) (room-of (p .0)), r), omega (arith, at-low (p .0) _ r _ (l .inv .4), l .inv .5, p .0 .within)))
 
 add-at-2 : tie.Need-add-at-2 Inv-loop μ-loop
 add-at-2 c =
     let p = c .before .before .before .before .before .before .before .before .before .before .before .before .before .before .before .pre in
     let l = c .before .before .before .before .before .before .loop in
-    let r = lies-at (length (c .before .before .before .before .before .before .before .before .before .before .before .before .before .before .before .args .heights .now)) (c .before .before .before .before .before .before .before .before .before .before .before .before .before .before .before .args .q .colours) (stripOf (l .p)) (omega (arith, l .inv .0, p .1 .0)) (omega (arith, l .inv .1, p .1 .1)) (omega (arith, c .before .before .before .before .if2 .taken)) (l .inv .2) refl in
+    let r = row-lies (c .before .before .before .before) in
     omega (arith, at-low (p .0) _ r _ (l .inv .4), p .0 .within)
 
 next-below-requires : tie.Need-next-below-requires Inv-loop μ-loop
@@ -90,7 +97,7 @@ loop-again c =
     let l = c .before .before .before .before .before .before .before .loop in
     let f = c .before .before .before .mark-row in
     let e = c .next-below .ensures in
-    let r = lies-at (length (a .heights .now)) (a .q .colours) (stripOf (l .p)) (omega (arith, l .inv .0, p .1 .0)) (omega (arith, l .inv .1, p .1 .1)) (omega (arith, c .before .before .before .before .before .if2 .taken)) (l .inv .2) refl in (
+    let r = row-lies (c .before .before .before .before .before) in (
       e .0 ∙ l .inv .0,
       e .1 ∙ l .inv .1,
       e .2,

@@ -33,7 +33,8 @@ mark-own-requires c κs =
     c .before .before .before .before .before .before .before .before .pre .1 .0
 
 same-length : tie.Need-same-length
-same-length c = search needs
+same-length c =
+    c .before .before .mark-own .kept .0
 
 returns-2 : tie.Need-returns-2
 returns-2 c =
@@ -66,7 +67,8 @@ mark-window-requires c κs =
     ((rw (c .before .before .before .before .before .before .mark-own2 .kept .0) (p .1 .0 .0), p .1 .0 .1), (p .0 .1 .colourLow, c .open-window .ensures .high))
 
 same-length-2 : tie.Need-same-length-2
-same-length-2 c = search needs
+same-length-2 c =
+    c .before .before .mark-window .kept .0 ∙ c .before .before .before .before .before .before .before .before .before .mark-own2 .kept .0
 
 returns-3 : tie.Need-returns-3
 returns-3 c =
@@ -82,7 +84,8 @@ returns-3 c =
     )
 
 same-length-3 : tie.Need-same-length-3
-same-length-3 c = search needs
+same-length-3 c =
+    c .before .before .before .before .mark-own2 .kept .0
 
 returns-4 : tie.Need-returns-4
 returns-4 c =

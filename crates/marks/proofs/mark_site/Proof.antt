@@ -43,7 +43,8 @@ follow-level-requires c κs =
     }
 
 same-length : tie.Need-same-length
-same-length c = search needs
+same-length c =
+    c .before .before .follow-level .kept .0
 
 returns : tie.Need-returns
 returns c =

@@ -1,6 +1,6 @@
 use mathlib.Core.Path.{ap₂, _≡_, refl, ap, sym, _∙_}
 use Rattle.lists.proofs.Tests.{not-f}
-use Rattle.rows.specs.Rows.{stripOf, pointOf, rowOf, endPlace}
+use Rattle.rows.specs.Rows.{Lies, stripOf, pointOf, rowOf, endPlace}
 use Rattle.rows.proofs.Places.{row-fits}
 use Rattle.marks.proofs.Followed.{ended, next-row, later-end, start-lies, lies-at}
 use Rattle.table.proofs.Filling.{Filled, filled-none, filled-more, filled-all, row-low, start-end, to-end}
@@ -21,6 +21,13 @@ Inv-loop work₀ q heights bounds parts counts left s base low n ends p₀ at₀
 
 abbrev μ-loop : tie.MeasureT-loop
 μ-loop work₀ q heights bounds parts counts left s base low n ends p₀ at₀ work p at = endPlace (q .colours) (length heights + 2) 0 - endPlace (q .colours) (p .b) (p .cb)
+
+-- the row that the loop has come to
+row-lies : (c : tie.Then2 Inv-loop μ-loop) → Lies (length (c .before .before .before .before .before .before .before .before .before .before .before .before .before .before .args .heights .now)) (c .before .before .before .before .before .before .before .before .before .before .before .before .before .before .args .q .colours) (stripOf (c .before .before .loop .p))
+row-lies c =
+    let p = c .before .before .before .before .before .before .before .before .before .before .before .before .before .before .pre .1 in
+    let l = c .before .before .loop in
+    lies-at (length (c .before .before .before .before .before .before .before .before .before .before .before .before .before .before .args .heights .now)) (c .before .before .before .before .before .before .before .before .before .before .before .before .before .before .args .q .colours) (stripOf (l .p)) (omega (arith, l .inv .0, p .0)) (omega (arith, l .inv .1, p .1)) (omega (arith, c .if2 .taken)) (l .inv .2) refl
 
 returns : tie.Need-returns Inv-loop μ-loop
 returns c =
@@ -62,7 +69,7 @@ fill-row-requires c κs =
     let p = c .before .before .before .before .before .before .before .before .before .before .before .before .before .before .before .pre in
     let a = c .before .before .before .before .before .before .before .before .before .before .before .before .before .before .before .args in
     let l = c .before .before .before .loop in
-    let r = lies-at (length (a .heights .now)) (a .q .colours) (stripOf (l .p)) (omega (arith, l .inv .0, p .1 .0)) (omega (arith, l .inv .1, p .1 .1)) (omega (arith, c .before .if2 .taken)) (l .inv .2) refl in (
+    let r = row-lies (c .before) in (
       record {
         framed = p .0 .framed;
         listed = p .0 .listed;
@@ -79,7 +86,7 @@ add-at-2 c =
     let p = c .before .before .before .before .before .before .before .before .before .before .before .before .before .before .before .before .before .before .pre in
     let a = c .before .before .before .before .before .before .before .before .before .before .before .before .before .before .before .before .before .before .args in
     let l = c .before .before .before .before .before .before .loop in
-    let r = lies-at (length (a .heights .now)) (a .q .colours) (stripOf (l .p)) (omega (arith, l .inv .0, p .1 .0)) (omega (arith, l .inv .1, p .1 .1)) (omega (arith, c .before .before .before .before .if2 .taken)) (l .inv .2) refl in
+    let r = row-lies (c .before .before .before .before) in
     let z = row-low (a .q) (a .heights .now) (a .bounds .now) (a .parts .now) (a .counts .now) (a .left .now) (a .base) (a .low) (pointOf (a .s)) (stripOf (l .p)) (l .at) (p .0 .apart) r (l .inv .4) in
     omega (arith, z, c .before .before .before .before .before .before .before .before .before .before .before .before .before .before .before .before .before .before .fits)
 
@@ -101,7 +108,7 @@ loop-again c =
     let l = c .before .before .before .before .before .before .before .loop in
     let f = c .before .before .before .fill-row in
     let e = c .next-below .ensures in
-    let r = lies-at (length (a .heights .now)) (a .q .colours) (stripOf (l .p)) (omega (arith, l .inv .0, p .1 .0)) (omega (arith, l .inv .1, p .1 .1)) (omega (arith, c .before .before .before .before .before .if2 .taken)) (l .inv .2) refl in
+    let r = row-lies (c .before .before .before .before .before) in
     let z = later-end (a .q .colours) (l .p .b) (l .p .cb) (length (a .heights .now) + 2) 0 (l .inv .2) (omega (arith, c .before .before .before .before .before .if2 .taken)) in (
       e .0 ∙ l .inv .0,
       e .1 ∙ l .inv .1,

@@ -60,7 +60,8 @@ fill-level-requires c κs =
     }
 
 same-length : tie.Need-same-length
-same-length c = search needs
+same-length c =
+    c .before .before .fill-level .kept .0
 
 returns : tie.Need-returns
 returns c =
