@@ -1,5 +1,6 @@
 // Goals for the sites' caps, aimed at the slots to which known labels lead.
 ghost use mathlib.Core.Path.{_≡_};
+ghost use mathlib.Core.Bool.{cond};
 ghost use Prim.Native.Nat.{_≤_};
 ghost use lib.ListN.{length};
 ghost use Rattle.aims.specs.Aims.{Within};
@@ -82,11 +83,14 @@ pub fn aim_goals(
     }
 }
 
-// The caps themselves as goals.
-pub fn copy_caps(caps: &[u32], goals: &mut [u32])
+// The goals, or the caps themselves where the goals are not kept.
+pub fn keep_goals(caps: &[u32], goals: &mut [u32], kept: bool)
     requires { ⌜ (length (now goals) ≡ length (now caps)) × (length (now caps) ≤ 32) ⌝ }
-    ensures { λ _. ⌜ now (goals .exit) ≡ now (caps .entry) ⌝ }
+    ensures { λ _. ⌜ now (goals .exit) ≡ cond kept (now (goals .entry)) (now (caps .entry)) ⌝ }
 {
+    if kept {
+        return;
+    }
     let mut i: usize = 0;
     while i < goals.len() {
         goals[i] = caps[i];

@@ -1,7 +1,7 @@
 -- Laws of the search for a site's cap. Assumes nothing.
-use mathlib.Core.Path.{_≡_, refl, sym, ap, _∙_}
+use mathlib.Core.Path.{_≡_, refl, sym, ap, _∙_, subst⁻¹}
 use mathlib.Core.Logic.{_≢_}
-use mathlib.Core.Bool.{Bool, true, false, _||_}
+use mathlib.Core.Bool.{Bool, true, false, cond, _||_}
 use mathlib.Core.List.{List}
 use Prim.Native.Nat.{ℕ, suc, _+_, _-_, _/_, _≤_, _<_}
 use native.Mathlib.Nat.{le-trans, le-of-eq}
@@ -24,7 +24,7 @@ use Rattle.aims.specs.Aims.{Within}
 use Rattle.goals.specs.Goals.{Reaches, Goals}
 use Rattle.goals.proofs.Goals.{goals-free, goals-own, goals-copied}
 use Rattle.capwords.specs.Caps.{Low}
-use Rattle.capsearch.specs.declared.Range.{Range}
+use Rattle.guesses.specs.declared.Range.{Range}
 use Rattle.capsearch.specs.Search.{keepsCost, Probed, uncapped, Filled}
 
 -- ---- caps within others
@@ -86,17 +86,17 @@ module _ (G : Instance) (w : ℕ) (steady : Steady G w) (caps : List ℕ) (i : �
   in-sites : i < G .n
   in-sites = omega (arith, site .inside, site .long)
 
-  pub narrowed-first : (goals : List ℕ) (high : ℕ) → Goals G caps goals w → ((high ≤ G .slots .m - 1) × (high < G .slots .m - 1 → getD goals i 0 ≡ high + 1)) →
-      Narrowed G caps caps w i (G .slots .m - 1) (record { low = 0; high = high })
-  narrowed-first goals high g (h, f) =
+  pub narrowed-first : (goals : List ℕ) (r : Range) → Goals G caps goals w →
+      ((r .low ≡ 0) × (r .high ≤ G .slots .m - 1) × (r .high < G .slots .m - 1 → getD goals i 0 ≡ r .high + 1)) → Narrowed G caps caps w i (G .slots .m - 1) r
+  narrowed-first goals r g (z, h, f) =
       record {
-        ordered = omega arith;
-        bounded = omega arith;
+        ordered = omega (arith, z);
+        bounded = h;
         others = λ p. refl;
-        reached = by-order (G .slots .m - 1) high
-            (λ l. le-of-eq (sym (at-set (suc high)) ∙ steady .last (capsIn caps) i high in-sites free least (omega arith)))
-            (λ l. goal-reaches G caps goals w i (site .inside) high g (f l ∙ add-one high));
-        missed = λ j l. absurd (omega arith);
+        reached = by-order (G .slots .m - 1) (r .high)
+            (λ l. le-of-eq (sym (at-set (suc (r .high))) ∙ steady .last (capsIn caps) i (r .high) in-sites free least (omega arith)))
+            (λ l. goal-reaches G caps goals w i (site .inside) (r .high) g (f l ∙ add-one (r .high)));
+        missed = λ j l. absurd (omega (arith, z));
       }
 
   pub narrowed-step : (now new : List ℕ) (slots probe : ℕ) (r after : Range) → r .low ≤ probe → probe < r .high → new ≡ set now i (probe + 1) → Probed G new w i r probe after →
@@ -184,14 +184,14 @@ pub record Sought (G : Instance) (caps now goals : List ℕ) (w i : ℕ) (r : Ra
   pub aimed : Goals G (set now i 0) goals w
 
 module _ (G : Instance) (w : ℕ) (steady : Steady G w) (caps : List ℕ) (i : ℕ) where
-  pub sought-first : (goals : List ℕ) (high probe : ℕ) → Free G w i caps → Goals G caps goals w →
-      ((high ≤ G .slots .m - 1) × (high < G .slots .m - 1 → getD goals i 0 ≡ high + 1)) → probe ≡ high - 1 → Sought G caps caps goals w i (record { low = 0; high = high }) probe
-  sought-first goals high probe f g h e =
+  pub sought-first : (goals : List ℕ) (r : Range) (probe : ℕ) → Free G w i caps → Goals G caps goals w →
+      ((r .low ≡ 0) × (r .high ≤ G .slots .m - 1) × (r .high < G .slots .m - 1 → getD goals i 0 ≡ r .high + 1)) → probe ≡ r .high - 1 → Sought G caps caps goals w i r probe
+  sought-first goals r probe f g h e =
       record {
         site = f;
         long = refl;
-        range = narrowed-first G w steady caps i f goals high g h;
-        next = λ l. (omega arith, omega arith);
+        range = narrowed-first G w steady caps i f goals r g h;
+        next = λ l. (omega (arith, h .0), omega arith);
         aimed = goals-free G caps goals w i (f .inside) g;
       }
 
@@ -226,12 +226,18 @@ module _ (G : Instance) (w : ℕ) (steady : Steady G w) (caps : List ℕ) (i : �
       abbrev pub Ended : (goals : List ℕ) → Type 0
       Ended goals = (set now i (r .low + 1) ≡ set caps i (suc (choose G w (capsIn caps) i))) × ((Low caps → Low (set now i (r .low + 1))) × Goals G (set now i (r .low + 1)) goals w)
 
-      pub sought-copied : (aims : List ℕ) → G .slots .m ≤ 48 → aims ≡ set now i (r .low + 1) → Ended aims
-      sought-copied aims m e =
+      copied : (aims : List ℕ) → G .slots .m ≤ 48 → aims ≡ set now i (r .low + 1) → Ended aims
+      copied aims m e =
           let n : length aims ≡ G .n = ap length e ∙ length-set now i (r .low + 1) ∙ s .long ∙ s .site .long in
           (sought-is, (lowered m, goals-copied G (set now i (r .low + 1)) aims w e n (le-of-eq (narrowed-keeps G w steady caps i (s .site) (set now i (r .low + 1)) sought-is))))
 
-      pub sought-met : G .slots .m ≤ 48 → getD goals i 0 ≡ r .low + 1 → Ended goals
-      sought-met m e =
+      met : G .slots .m ≤ 48 → getD goals i 0 ≡ r .low + 1 → Ended goals
+      met m e =
           let k : i < length (set now i (r .low + 1)) = omega (arith, length-set now i (r .low + 1), sought-inside) in
           (sought-is, (lowered m, goals-own G (set now i (r .low + 1)) goals w i k (rw (set-set now i (r .low + 1) 0) (s .aimed)) (e ∙ sym (getD-set-same now i (r .low + 1) 0 sought-inside))))
+
+      pub sought-ended : (aims : List ℕ) → G .slots .m ≤ 48 → aims ≡ cond (eqb (getD goals i 0) (r .low + 1)) goals (set now i (r .low + 1)) → Ended aims
+      sought-ended aims m e =
+          by-test (eqb (getD goals i 0) (r .low + 1))
+          (λ z. let o : aims ≡ goals = rw z at e in subst⁻¹ Ended o (met m (eqb-true _ _ z)))
+          (λ z. copied aims m (rw z at e))

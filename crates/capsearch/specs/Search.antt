@@ -10,7 +10,7 @@ use Rattle.arrays.specs.declared.Measures.{Measures}
 use Rattle.optimum.specs.CostWord.{topWord}
 use Rattle.usedslots.specs.Table.{tableBy, capsIn, tableWords, RightTo}
 use Rattle.goals.specs.Goals.{Reaches}
-use Rattle.capsearch.specs.declared.Range.{Range}
+use Rattle.guesses.specs.declared.Range.{Range}
 
 -- the least cost is still the same with these caps
 abbrev pub keepsCost : Instance → (caps : List ℕ) → (least : ℕ) → Bool

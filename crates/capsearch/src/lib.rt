@@ -1,4 +1,4 @@
-// The least cap of one site that keeps the least cost, and the goals of a cheapest layout.
+// The least cap of one site that keeps the least cost.
 ghost use mathlib.Core.Path.{_≡_};
 ghost use Prim.Native.Nat.{suc, _+_, _-_, _<_, _≤_};
 ghost use lib.ListN.{length, getD, set};
@@ -9,77 +9,13 @@ ghost use Rattle.usedslots.specs.Table.{tableBy, capsIn, Fits};
 ghost use Rattle.goals.specs.Goals.{Goals};
 ghost use Rattle.capwords.specs.Caps.{Low};
 ghost use Rattle.capsearch.specs.Search.{Probed, Filled};
-use aims::copy_caps;
+use aims::keep_goals;
 use arrays::Measures;
 use byheight::keeps_least;
-use goals::set_goals;
-use traces::trace_labels;
-use words::lesser;
+use goals::trace_goals;
+use guesses::Range;
+use guesses::first_range;
 use words::monus;
-
-// Slots from low to high.
-pub struct Range {
-    pub low: u32,
-    pub high: u32,
-}
-
-// The goals that the labels of a cheapest layout give.
-pub fn trace_goals(
-    q: Measures,
-    heights: &[u32],
-    bounds: &[u32],
-    radices: &[u32],
-    draws: &[u32],
-    ys: &[u32],
-    colours: &[u32],
-    caps: &[u32],
-    work: &[u32],
-    goals: &mut [u32],
-    least: u32,
-)
-    requires { ⌜ Fits q (now heights) (now bounds) (now radices) (now draws) (now ys) (now colours) (now caps) ⌝ }
-    requires { ⌜ (length (now goals) ≡ length (now ys)) × (value (tableBy q (now heights) (now bounds) (now radices) (now ys) (now colours)) (capsIn (now caps)) ≤ least) ⌝ }
-    ensures { λ _. ⌜ Goals (tableBy q (now (heights .entry)) (now (bounds .entry)) (now (radices .entry)) (now (ys .entry)) (now (colours .entry))) (now (caps .entry)) (now (goals .exit)) least ⌝ }
-{
-    let mut labels = [0u32; 48];
-    trace_labels(
-        q,
-        heights,
-        bounds,
-        radices,
-        draws,
-        ys,
-        colours,
-        caps,
-        work,
-        &mut labels,
-        least,
-    );
-    set_goals(
-        q,
-        heights,
-        bounds,
-        radices,
-        draws,
-        ys,
-        colours,
-        caps,
-        &labels,
-        goals,
-        least,
-    );
-}
-
-// The highest slot that a site goes to: its goal's where it has one.
-fn high_of(goal: u32, slots: u32) -> u32
-    ensures { λ r. ⌜ (r ≤ slots - 1) × (r < slots - 1 → goal ≡ r + 1) ⌝ }
-{
-    let last = monus(slots, 1);
-    if goal == 0 {
-        return last;
-    }
-    lesser(goal - 1, last)
-}
 
 // A range of slots after a test of the caps, where the site's is at one of these slots.
 fn probed(
@@ -163,9 +99,8 @@ pub fn cap_site(
     ensures { λ _. ⌜ (Low (now (caps .entry)) → Low (now (caps .exit))) ⌝ }
     ensures { λ _. ⌜ Goals (tableBy q (now (heights .entry)) (now (bounds .entry)) (now (radices .entry)) (now (ys .entry)) (now (colours .entry))) (now (caps .exit)) (now (goals .exit)) least ⌝ }
 {
-    let high = high_of(goals[site], heights.len() as u32);
-    let mut range = Range { low: 0, high: high };
-    let mut probe = monus(high, 1);
+    let mut range = first_range(goals[site], heights.len() as u32);
+    let mut probe = monus(range.high, 1);
     while range.low < range.high {
         caps[site] = probe + 1;
         range = probed(
@@ -190,7 +125,6 @@ pub fn cap_site(
     let cap = range.low + 1;
     caps[site] = cap;
     // a goal that is not the cap was none, and labels that did not keep the cost do not keep it under more caps
-    if goals[site] != cap {
-        copy_caps(caps, goals);
-    }
+    let kept = goals[site] == cap;
+    keep_goals(caps, goals, kept);
 }

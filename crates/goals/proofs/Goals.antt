@@ -1,12 +1,15 @@
 -- Goals: caps within those that are set, which known labels keep together. Assumes nothing.
-use mathlib.Core.Path.{_≡_, _∙_}
+use mathlib.Core.Path.{_≡_, sym, ap, _∙_}
+use mathlib.Core.Bool.{Bool, cond}
 use mathlib.Core.List.{List}
 use Prim.Native.Nat.{ℕ, _≤_, _<_}
 use native.Mathlib.Nat.{le-trans, le-refl}
 use native.Mathlib.Omega.{arith}
+use lib.Dec.{leb}
 use lib.ListN.{length, getD, set}
 use lib.Seq.{getD-set-same, getD-set-other}
-use Rattle.lists.proofs.Tests.{by-equal}
+use borrow.Author.Tests.{leb-true}
+use Rattle.lists.proofs.Tests.{by-test, by-equal}
 use Rattle.optimum.specs.UsedSlots.{Instance, value}
 use Rattle.arrays.specs.declared.Measures.{Measures}
 use Rattle.usedslots.specs.Table.{capsIn, Fits}
@@ -33,12 +36,17 @@ fits-set q hs bs rs ds ys cs caps new e f =
     }
 
 module _ (H : Instance) (caps goals : List ℕ) (w : ℕ) where
-  -- the labels keep the cost, or the goals are the caps
-  pub goals-aimed : (cost : ℕ) → length goals ≡ H .n → Within caps goals → value H (capsIn goals) ≤ cost → cost ≤ w → Goals H caps goals w
-  goals-aimed cost n t h l = record { long = n; within = t; kept = le-trans h l }
-
+  -- the caps themselves
   pub goals-copied : goals ≡ caps → length goals ≡ H .n → value H (capsIn caps) ≤ w → Goals H caps goals w
   goals-copied e n h = record { long = n; within = λ i l. rw e (l, le-refl _); kept = rw e h }
+
+  -- whichever of the two was taken
+  pub goals-settled : (aimed : List ℕ) (cost : ℕ) (kept : Bool) → length aimed ≡ H .n → length caps ≡ H .n → Within caps aimed → value H (capsIn aimed) ≤ cost →
+      kept ≡ leb cost w → value H (capsIn caps) ≤ w → goals ≡ cond kept aimed caps → Goals H caps goals w
+  goals-settled aimed cost kept n m t h k v e =
+      by-test kept
+      (λ z. rw (rw z at e) (record { long = n; within = t; kept = le-trans h (leb-true cost w (sym k ∙ z)) }))
+      (λ z. let o : goals ≡ caps = rw z at e in goals-copied o (ap length o ∙ m) v)
 
   -- ---- one site
 

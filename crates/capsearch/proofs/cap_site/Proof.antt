@@ -1,7 +1,7 @@
 use Rattle.optimum.specs.UsedSlots.{Instance}
 use Rattle.usedslots.specs.Table.{tableBy}
 use Rattle.goals.proofs.Goals.{fits-set}
-use Rattle.capsearch.proofs.Search.{Sought, sought-first, sought-inside, sought-low, sought-own, sought-aimed, sought-step, sought-copied, sought-met}
+use Rattle.capsearch.proofs.Search.{Sought, sought-first, sought-inside, sought-low, sought-own, sought-aimed, sought-step, sought-ended}
 use mathlib.Core.Path.{sym, _∙_}
 use Prim.Native.Nat.{_+_, _-_}
 use native.Mathlib.Omega.{arith}
@@ -11,32 +11,32 @@ use Rattle.capsearch.proofs.cap_site.Statement.{statement}
 use Rattle.capsearch.proofs.cap_site.Tie as tie
 
 abbrev Inv-loop : tie.InvT-loop
-Inv-loop q heights bounds radices draws ys colours order caps₀ work goals₀ least site high range₀ probe₀ caps goals range probe = Sought (tableBy q heights bounds radices ys colours) caps₀ caps goals least site range probe
+Inv-loop q heights bounds radices draws ys colours order caps₀ work goals₀ least site range₀ probe₀ caps goals range probe = Sought (tableBy q heights bounds radices ys colours) caps₀ caps goals least site range probe
 
 abbrev μ-loop : tie.MeasureT-loop
-μ-loop q heights bounds radices draws ys colours order caps₀ work goals₀ least site high range₀ probe₀ caps goals range probe = range .high - range .low
+μ-loop q heights bounds radices draws ys colours order caps₀ work goals₀ least site range₀ probe₀ caps goals range probe = range .high - range .low
 
-mul-high-of : tie.Need-mul-high-of Inv-loop μ-loop
-mul-high-of c =
+mul-first-range : tie.Need-mul-first-range Inv-loop μ-loop
+mul-first-range c =
     let p = c .before .before .before .before .before .before .before .before .before .before .pre in omega (arith, p .1 .0 .1, p .0 .caps-long, p .0 .few-sites)
 
-slice-read-high-of : tie.Need-slice-read-high-of Inv-loop μ-loop
-slice-read-high-of c =
+slice-read-first-range : tie.Need-slice-read-first-range Inv-loop μ-loop
+slice-read-first-range c =
     let p = c .before .before .before .before .before .before .before .before .before .before .before .pre in omega (arith, p .1 .0 .1, p .0 .caps-long, p .1 .0 .4 .long)
 
-cast-high-of : tie.Need-cast-high-of Inv-loop μ-loop
-cast-high-of c =
+cast-first-range : tie.Need-cast-first-range Inv-loop μ-loop
+cast-first-range c =
     omega (arith, c .before .before .before .before .before .before .before .before .before .before .before .pre .0 .few-slots)
 
-high-of-requires : tie.Need-high-of-requires Inv-loop μ-loop
-high-of-requires c κs = search needs
+first-range-requires : tie.Need-first-range-requires Inv-loop μ-loop
+first-range-requires c κs = search needs
 
 monus-requires : tie.Need-monus-requires Inv-loop μ-loop
 monus-requires c κs = search needs
 
 loop-holds : tie.Need-loop-holds Inv-loop μ-loop
 loop-holds c =
-    let a = c .before .before .before .before .before .before .before .before .before .before .before .before .before .args in let p = c .before .before .before .before .before .before .before .before .before .before .before .before .before .pre in let h = c .before .high-of in
+    let a = c .before .before .before .before .before .before .before .before .before .before .before .before .before .args in let p = c .before .before .before .before .before .before .before .before .before .before .before .before .before .pre in let h = c .before .first-range in
     let G : Instance = tableBy (a .q) (a .heights .now) (a .bounds .now) (a .radices .now) (a .ys .now) (a .colours .now) in
     sought-first G (a .least) (p .1 .1 .1) (a .caps .now) (a .site) (a .goals .now) (h .result) (c .monus .result) (record { inside = p .1 .0 .1; long = p .0 .caps-long; free = p .1 .0 .2; least = p .1 .1 .0 }) (p .1 .0 .4) (h .ensures) (c .monus .ensures)
 
@@ -94,47 +94,33 @@ slice-write-caps-2 : tie.Need-slice-write-caps-2 Inv-loop μ-loop
 slice-write-caps-2 c =
     let l = c .before .before .before .loop in omega (arith, l .inv .long, l .inv .site .inside)
 
-mul-if2 : tie.Need-mul-if2 Inv-loop μ-loop
-mul-if2 c =
+mul-kept : tie.Need-mul-kept Inv-loop μ-loop
+mul-kept c =
     let p = c .before .before .before .before .before .before .before .before .before .before .before .before .before .before .before .before .before .pre in omega (arith, p .1 .0 .1, p .0 .caps-long, p .0 .few-sites)
 
-slice-read-if2 : tie.Need-slice-read-if2 Inv-loop μ-loop
-slice-read-if2 c =
+slice-read-kept : tie.Need-slice-read-kept Inv-loop μ-loop
+slice-read-kept c =
     let l = c .before .before .before .before .loop in omega (arith, l .inv .aimed .long, l .inv .site .long, l .inv .site .inside)
 
-copy-caps-requires : tie.Need-copy-caps-requires Inv-loop μ-loop
-copy-caps-requires c κs =
-    let a = c .before .before .before .before .before .before .before .before .before .before .before .before .before .before .before .before .before .before .before .before .before .args in let p = c .before .before .before .before .before .before .before .before .before .before .before .before .before .before .before .before .before .before .before .before .before .pre in let l = c .before .before .before .before .before .before .before .loop in
+keep-goals-requires : tie.Need-keep-goals-requires Inv-loop μ-loop
+keep-goals-requires c κs =
+    let a = c .before .before .before .before .before .before .before .before .before .before .before .before .before .before .before .before .before .before .before .before .args in let p = c .before .before .before .before .before .before .before .before .before .before .before .before .before .before .before .before .before .before .before .before .pre in let l = c .before .before .before .before .before .before .loop in
     let e = length-set (l .caps) (a .site) (l .range .low + 1) in
     (l .inv .aimed .long ∙ sym (e ∙ l .inv .long ∙ p .0 .caps-long), omega (arith, e, l .inv .long, p .0 .caps-long, p .0 .few-sites))
 
 same-length : tie.Need-same-length Inv-loop μ-loop
 same-length c =
-    let l = c .before .before .before .before .before .before .before .before .before .before .loop in length-set (l .caps) (c .before .before .before .before .before .before .before .before .before .before .before .before .before .before .before .before .before .before .before .before .before .before .before .before .args .site) (l .range .low + 1) ∙ l .inv .long
+    let l = c .before .before .before .before .before .before .before .before .before .loop in length-set (l .caps) (c .before .before .before .before .before .before .before .before .before .before .before .before .before .before .before .before .before .before .before .before .before .before .before .args .site) (l .range .low + 1) ∙ l .inv .long
 
 same-length-2 : tie.Need-same-length-2 Inv-loop μ-loop
 same-length-2 c =
-    c .before .before .copy-caps .kept .1 .0 ∙ c .before .before .before .before .before .before .before .before .before .before .loop .inv .aimed .long ∙ sym (c .before .before .before .before .before .before .before .before .before .before .before .before .before .before .before .before .before .before .before .before .before .before .before .before .pre .1 .0 .4 .long)
+    c .before .before .keep-goals .kept .1 .0 ∙ c .before .before .before .before .before .before .before .before .before .loop .inv .aimed .long ∙ sym (c .before .before .before .before .before .before .before .before .before .before .before .before .before .before .before .before .before .before .before .before .before .before .before .pre .1 .0 .4 .long)
 
 returns : tie.Need-returns Inv-loop μ-loop
 returns c =
-    let a = c .before .before .before .before .before .before .before .before .before .before .before .before .before .before .before .before .before .before .before .before .before .before .before .before .args in let p = c .before .before .before .before .before .before .before .before .before .before .before .before .before .before .before .before .before .before .before .before .before .before .before .before .pre in let l = c .before .before .before .before .before .before .before .before .before .before .loop in
+    let a = c .before .before .before .before .before .before .before .before .before .before .before .before .before .before .before .before .before .before .before .before .before .before .before .args in let p = c .before .before .before .before .before .before .before .before .before .before .before .before .before .before .before .before .before .before .before .before .before .before .before .pre in let l = c .before .before .before .before .before .before .before .before .before .loop in
     let G : Instance = tableBy (a .q) (a .heights .now) (a .bounds .now) (a .radices .now) (a .ys .now) (a .colours .now) in
-    sought-copied G (a .least) (p .1 .1 .1) (a .caps .now) (a .site) (l .caps) (l .goals) (l .range) (l .probe) (l .inv) (c .before .before .before .before .before .before .before .before .if1 .left) _ (p .0 .few-slots) (c .before .before .copy-caps .ensures)
-
-same-length-3 : tie.Need-same-length-3 Inv-loop μ-loop
-same-length-3 c =
-    let l = c .before .before .before .before .before .loop in length-set (l .caps) (c .before .before .before .before .before .before .before .before .before .before .before .before .before .before .before .before .before .before .before .args .site) (l .range .low + 1) ∙ l .inv .long
-
-same-length-4 : tie.Need-same-length-4 Inv-loop μ-loop
-same-length-4 c =
-    c .before .before .before .before .before .loop .inv .aimed .long ∙ sym (c .before .before .before .before .before .before .before .before .before .before .before .before .before .before .before .before .before .before .before .pre .1 .0 .4 .long)
-
-returns-2 : tie.Need-returns-2 Inv-loop μ-loop
-returns-2 c =
-    let a = c .before .before .before .before .before .before .before .before .before .before .before .before .before .before .before .before .before .before .before .args in let p = c .before .before .before .before .before .before .before .before .before .before .before .before .before .before .before .before .before .before .before .pre in let l = c .before .before .before .before .before .loop in
-    let G : Instance = tableBy (a .q) (a .heights .now) (a .bounds .now) (a .radices .now) (a .ys .now) (a .colours .now) in
-    sought-met G (a .least) (p .1 .1 .1) (a .caps .now) (a .site) (l .caps) (l .goals) (l .range) (l .probe) (l .inv) (c .before .before .before .if1 .left) (p .0 .few-slots) (c .if2 .left)
+    sought-ended G (a .least) (p .1 .1 .1) (a .caps .now) (a .site) (l .caps) (l .goals) (l .range) (l .probe) (l .inv) (c .before .before .before .before .before .before .before .if1 .left) _ (p .0 .few-slots) (c .before .before .keep-goals .ensures)
 
 pub cap-site-spec : {M : Type 1} → statement M
 cap-site-spec =
@@ -142,10 +128,10 @@ cap-site-spec =
     (tie.spec
     Inv-loop
     μ-loop
-    mul-high-of
-    slice-read-high-of
-    cast-high-of
-    high-of-requires
+    mul-first-range
+    slice-read-first-range
+    cast-first-range
+    first-range-requires
     monus-requires
     loop-holds
     add-caps
@@ -158,12 +144,9 @@ cap-site-spec =
     add-cap
     mul-caps-2
     slice-write-caps-2
-    mul-if2
-    slice-read-if2
-    copy-caps-requires
+    mul-kept
+    slice-read-kept
+    keep-goals-requires
     same-length
     same-length-2
-    returns
-    same-length-3
-    same-length-4
-    returns-2)
+    returns)

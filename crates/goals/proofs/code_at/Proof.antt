@@ -1,7 +1,7 @@
 use Prim.Native.Nat.{_-_}
 use borrow.Author.Needs.{needs}
-use Rattle.traces.proofs.code_at.Statement.{statement}
-use Rattle.traces.proofs.code_at.Tie as tie
+use Rattle.goals.proofs.code_at.Statement.{statement}
+use Rattle.goals.proofs.code_at.Tie as tie
 
 abbrev Inv-loop : tie.InvT-loop
 Inv-loop q heights bounds radices draws ys colours caps work s k least d₀ d = Unit

@@ -3,14 +3,14 @@ use Rattle.marking.specs.Marked.{Reached, Search}
 use Rattle.usedslots.proofs.Entries.{codes-in}
 use Rattle.usedslots.proofs.Links.{row-there}
 use Rattle.usedslots.specs.Table.{tableBy, capsIn}
-use mathlib.Core.Path.{_≡_, refl, sym, _∙_}
-use Prim.Native.Nat.{_+_, _-_, _<_, _≤_}
+use mathlib.Core.Path.{_≡_, refl, sym, ap, _∙_, subst⁻¹}
+use Prim.Native.Nat.{ℕ, _+_, _-_, _<_, _≤_}
 use native.Mathlib.Omega.{arith}
 use native.Mathlib.Numerals.{add-one}
-use lib.ListN.{length, length-set}
+use lib.ListN.{length, set, length-set}
 use borrow.Author.Needs.{needs}
-use Rattle.keeps.proofs.keeps_marked.Statement.{statement}
-use Rattle.keeps.proofs.keeps_marked.Tie as tie
+use Rattle.byheight.proofs.keeps_marked.Statement.{statement}
+use Rattle.byheight.proofs.keeps_marked.Tie as tie
 
 abbrev Inv-loop : tie.InvT-loop
 Inv-loop q heights bounds radices draws ys colours caps bands ends work marks₀ m a₀ marks a =
@@ -23,22 +23,18 @@ abbrev μ-loop : tie.MeasureT-loop
 cast-m : tie.Need-cast-m Inv-loop μ-loop
 cast-m c = search needs
 
-sub-marks : tie.Need-sub-marks Inv-loop μ-loop
-sub-marks c =
-    omega (arith, c .before .before .before .before .before .before .before .before .before .before .before .before .pre .0 .some-budget)
-
-cast-marks : tie.Need-cast-marks Inv-loop μ-loop
-cast-marks c = search needs
+whole-entry-requires : tie.Need-whole-entry-requires Inv-loop μ-loop
+whole-entry-requires c κs = c .before .before .before .before .before .before .before .before .before .before .before .pre .0 .some-budget
 
 slice-write-marks : tie.Need-slice-write-marks Inv-loop μ-loop
 slice-write-marks c =
-    let a = c .before .before .before .before .before .before .before .before .before .before .before .before .args in let p = c .before .before .before .before .before .before .before .before .before .before .before .before .pre in omega (arith, p .0 .some-budget, p .1 .0 .2, row-there (a .q) (a .heights .now) 0 0 (p .0 .some-budget) (omega arith) (omega arith))
+    let a = c .before .before .before .before .before .before .before .before .before .before .before .before .args in let p = c .before .before .before .before .before .before .before .before .before .before .before .before .pre in omega (arith, c .whole-entry .ensures, p .0 .some-budget, p .1 .0 .2, row-there (a .q) (a .heights .now) 0 0 (p .0 .some-budget) (omega arith) (omega arith))
 
 loop-holds : tie.Need-loop-holds Inv-loop μ-loop
 loop-holds c =
     let a = c .before .before .before .before .before .before .before .before .before .before .before .before .args in let p = c .before .before .before .before .before .before .before .before .before .before .before .before .pre in
     let long : a .q .budgets - 1 < length (a .marks .now) = omega (arith, p .0 .some-budget, p .1 .0 .2, row-there (a .q) (a .heights .now) 0 0 (p .0 .some-budget) (omega arith) (omega arith)) in
-    (refl, root-reached (tableBy (a .q) (a .heights .now) (a .bounds .now) (a .radices .now) (a .ys .now) (a .colours .now)) (capsIn (a .caps .now)) (a .q .budgets) (a .marks .now) (p .0 .some-budget) long refl (p .1 .1 .1) (p .1 .1 .0), λ z. refl, λ z. absurd (omega arith))
+    (refl, subst⁻¹ (λ (k : ℕ). Reached (tableBy (a .q) (a .heights .now) (a .bounds .now) (a .radices .now) (a .ys .now) (a .colours .now)) (capsIn (a .caps .now)) (a .q .budgets) (set (a .marks .now) k 1)) (c .whole-entry .ensures) (root-reached (tableBy (a .q) (a .heights .now) (a .bounds .now) (a .radices .now) (a .ys .now) (a .colours .now)) (capsIn (a .caps .now)) (a .q .budgets) (a .marks .now) (p .0 .some-budget) long refl (p .1 .1 .1) (p .1 .1 .0)), λ z. refl, λ z. absurd (omega arith))
 
 first-code-requires : tie.Need-first-code-requires Inv-loop μ-loop
 first-code-requires c κs = search needs
@@ -51,11 +47,11 @@ mark-place-requires c κs =
     let a = c .before .before .before .before .before .before .before .before .before .before .before .before .before .before .before .before .before .args in let p = c .before .before .before .before .before .before .before .before .before .before .before .before .before .before .before .before .before .pre in let l = c .before .before .before .before .loop in
     let long : a .q .budgets - 1 < length (a .marks .now) = omega (arith, p .0 .some-budget, p .1 .0 .2, row-there (a .q) (a .heights .now) 0 0 (p .0 .some-budget) (omega arith) (omega arith)) in
     let n = codes-in (a .q .colours) (l .a) (c .before .first-code .result) (c .last-code .result) (c .before .first-code .ensures) (c .last-code .ensures) in
-    (p .0, ((c .before .before .before .loop-test .taken, n .0, n .1, n .2, p .1 .0 .0), ((table-at (tableBy (a .q) (a .heights .now) (a .bounds .now) (a .radices .now) (a .ys .now) (a .colours .now)) (capsIn (a .caps .now)) (a .q .budgets) (a .work .now) (a .marks .now) (l .marks) (l .a) (c .before .first-code .result) (c .last-code .result) (p .0 .some-budget) long refl (c .before .first-code .ensures) (c .last-code .ensures) (p .1 .0 .1) (c .before .before .before .loop-test .taken), l .inv .0 ∙ length-set (c .before .before .before .before .before .before .before .before .before .before .before .before .before .before .before .before .before .args .marks .now) (c .before .before .before .before .before .before .before .before .before .before .before .before .before .before .before .before .before .args .q .budgets - 1) 1 ∙ p .1 .0 .2, p .1 .0 .3), l .inv .1)))
+    (p .0, ((c .before .before .before .loop-test .taken, n .0, n .1, n .2, p .1 .0 .0), ((table-at (tableBy (a .q) (a .heights .now) (a .bounds .now) (a .radices .now) (a .ys .now) (a .colours .now)) (capsIn (a .caps .now)) (a .q .budgets) (a .work .now) (a .marks .now) (l .marks) (l .a) (c .before .first-code .result) (c .last-code .result) (p .0 .some-budget) long refl (c .before .first-code .ensures) (c .last-code .ensures) (p .1 .0 .1) (c .before .before .before .loop-test .taken), l .inv .0 ∙ length-set (c .before .before .before .before .before .before .before .before .before .before .before .before .before .before .before .before .before .args .marks .now) (c .before .before .before .before .before .whole-entry .result) 1 ∙ p .1 .0 .2, p .1 .0 .3), l .inv .1)))
 
 same-length : tie.Need-same-length Inv-loop μ-loop
 same-length c =
-    c .before .before .before .mark-place .kept .1 .1 .1 .1 .1 .1 .1 .1 .1 .1 .1 .0 ∙ c .before .before .before .before .before .before .before .before .loop .inv .0 ∙ length-set (c .before .before .before .before .before .before .before .before .before .before .before .before .before .before .before .before .before .before .before .before .before .args .marks .now) (c .before .before .before .before .before .before .before .before .before .before .before .before .before .before .before .before .before .before .before .before .before .args .q .budgets - 1) 1
+    c .before .before .before .mark-place .kept .1 .1 .1 .1 .1 .1 .1 .1 .1 .1 .1 .0 ∙ c .before .before .before .before .before .before .before .before .loop .inv .0 ∙ length-set (c .before .before .before .before .before .before .before .before .before .before .before .before .before .before .before .before .before .before .before .before .before .args .marks .now) (c .before .before .before .before .before .before .before .before .before .whole-entry .result) 1
 
 returns : tie.Need-returns Inv-loop μ-loop
 returns c =
@@ -77,12 +73,12 @@ loop-again c =
       c .before .before .before .mark-place .kept .1 .1 .1 .1 .1 .1 .1 .1 .1 .1 .1 .0 ∙ l .inv .0,
       f .reached,
       λ z. absurd (omega arith),
-      λ z. rw add-one (search-on (tableBy (a .q) (a .heights .now) (a .bounds .now) (a .radices .now) (a .ys .now) (a .colours .now)) (capsIn (a .caps .now)) (a .q .budgets) (a .work .now) (a .marks .now) (l .marks) (l .a) (c .before .before .before .before .before .first-code .result) (c .before .before .before .before .last-code .result) (p .0 .some-budget) long refl (c .before .before .before .before .before .first-code .ensures) (c .before .before .before .before .last-code .ensures) _ (l .inv .2) (l .inv .3) f),
+      λ z. rw add-one (search-on (tableBy (a .q) (a .heights .now) (a .bounds .now) (a .radices .now) (a .ys .now) (a .colours .now)) (capsIn (a .caps .now)) (a .q .budgets) (a .work .now) (a .marks .now) (l .marks) (l .a) (c .before .before .before .before .before .first-code .result) (c .before .before .before .before .last-code .result) (p .0 .some-budget) long refl (c .before .before .before .before .before .first-code .ensures) (c .before .before .before .before .last-code .ensures) _ (λ z. l .inv .2 z ∙ ap (λ (k : ℕ). set (a .marks .now) k 1) (c .before .before .before .before .before .before .before .before .before .whole-entry .ensures)) (l .inv .3) f),
     )
 
 same-length-2 : tie.Need-same-length-2 Inv-loop μ-loop
 same-length-2 c =
-    c .before .loop .inv .0 ∙ length-set (c .before .before .before .before .before .before .before .before .before .before .before .before .before .before .args .marks .now) (c .before .before .before .before .before .before .before .before .before .before .before .before .before .before .args .q .budgets - 1) 1
+    c .before .loop .inv .0 ∙ length-set (c .before .before .before .before .before .before .before .before .before .before .before .before .before .before .args .marks .now) (c .before .before .whole-entry .result) 1
 
 returns-2 : tie.Need-returns-2 Inv-loop μ-loop
 returns-2 c =
@@ -95,8 +91,7 @@ keeps-marked-spec =
     Inv-loop
     μ-loop
     cast-m
-    sub-marks
-    cast-marks
+    whole-entry-requires
     slice-write-marks
     loop-holds
     first-code-requires
