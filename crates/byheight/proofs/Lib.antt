@@ -1,1 +1,1 @@
-mod Sites
+pub mod Sites

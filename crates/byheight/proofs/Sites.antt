@@ -1,5 +1,5 @@
 -- Sites in another order: strips and the least cost stay. Assumes nothing.
-use mathlib.Core.Path.{_≡_, refl, sym, ap, ap₂, _∙_, fun-ext, subst}
+use mathlib.Core.Path.{_≡_, refl, sym, ap, ap₂, _∙_, fun-ext, subst, subst⁻¹}
 use mathlib.Core.Bool.{Bool}
 use mathlib.Core.List.{List, [], _∷_, _++_}
 use Prim.Native.Nat.{ℕ, zero, suc, _+_, _-_, _<_}
@@ -149,6 +149,11 @@ module _ (q : Measures) (hs bs rs ys cs order : List ℕ) (r : Reorders order (l
   value-free =
       ap (value (tableBy q hs bs rs (gathered ys order) (gathered cs order))) (sym (none-taken order)) ∙ value-same q hs bs rs [] ys cs [] order r
 
+  right-none : (w : List ℕ) (a first code : ℕ) → RightTo (tableBy q hs bs rs (gathered ys order) (gathered cs order)) (λ i. 0) w (q .budgets) a first code → RightTo (tableBy q hs bs rs ys cs) (λ i. 0) w (q .budgets) a first code
+  right-none w a first code t =
+      right-back q hs bs rs [] ys cs [] order r w a first code
+      (subst⁻¹ (λ (f : ℕ → ℕ). RightTo (tableBy q hs bs rs (gathered ys order) (gathered cs order)) f w (q .budgets) a first code) (none-taken order) t)
+
   right-free : (w : List ℕ) (a first code : ℕ) → RightTo (tableBy q hs bs rs ys cs) (λ i. 0) w (q .budgets) a first code → RightTo (tableBy q hs bs rs (gathered ys order) (gathered cs order)) (λ i. 0) w (q .budgets) a first code
   right-free w a first code t =
       subst (λ (f : ℕ → ℕ). RightTo (tableBy q hs bs rs (gathered ys order) (gathered cs order)) f w (q .budgets) a first code) (none-taken order) (right-taken q hs bs rs [] ys cs [] order r w a first code t)
@@ -167,16 +172,18 @@ taken-front l order r n o e =
 pub front-long : (l order r : List ℕ) (n : ℕ) → Reorders order n → r ≡ gathered32 l order → n ≡ length (take n r)
 front-long l order r n o e = sym (ap length (taken-front l order r n o e) ∙ gathered-long l order ∙ o .long)
 
-module _ (q : Measures) (hs bs rs ds ys cs caps order : List ℕ) (r : Reorders order (length ys)) (x y z : List ℕ)
-    (x-is : x ≡ gathered32 ys order) (y-is : y ≡ gathered32 cs order) (z-is : z ≡ gathered32 caps order) where
+pub zero-part : (k n i : ℕ) → getD (take k (replicate {A = ℕ} n 0)) i 0 ≡ 0
+zero-part zero n i = refl
+zero-part (suc k) zero i = refl
+zero-part (suc k) (suc n) zero = refl
+zero-part (suc k) (suc n) (suc i) = zero-part k n i
+
+module _ (q : Measures) (hs bs rs ds ys cs order : List ℕ) (r : Reorders order (length ys)) (x y : List ℕ) (x-is : x ≡ gathered32 ys order) (y-is : y ≡ gathered32 cs order) where
   abbrev us : List ℕ
   us = take (length ys) x
 
   abbrev vs : List ℕ
   vs = take (length ys) y
-
-  abbrev ws : List ℕ
-  ws = take (length ys) z
 
   ys-is : us ≡ gathered ys order
   ys-is = taken-front ys order x (length ys) r x-is
@@ -184,28 +191,66 @@ module _ (q : Measures) (hs bs rs ds ys cs caps order : List ℕ) (r : Reorders 
   cs-is : vs ≡ gathered cs order
   cs-is = taken-front cs order y (length ys) r y-is
 
-  caps-is : ws ≡ gathered caps order
-  caps-is = taken-front caps order z (length ys) r z-is
-
-  pub fits-front : Fits q hs bs rs ds ys cs caps → Fits q hs bs rs ds us vs ws
-  fits-front f = rw (ys-is, cs-is, caps-is) (fits-same q hs bs rs ds ys cs caps order r f)
-
-  pub value-front : (v : ℕ) → v ≡ value (tableBy q hs bs rs us vs) (capsIn ws) → v ≡ value (tableBy q hs bs rs ys cs) (capsIn caps)
-  value-front v e = e ∙ rw (ys-is, cs-is, caps-is) (value-same q hs bs rs ds ys cs caps order r)
-
-  pub right-front : (w : List ℕ) → RightTo (tableBy q hs bs rs us vs) (capsIn ws) w (q .budgets) 0 0 1 → RightTo (tableBy q hs bs rs ys cs) (capsIn caps) w (q .budgets) 0 0 1
-  right-front w t = right-back q hs bs rs ds ys cs caps order r w 0 0 1 (rw (ys-is, cs-is, caps-is) at t)
-
-  -- without caps
   free-front : value (tableBy q hs bs rs us vs) (λ i. 0) ≡ value (tableBy q hs bs rs ys cs) (λ i. 0)
   free-front = rw (ys-is, cs-is) (value-free q hs bs rs ys cs order r)
 
+  -- caps that are all 0, of any array that has as many
+  module _ (size : ℕ) where
+    abbrev none : List ℕ
+    none = take (length ys) (replicate size 0)
+
+    none-is : capsIn none ≡ (λ i. 0)
+    none-is = fun-ext (λ i. zero-part (length ys) size i)
+
+    pub none-fits : length none ≡ length ys → Fits q hs bs rs ds ys cs ys → Fits q hs bs rs ds us vs none
+    none-fits n f =
+        let g = fits-same q hs bs rs ds ys cs ys order r f in
+        rw (ys-is, cs-is) (
+        record {
+          few-slots = g .few-slots;
+          rising = g .rising;
+          few-colours = g .few-colours;
+          some-budget = g .some-budget;
+          few-budgets = g .few-budgets;
+          bounds-long = g .bounds-long;
+          radices-long = g .radices-long;
+          draws-long = g .draws-long;
+          few-sites = g .few-sites;
+          colours-long = g .colours-long;
+          caps-long = n ∙ sym (gathered-long ys order ∙ r .long);
+          draws = g .draws;
+          whole = g .whole;
+        })
+
+    pub none-value : (v : ℕ) → v ≡ value (tableBy q hs bs rs us vs) (capsIn none) → v ≡ value (tableBy q hs bs rs ys cs) (λ i. 0)
+    none-value v e = e ∙ ap (value (tableBy q hs bs rs us vs)) none-is ∙ free-front
+
+    pub none-right : (w : List ℕ) → RightTo (tableBy q hs bs rs us vs) (capsIn none) w (q .budgets) 0 0 1 → RightTo (tableBy q hs bs rs ys cs) (λ i. 0) w (q .budgets) 0 0 1
+    none-right w t =
+        let u : RightTo (tableBy q hs bs rs us vs) (λ i. 0) w (q .budgets) 0 0 1 = subst (λ (f : ℕ → ℕ). RightTo (tableBy q hs bs rs us vs) f w (q .budgets) 0 0 1) none-is t in
+        right-none q hs bs rs ys cs order r w 0 0 1 (rw (ys-is, cs-is) at u)
+
+  -- the table without caps
   pub some-front : value (tableBy q hs bs rs ys cs) (λ i. 0) < topWord → value (tableBy q hs bs rs us vs) (λ i. 0) < topWord
   some-front h = rw free-front h
 
   pub free-right : (w : List ℕ) → RightTo (tableBy q hs bs rs ys cs) (λ i. 0) w (q .budgets) 0 0 1 → RightTo (tableBy q hs bs rs us vs) (λ i. 0) w (q .budgets) 0 0 1
   free-right w t = rw (ys-is, cs-is) (right-free q hs bs rs ys cs order r w 0 0 1 t)
 
-  pub keeps-front : (b : Bool) → b ≡ eqb (value (tableBy q hs bs rs us vs) (capsIn ws)) (value (tableBy q hs bs rs us vs) (λ i. 0)) →
-      b ≡ eqb (value (tableBy q hs bs rs ys cs) (capsIn caps)) (value (tableBy q hs bs rs ys cs) (λ i. 0))
-  keeps-front b e = e ∙ ap₂ eqb (value-front (value (tableBy q hs bs rs us vs) (capsIn ws)) refl) free-front
+  -- with caps
+  module _ (caps z : List ℕ) (z-is : z ≡ gathered32 caps order) where
+    abbrev ws : List ℕ
+    ws = take (length ys) z
+
+    caps-is : ws ≡ gathered caps order
+    caps-is = taken-front caps order z (length ys) r z-is
+
+    pub fits-front : Fits q hs bs rs ds ys cs caps → Fits q hs bs rs ds us vs ws
+    fits-front f = rw (ys-is, cs-is, caps-is) (fits-same q hs bs rs ds ys cs caps order r f)
+
+    pub value-front : (v : ℕ) → v ≡ value (tableBy q hs bs rs us vs) (capsIn ws) → v ≡ value (tableBy q hs bs rs ys cs) (capsIn caps)
+    value-front v e = e ∙ rw (ys-is, cs-is, caps-is) (value-same q hs bs rs ds ys cs caps order r)
+
+    pub keeps-front : (b : Bool) → b ≡ eqb (value (tableBy q hs bs rs us vs) (capsIn ws)) (value (tableBy q hs bs rs us vs) (λ i. 0)) →
+        b ≡ eqb (value (tableBy q hs bs rs ys cs) (capsIn caps)) (value (tableBy q hs bs rs ys cs) (λ i. 0))
+    keeps-front b e = e ∙ ap₂ eqb (value-front (value (tableBy q hs bs rs us vs) (capsIn ws)) refl) free-front

@@ -38,45 +38,34 @@ use Rattle.twosided.specs.Layouts.{countBy, lengthBy, laidBy, Laid}
 
 -- ---- a call on arrays
 
-module _ (q : Measures) (hs bs rs ys cs xs caps : List ℕ) (zeros : (i : ℕ) → getD caps i 0 ≡ 0) where
+module _ (q : Measures) (hs bs rs ys cs xs : List ℕ) where
   abbrev G : Instance
   G = instanceBy q hs bs rs ys cs xs
 
-  caps-none : capsIn caps ≡ uncapped
-  caps-none = fun-ext zeros
-
-  pub least-is : (w : ℕ) → w ≡ value (tableBy q hs bs rs ys cs) (capsIn caps) → w ≡ value G uncapped
-  least-is w e = e ∙ sym (value-ranks q hs bs rs ys cs xs (capsIn caps)) ∙ ap (value G) caps-none
+  least-is : (w : ℕ) → w ≡ value (tableBy q hs bs rs ys cs) uncapped → w ≡ value G uncapped
+  least-is w e = e ∙ sym (value-ranks q hs bs rs ys cs xs uncapped)
 
   -- what the walk asks of the table, at the least cost that was found
-  pub steady-at : (w : ℕ) → w ≡ value (tableBy q hs bs rs ys cs) (capsIn caps) → (w ≡ topWord → ⊥) → w ≤ topWord →
+  pub steady-at : (w : ℕ) → w ≡ value (tableBy q hs bs rs ys cs) uncapped → (w ≡ topWord → ⊥) → w ≤ topWord →
       (value (tableBy q hs bs rs ys cs) uncapped < topWord → Steady (tableBy q hs bs rs ys cs) (value (tableBy q hs bs rs ys cs) uncapped)) → Steady (tableBy q hs bs rs ys cs) w
-  steady-at w e z b f =
-      let v : w ≡ value (tableBy q hs bs rs ys cs) uncapped = e ∙ ap (value (tableBy q hs bs rs ys cs)) caps-none in
-      subst⁻¹ (λ (k : ℕ). Steady (tableBy q hs bs rs ys cs) k) v (f (omega (arith, z)))
+  steady-at w e z b f = subst⁻¹ (λ (k : ℕ). Steady (tableBy q hs bs rs ys cs) k) e (f (omega (arith, z)))
 
-  -- what it reads: the words of a table filled with these caps
-  pub filled-at : (w : ℕ) (work : List ℕ) → tableWords q hs ≤ length work → w ≡ value (tableBy q hs bs rs ys cs) (capsIn caps) → (w ≡ topWord → ⊥) → w ≤ topWord →
-      RightTo (tableBy q hs bs rs ys cs) (capsIn caps) work (q .budgets) 0 0 1 → Filled q hs bs rs ys cs work w
-  filled-at w work l e z b r =
-      record {
-        long = l;
-        right = subst (λ (f : ℕ → ℕ). RightTo (tableBy q hs bs rs ys cs) f work (q .budgets) 0 0 1) caps-none r;
-        least-is = sym (e ∙ ap (value (tableBy q hs bs rs ys cs)) caps-none);
-        some = omega (arith, z);
-      }
+  -- what it reads: the words of the table
+  pub filled-at : (w : ℕ) (work : List ℕ) → tableWords q hs ≤ length work → w ≡ value (tableBy q hs bs rs ys cs) uncapped → (w ≡ topWord → ⊥) → w ≤ topWord →
+      RightTo (tableBy q hs bs rs ys cs) uncapped work (q .budgets) 0 0 1 → Filled q hs bs rs ys cs work w
+  filled-at w work l e z b r = record { long = l; right = r; least-is = sym e; some = omega (arith, z) }
 
   cut : (n : ℕ) (work now : List ℕ) → drop n now ≡ drop n work → replicate n 0 ++ drop n now ≡ replicate n 0 ++ drop n work
   cut n work now e = ap (λ (l : List ℕ). replicate n 0 ++ l) e
 
-  pub laid-none : (w words : ℕ) (work now zeroed out : List ℕ) → w ≡ value (tableBy q hs bs rs ys cs) (capsIn caps) → w ≡ topWord →
+  pub laid-none : (w words : ℕ) (work now zeroed out : List ℕ) → w ≡ value (tableBy q hs bs rs ys cs) uncapped → w ≡ topWord →
       drop words now ≡ drop words work → zeroed ≡ replicate words 0 ++ drop words now → Laid q G words work out 10 zeroed out
   laid-none w words work now zeroed out e z d c =
       let v : value G uncapped ≡ topWord = sym (least-is w e) ∙ z in
       let l : ltb (value G uncapped) topWord ≡ false = le-ltb (value G uncapped) topWord (omega arith) in
       record { fault-is = rw l; out-is = rw l; work-is = c ∙ cut words work now d }
 
-  pub laid-some : (w head words : ℕ) (new work now zeroed out outs : List ℕ) → w ≡ value (tableBy q hs bs rs ys cs) (capsIn caps) → (w ≡ topWord → ⊥) → w ≤ topWord →
+  pub laid-some : (w head words : ℕ) (new work now zeroed out outs : List ℕ) → w ≡ value (tableBy q hs bs rs ys cs) uncapped → (w ≡ topWord → ⊥) → w ≤ topWord →
       length new ≡ length ys → capsIn new ≡ capAll G w (length ys) uncapped → head ≡ 8 * 268435456 + countBy q w * 2097152 + lengthBy q w →
       outs ≡ wordsBy head new ++ drop (length new + 1) out →
       drop words now ≡ drop words work → zeroed ≡ replicate words 0 ++ drop words now → Laid q G words work out 0 zeroed outs
@@ -183,9 +172,8 @@ module _ (s : Sheet) where
   }
 
   module _ (o : Sound s) where
-    pub sheet-fits : (caps : List ℕ) → length caps ≡ length (s .sites) →
-        Fits (measuresOf s) (s .slots) bs (radicesBy bs) (drawsBy 1 bs) (ysOf (s .sites)) (coloursOf (s .sites)) caps
-    sheet-fits caps e =
+    sheet-fits : Fits (measuresOf s) (s .slots) bs (radicesBy bs) (drawsBy 1 bs) (ysOf (s .sites)) (coloursOf (s .sites)) (ysOf (s .sites))
+    sheet-fits =
         let c = bounds-long (s .colours) in
         let p = product-are (s .colours) in
         record {
@@ -199,7 +187,7 @@ module _ (s : Sheet) where
           draws-long = draws-long 1 bs ∙ c;
           few-sites = omega (arith, ys-long (s .sites), o .few-sites);
           colours-long = cs-long (s .sites) ∙ sym (ys-long (s .sites));
-          caps-long = e ∙ sym (ys-long (s .sites));
+          caps-long = refl;
           draws = λ d l. draw-part bs 1 d (omega arith) ∙ ap (λ (z : ℕ). cond (eqb (getD bs d 0) 255) 0 z) (one-mul (place (radicesBy bs) d));
           whole = λ d l. let w = whole-part bs d (omega arith) in (w .0, sym p ∙ w .1);
         }
@@ -254,12 +242,6 @@ part-is size l r k e h = ap (take k) e ∙ front size l k h
 pub part-long : (size : ℕ) (l r : List ℕ) (k : ℕ) → r ≡ padded size l → k ≡ length l → k ≡ length (take k r)
 part-long size l r k e h = h ∙ ap length (sym (part-is size l r k e h))
 
-pub zero-part : (k n i : ℕ) → getD (take k (replicate {A = ℕ} n 0)) i 0 ≡ 0
-zero-part zero n i = refl
-zero-part (suc k) zero i = refl
-zero-part (suc k) (suc n) zero = refl
-zero-part (suc k) (suc n) (suc i) = zero-part k n i
-
 cons-low : (b : ℕ) (l : List ℕ) → b < 256 → ((i : ℕ) → getD l i 0 < 256) → (i : ℕ) → getD (b ∷ l) i 0 < 256
 cons-low b l h k zero = h
 cons-low b l h k (suc i) = k i
@@ -283,11 +265,11 @@ module _ (ws : List ℕ) (f : sheetFault ws ≡ 0) where
   pub product-low : (bs : List ℕ) → bs ≡ boundsOf ((sheetIn ws) .colours) → productBy bs ≤ 64
   product-low bs e = rw (e, product-are ((sheetIn ws) .colours)) (sound ws f .product)
 
-  pub fits-from : (q : Measures) (hs bs rs ds ys cs caps : List ℕ) → q ≡ measuresOf (sheetIn ws) → hs ≡ (sheetIn ws) .slots → bs ≡ boundsOf ((sheetIn ws) .colours) →
-      rs ≡ radicesBy bs → ds ≡ drawsBy 1 bs → ys ≡ ysOf ((sheetIn ws) .sites) → cs ≡ coloursOf ((sheetIn ws) .sites) → length caps ≡ length ((sheetIn ws) .sites) →
-      Fits q hs bs rs ds ys cs caps
-  fits-from q hs bs rs ds ys cs caps e₁ e₂ e₃ e₄ e₅ e₆ e₇ n =
-      rw (e₁, e₂, e₄, e₅, e₃, e₆, e₇) (sheet-fits (sheetIn ws) (sound ws f) caps n)
+  pub fits-from : (q : Measures) (hs bs rs ds ys cs : List ℕ) → q ≡ measuresOf (sheetIn ws) → hs ≡ (sheetIn ws) .slots → bs ≡ boundsOf ((sheetIn ws) .colours) →
+      rs ≡ radicesBy bs → ds ≡ drawsBy 1 bs → ys ≡ ysOf ((sheetIn ws) .sites) → cs ≡ coloursOf ((sheetIn ws) .sites) →
+      Fits q hs bs rs ds ys cs ys
+  fits-from q hs bs rs ds ys cs e₁ e₂ e₃ e₄ e₅ e₆ e₇ =
+      rw (e₁, e₂, e₄, e₅, e₃, e₆, e₇) (sheet-fits (sheetIn ws) (sound ws f))
 
 -- and the areas are long enough for them
 pub areas-from : (ws k o : List ℕ) → takesSheet ws k o → (sheetIn ws) .isTwoSided ≡ true → (q : Measures) (hs ys : List ℕ) →

@@ -148,7 +148,7 @@ fn site_order(ys: &[u32]) -> [u32; 32]
     order
 }
 
-// The layout from a sheet's arrays; none of the caps is set.
+// The layout from a sheet's arrays.
 fn lay_sites(
     q: Measures,
     heights: &[u32],
@@ -158,31 +158,19 @@ fn lay_sites(
     ys: &[u32],
     colours: &[u32],
     ranks: &[u32],
-    caps: &[u32],
     work: &mut [u32],
     out: &mut [u32],
 ) -> u8
-    requires { ⌜ Fits q (now heights) (now bounds) (now radices) (now draws) (now ys) (now colours) (now caps) ⌝ }
-    requires { ⌜ ((i : ℕ) → getD (now caps) i 0 ≡ 0) ⌝ }
+    requires { ⌜ Fits q (now heights) (now bounds) (now radices) (now draws) (now ys) (now colours) (now ys) ⌝ }
     requires { ⌜ (tableWords q (now heights) ≤ length (now work)) × (length (now ys) + 1 ≤ length (now out)) ⌝ }
     requires { ⌜ (value (tableBy q (now heights) (now bounds) (now radices) (now ys) (now colours)) uncapped < 4294967295 → Steady (tableBy q (now heights) (now bounds) (now radices) (now ys) (now colours)) (value (tableBy q (now heights) (now bounds) (now radices) (now ys) (now colours)) uncapped)) ⌝ }
     ensures { λ r. ⌜ Laid q (instanceBy q (now (heights .entry)) (now (bounds .entry)) (now (radices .entry)) (now (ys .entry)) (now (colours .entry)) (now (ranks .entry))) (tableWords q (now (heights .entry))) (now (work .entry)) (now (out .entry)) r (now (work .exit)) (now (out .exit)) ⌝ }
 {
     let n = ys.len();
-    let order = site_order(ys);
+    let sites = site_order(ys);
+    let order = &sites[..n];
     let cells = table_words(q, heights.len());
-    let least = value_of(
-        q,
-        heights,
-        bounds,
-        radices,
-        draws,
-        ys,
-        colours,
-        &order[..n],
-        caps,
-        work,
-    );
+    let least = value_of(q, heights, bounds, radices, draws, ys, colours, order, work);
     if least == NONE {
         clear(work, cells);
         return 10;
@@ -195,7 +183,7 @@ fn lay_sites(
         draws,
         ys,
         colours,
-        &order[..n],
+        order,
         ranks,
         work,
         least,
@@ -226,22 +214,21 @@ pub fn lay_two_sided(
     let heights = heights_of(sheet);
     let bounds = bounds_of(sheet);
     let kinds = colours as usize;
-    let radices = radices_of(&bounds[..kinds]);
-    let draws = draws_of(&bounds[..kinds]);
+    let used = &bounds[..kinds];
+    let radices = radices_of(used);
+    let draws = draws_of(used);
     let xs = xs_of(sheet);
     let ys = ys_of(sheet);
     let codes = colours_of(sheet);
-    let caps = [0u32; 32];
     lay_sites(
         q,
         &heights[..slots],
-        &bounds[..kinds],
+        used,
         &radices[..kinds],
         &draws[..kinds],
         &ys[..sites],
         &codes[..sites],
         &xs[..sites],
-        &caps[..sites],
         work,
         out,
     )

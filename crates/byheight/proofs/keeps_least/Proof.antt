@@ -59,18 +59,18 @@ slice-aggregate-keeps-sorted-3 c =
 keeps-sorted-requires : tie.Need-keeps-sorted-requires
 keeps-sorted-requires c κs =
     let a = c .before .before .before .before .before .before .before .before .before .before .before .before .before .before .before .before .before .before .before .before .before .args in let p = c .before .before .before .before .before .before .before .before .before .before .before .before .before .before .before .before .before .before .before .before .before .pre in (
-      fits-front (a .q) (a .heights .now) (a .bounds .now) (a .radices .now) (a .draws .now) (a .ys .now) (a .colours .now) (a .caps .now) (a .order .now) (p .1 .0 .0) _ _ _ (c .before .before .before .before .before .before .before .before .before .before .gather-into .ensures) (c .before .before .before .before .before .before .before .gather-into2 .ensures) (c .before .before .before .before .gather-into3 .ensures) (p .0),
+      fits-front (a .q) (a .heights .now) (a .bounds .now) (a .radices .now) (a .draws .now) (a .ys .now) (a .colours .now) (a .order .now) (p .1 .0 .0) _ _ (c .before .before .before .before .before .before .before .before .before .before .gather-into .ensures) (c .before .before .before .before .before .before .before .gather-into2 .ensures) (a .caps .now) _ (c .before .before .before .before .gather-into3 .ensures) (p .0),
       (
-        free-right (a .q) (a .heights .now) (a .bounds .now) (a .radices .now) (a .draws .now) (a .ys .now) (a .colours .now) (a .caps .now) (a .order .now) (p .1 .0 .0) _ _ _ (c .before .before .before .before .before .before .before .before .before .before .gather-into .ensures) (c .before .before .before .before .before .before .before .gather-into2 .ensures) (c .before .before .before .before .gather-into3 .ensures) (a .work .now) (p .1 .1 .0),
+        free-right (a .q) (a .heights .now) (a .bounds .now) (a .radices .now) (a .draws .now) (a .ys .now) (a .colours .now) (a .order .now) (p .1 .0 .0) _ _ (c .before .before .before .before .before .before .before .before .before .before .gather-into .ensures) (c .before .before .before .before .before .before .before .gather-into2 .ensures) (a .work .now) (p .1 .1 .0),
         p .1 .0 .1,
-        some-front (a .q) (a .heights .now) (a .bounds .now) (a .radices .now) (a .draws .now) (a .ys .now) (a .colours .now) (a .caps .now) (a .order .now) (p .1 .0 .0) _ _ _ (c .before .before .before .before .before .before .before .before .before .before .gather-into .ensures) (c .before .before .before .before .before .before .before .gather-into2 .ensures) (c .before .before .before .before .gather-into3 .ensures) (p .1 .1 .1),
+        some-front (a .q) (a .heights .now) (a .bounds .now) (a .radices .now) (a .draws .now) (a .ys .now) (a .colours .now) (a .order .now) (p .1 .0 .0) _ _ (c .before .before .before .before .before .before .before .before .before .before .gather-into .ensures) (c .before .before .before .before .before .before .before .gather-into2 .ensures) (p .1 .1 .1),
       ),
     )
 
 returns : tie.Need-returns
 returns c =
     let a = c .before .before .before .before .before .before .before .before .before .before .before .before .before .before .before .before .before .before .before .before .before .before .args in let p = c .before .before .before .before .before .before .before .before .before .before .before .before .before .before .before .before .before .before .before .before .before .before .pre in
-    keeps-front (a .q) (a .heights .now) (a .bounds .now) (a .radices .now) (a .draws .now) (a .ys .now) (a .colours .now) (a .caps .now) (a .order .now) (p .1 .0 .0) _ _ _ (c .before .before .before .before .before .before .before .before .before .before .before .gather-into .ensures) (c .before .before .before .before .before .before .before .before .gather-into2 .ensures) (c .before .before .before .before .before .gather-into3 .ensures) (c .keeps-sorted .result) (c .keeps-sorted .ensures)
+    keeps-front (a .q) (a .heights .now) (a .bounds .now) (a .radices .now) (a .draws .now) (a .ys .now) (a .colours .now) (a .order .now) (p .1 .0 .0) _ _ (c .before .before .before .before .before .before .before .before .before .before .before .gather-into .ensures) (c .before .before .before .before .before .before .before .before .gather-into2 .ensures) (a .caps .now) _ (c .before .before .before .before .before .gather-into3 .ensures) (c .keeps-sorted .result) (c .keeps-sorted .ensures)
 
 pub keeps-least-spec : {M : Type 1} → statement M
 keeps-least-spec =

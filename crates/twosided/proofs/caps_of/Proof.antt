@@ -2,7 +2,7 @@ use lib.ListN.{replicate, length-replicate}
 use lib.Seq.{length-take-le}
 use Rattle.usedslots.specs.Table.{instanceBy, tableBy}
 use Rattle.goals.proofs.Goals.{fits-set}
-use Rattle.twosided.proofs.Answer.{zero-part}
+use Rattle.byheight.proofs.Sites.{zero-part}
 use Rattle.twosided.proofs.Caps.{caps-part, value-none}
 use mathlib.Core.Path.{sym, _∙_}
 use Prim.Native.Nat.{ℕ}

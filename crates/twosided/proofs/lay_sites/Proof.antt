@@ -1,5 +1,4 @@
 use Rattle.usedslots.specs.Table.{tableWords}
-use Rattle.goals.proofs.Goals.{fits-set}
 use Rattle.twosided.proofs.Answer.{laid-none, laid-some, steady-at, filled-at}
 use mathlib.Core.Path.{sym}
 use Prim.Native.Nat.{_≤_}
@@ -12,14 +11,14 @@ use Rattle.twosided.proofs.lay_sites.Tie as tie
 site-order-requires : tie.Need-site-order-requires
 site-order-requires c κs = search needs
 
+array-share-prefix-sites : tie.Need-array-share-prefix-sites
+array-share-prefix-sites c = search needs
+
+slice-aggregate-order : tie.Need-slice-aggregate-order
+slice-aggregate-order c = search needs
+
 table-words-requires : tie.Need-table-words-requires
 table-words-requires c κs = search needs
-
-array-share-prefix-order : tie.Need-array-share-prefix-order
-array-share-prefix-order c = search needs
-
-slice-aggregate-value-of : tie.Need-slice-aggregate-value-of
-slice-aggregate-value-of c = search needs
 
 value-of-requires : tie.Need-value-of-requires
 value-of-requires c κs = search needs
@@ -32,22 +31,16 @@ same-length c = search needs
 
 returns : tie.Need-returns
 returns c =
-    let a = c .before .before .before .before .before .before .before .before .before .before .before .before .before .before .before .before .before .before .before .before .before .before .args in let p = c .before .before .before .before .before .before .before .before .before .before .before .before .before .before .before .before .before .before .before .before .before .before .pre in let v = c .before .before .before .before .before .before .before .value-of in
-    laid-none (a .q) (a .heights .now) (a .bounds .now) (a .radices .now) (a .ys .now) (a .colours .now) (a .ranks .now) (a .caps .now) (p .1 .0) (v .result) (tableWords (a .q) (a .heights .now)) (a .work .now) (v .last .1 .1 .1 .1 .1 .1 .1 .1 .1 .0) (c .before .before .clear .last .0) (a .out .now) (v .ensures .0) (c .before .before .before .before .if1 .taken) (v .ensures .1 .1)
-    (rw (c .before .before .before .before .before .before .before .before .before .before .table-words .ensures) at (c .before .before .clear .ensures))
-
-array-share-prefix-order-2 : tie.Need-array-share-prefix-order-2
-array-share-prefix-order-2 c = search needs
-
-slice-aggregate-caps-of : tie.Need-slice-aggregate-caps-of
-slice-aggregate-caps-of c = search needs
+    let a = c .before .before .before .before .before .before .before .before .before .before .before .before .before .before .before .before .before .before .before .before .before .args in let p = c .before .before .before .before .before .before .before .before .before .before .before .before .before .before .before .before .before .before .before .before .before .pre in let v = c .before .before .before .before .before .before .before .value-of in
+    laid-none (a .q) (a .heights .now) (a .bounds .now) (a .radices .now) (a .ys .now) (a .colours .now) (a .ranks .now) (v .result) (tableWords (a .q) (a .heights .now)) (a .work .now) (v .last .1 .1 .1 .1 .1 .1 .1 .1 .0) (c .before .before .clear .last .0) (a .out .now) (v .ensures .0) (c .before .before .before .before .if1 .taken) (v .ensures .1 .1)
+    (rw (c .before .before .before .before .before .before .before .before .before .table-words .ensures) at (c .before .before .clear .ensures))
 
 caps-of-requires : tie.Need-caps-of-requires
 caps-of-requires c κs =
-    let a = c .before .before .before .before .before .before .before .before .before .before .before .before .before .before .before .before .before .before .before .before .args in let p = c .before .before .before .before .before .before .before .before .before .before .before .before .before .before .before .before .before .before .before .before .pre in let v = c .before .before .before .before .before .value-of in
-    let l : tableWords (a .q) (a .heights .now) ≤ length (v .last .1 .1 .1 .1 .1 .1 .1 .1 .1 .0) = omega (arith, p .1 .1 .0 .0, v .kept .1 .1 .1 .1 .1 .1 .1 .1 .1 .0) in (
-      fits-set (a .q) (a .heights .now) (a .bounds .now) (a .radices .now) (a .draws .now) (a .ys .now) (a .colours .now) (a .caps .now) (a .ys .now) (sym (p .0 .caps-long)) (p .0),
-      (filled-at (a .q) (a .heights .now) (a .bounds .now) (a .radices .now) (a .ys .now) (a .colours .now) (a .ranks .now) (a .caps .now) (p .1 .0) (v .result) (v .last .1 .1 .1 .1 .1 .1 .1 .1 .1 .0) l (v .ensures .0) (c .before .before .if1 .left) (omega (arith, v .ok)) (v .ensures .1 .0), c .before .before .before .before .before .before .before .before .before .site-order .ensures, steady-at (a .q) (a .heights .now) (a .bounds .now) (a .radices .now) (a .ys .now) (a .colours .now) (a .ranks .now) (a .caps .now) (p .1 .0) (v .result) (v .ensures .0) (c .before .before .if1 .left) (omega (arith, v .ok)) (p .1 .1 .1)),
+    let a = c .before .before .before .before .before .before .before .before .before .before .before .before .before .before .before .before .before .before .args in let p = c .before .before .before .before .before .before .before .before .before .before .before .before .before .before .before .before .before .before .pre in let v = c .before .before .before .before .value-of in
+    let l : tableWords (a .q) (a .heights .now) ≤ length (v .last .1 .1 .1 .1 .1 .1 .1 .1 .0) = omega (arith, p .1 .0 .0, v .kept .1 .1 .1 .1 .1 .1 .1 .1 .0) in (
+      p .0,
+      (filled-at (a .q) (a .heights .now) (a .bounds .now) (a .radices .now) (a .ys .now) (a .colours .now) (a .ranks .now) (v .result) (v .last .1 .1 .1 .1 .1 .1 .1 .1 .0) l (v .ensures .0) (c .before .if1 .left) (omega (arith, v .ok)) (v .ensures .1 .0), c .before .before .before .before .before .before .before .before .site-order .ensures, steady-at (a .q) (a .heights .now) (a .bounds .now) (a .radices .now) (a .ys .now) (a .colours .now) (a .ranks .now) (v .result) (v .ensures .0) (c .before .if1 .left) (omega (arith, v .ok)) (p .1 .1)),
     )
 
 head-word-requires : tie.Need-head-word-requires
@@ -55,7 +48,7 @@ head-word-requires c κs = search needs
 
 array-share-prefix-found : tie.Need-array-share-prefix-found
 array-share-prefix-found c =
-    omega (arith, c .before .before .before .before .before .before .before .before .before .before .before .before .before .before .before .before .before .before .before .before .before .before .pre .0 .few-sites)
+    omega (arith, c .before .before .before .before .before .before .before .before .before .before .before .before .before .before .before .before .before .before .before .before .pre .0 .few-sites)
 
 slice-aggregate-write-layout : tie.Need-slice-aggregate-write-layout
 slice-aggregate-write-layout c =
@@ -63,12 +56,12 @@ slice-aggregate-write-layout c =
 
 write-layout-requires : tie.Need-write-layout-requires
 write-layout-requires c κs =
-    let p = c .before .before .before .before .before .before .before .before .before .before .before .before .before .before .before .before .before .before .before .before .before .before .before .before .pre in let k = c .before .before .before .caps-of in
-    (omega (arith, k .ensures .1 .0, p .1 .1 .0), omega (arith, k .ensures .1 .0, p .0 .few-sites), k .ensures .1 .1)
+    let p = c .before .before .before .before .before .before .before .before .before .before .before .before .before .before .before .before .before .before .before .before .before .before .pre in let k = c .before .before .before .caps-of in
+    (omega (arith, k .ensures .1 .0, p .1 .0), omega (arith, k .ensures .1 .0, p .0 .few-sites), k .ensures .1 .1)
 
 clear-requires-2 : tie.Need-clear-requires-2
 clear-requires-2 c κs =
-    omega (arith, c .before .before .before .before .before .before .before .before .before .before .before .before .before .before .before .before .table-words .ensures, c .before .before .before .before .before .before .before .before .before .before .before .before .before .value-of .kept .1 .1 .1 .1 .1 .1 .1 .1 .1 .0, c .before .before .before .before .before .before .before .before .before .before .before .before .before .before .before .before .before .before .before .before .before .before .before .before .before .before .before .before .pre .1 .1 .0 .0)
+    omega (arith, c .before .before .before .before .before .before .before .before .before .before .before .before .before .before .table-words .ensures, c .before .before .before .before .before .before .before .before .before .before .before .before .value-of .kept .1 .1 .1 .1 .1 .1 .1 .1 .0, c .before .before .before .before .before .before .before .before .before .before .before .before .before .before .before .before .before .before .before .before .before .before .before .before .before .before .pre .1 .0 .0)
 
 same-length-2 : tie.Need-same-length-2
 same-length-2 c = search needs
@@ -78,25 +71,23 @@ same-length-3 c = search needs
 
 returns-2 : tie.Need-returns-2
 returns-2 c =
-    let a = c .before .before .before .before .before .before .before .before .before .before .before .before .before .before .before .before .before .before .before .before .before .before .before .before .before .before .before .before .before .before .before .args in let p = c .before .before .before .before .before .before .before .before .before .before .before .before .before .before .before .before .before .before .before .before .before .before .before .before .before .before .before .before .before .before .before .pre in let v = c .before .before .before .before .before .before .before .before .before .before .before .before .before .before .before .before .value-of in let k = c .before .before .before .before .before .before .before .before .before .before .caps-of in
-    laid-some (a .q) (a .heights .now) (a .bounds .now) (a .radices .now) (a .ys .now) (a .colours .now) (a .ranks .now) (a .caps .now) (p .1 .0) (v .result) (c .before .before .before .before .before .before .before .before .before .head-word .result) (tableWords (a .q) (a .heights .now)) (take (length (a .ys .now)) (k .result)) (a .work .now) (v .last .1 .1 .1 .1 .1 .1 .1 .1 .1 .0) (c .before .before .clear2 .last .0) (a .out .now) (c .before .before .before .before .before .before .write-layout .last .1 .1 .0)
-    (v .ensures .0) (c .before .before .before .before .before .before .before .before .before .before .before .before .before .if1 .left) (omega (arith, v .ok)) (k .ensures .1 .0) (k .ensures .0) (c .before .before .before .before .before .before .before .before .before .head-word .ensures) (c .before .before .before .before .before .before .write-layout .ensures)
-    (v .ensures .1 .1) (rw (c .before .before .before .before .before .before .before .before .before .before .before .before .before .before .before .before .before .before .before .table-words .ensures) at (c .before .before .clear2 .ensures))
+    let a = c .before .before .before .before .before .before .before .before .before .before .before .before .before .before .before .before .before .before .before .before .before .before .before .before .before .before .before .before .before .args in let p = c .before .before .before .before .before .before .before .before .before .before .before .before .before .before .before .before .before .before .before .before .before .before .before .before .before .before .before .before .before .pre in let v = c .before .before .before .before .before .before .before .before .before .before .before .before .before .before .before .value-of in let k = c .before .before .before .before .before .before .before .before .before .before .caps-of in
+    laid-some (a .q) (a .heights .now) (a .bounds .now) (a .radices .now) (a .ys .now) (a .colours .now) (a .ranks .now) (v .result) (c .before .before .before .before .before .before .before .before .before .head-word .result) (tableWords (a .q) (a .heights .now)) (take (length (a .ys .now)) (k .result)) (a .work .now) (v .last .1 .1 .1 .1 .1 .1 .1 .1 .0) (c .before .before .clear2 .last .0) (a .out .now) (c .before .before .before .before .before .before .write-layout .last .1 .1 .0)
+    (v .ensures .0) (c .before .before .before .before .before .before .before .before .before .before .before .before .if1 .left) (omega (arith, v .ok)) (k .ensures .1 .0) (k .ensures .0) (c .before .before .before .before .before .before .before .before .before .head-word .ensures) (c .before .before .before .before .before .before .write-layout .ensures)
+    (v .ensures .1 .1) (rw (c .before .before .before .before .before .before .before .before .before .before .before .before .before .before .before .before .before .table-words .ensures) at (c .before .before .clear2 .ensures))
 
 pub lay-sites-spec : {M : Type 1} → statement M
 lay-sites-spec =
     tie.close
     (tie.spec
     site-order-requires
+    array-share-prefix-sites
+    slice-aggregate-order
     table-words-requires
-    array-share-prefix-order
-    slice-aggregate-value-of
     value-of-requires
     clear-requires
     same-length
     returns
-    array-share-prefix-order-2
-    slice-aggregate-caps-of
     caps-of-requires
     head-word-requires
     array-share-prefix-found

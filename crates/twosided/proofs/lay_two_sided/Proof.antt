@@ -1,12 +1,9 @@
-use lib.ListN.{replicate, length-replicate}
-use lib.Seq.{length-take-le}
 use Rattle.sheet.specs.Sheet.{sheetIn}
 use Rattle.sheet.proofs.Accepted.{sound}
 use Rattle.arrays.specs.Arrays.{boundsOf, xsOf, ysOf, coloursOf, radicesBy, drawsBy}
 use Rattle.arrays.proofs.Ordered.{radices-long, draws-long}
-use Rattle.twosided.proofs.Answer.{part-is, part-long, zero-part, bounds-long, ys-long, cs-long, xs-long, bounds-part, bounds-low, product-low, fits-from, areas-from, steady-made, made}
-use mathlib.Core.Path.{_≡_, ap, sym, _∙_}
-use Prim.Native.Nat.{ℕ}
+use Rattle.twosided.proofs.Answer.{part-is, part-long, bounds-long, ys-long, cs-long, xs-long, bounds-part, bounds-low, product-low, fits-from, areas-from, steady-made, made}
+use mathlib.Core.Path.{ap, sym, _∙_}
 use native.Mathlib.Omega.{arith}
 use lib.ListN.{length, take}
 use borrow.Author.Needs.{needs}
@@ -27,8 +24,8 @@ array-share-prefix-bounds c =
     let a = c .before .before .before .before .before .before .args in let p = c .before .before .before .before .before .before .pre in
     omega (arith, p .1 .1 .1, sound (a .sheet .now) (p .0 .1) .few-colours)
 
-slice-aggregate-radices-of : tie.Need-slice-aggregate-radices-of
-slice-aggregate-radices-of c =
+slice-aggregate-used : tie.Need-slice-aggregate-used
+slice-aggregate-used c =
     let a = c .before .before .before .before .before .before .before .args in let p = c .before .before .before .before .before .before .before .pre in
     part-long 8 (boundsOf ((sheetIn (a .sheet .now)) .colours)) (c .before .bounds-of .result) (a .colours) (c .before .bounds-of .ensures) (p .1 .1 .1 ∙ sym (bounds-long ((sheetIn (a .sheet .now)) .colours)))
 
@@ -38,21 +35,11 @@ radices-of-requires c κs =
     let e = (bounds-part (a .sheet .now) (p .0 .1) (c .before .bounds-of .result) (a .colours) (c .before .bounds-of .ensures) (p .1 .1 .1)) in
     (omega (arith, ap length e, bounds-long ((sheetIn (a .sheet .now)) .colours), sound (a .sheet .now) (p .0 .1) .few-colours), bounds-low (a .sheet .now) (p .0 .1) (take (a .colours) (c .before .bounds-of .result)) e)
 
-array-share-prefix-bounds-2 : tie.Need-array-share-prefix-bounds-2
-array-share-prefix-bounds-2 c =
-    let a = c .before .before .before .before .before .before .before .before .args in let p = c .before .before .before .before .before .before .before .before .pre in
-    omega (arith, p .1 .1 .1, sound (a .sheet .now) (p .0 .1) .few-colours)
-
-slice-aggregate-draws-of : tie.Need-slice-aggregate-draws-of
-slice-aggregate-draws-of c =
-    let a = c .before .before .before .before .before .before .before .before .before .args in let p = c .before .before .before .before .before .before .before .before .before .pre in
-    part-long 8 (boundsOf ((sheetIn (a .sheet .now)) .colours)) (c .before .before .before .bounds-of .result) (a .colours) (c .before .before .before .bounds-of .ensures) (p .1 .1 .1 ∙ sym (bounds-long ((sheetIn (a .sheet .now)) .colours)))
-
 draws-of-requires : tie.Need-draws-of-requires
 draws-of-requires c κs =
-    let a = c .before .before .before .before .before .before .before .before .before .args in let p = c .before .before .before .before .before .before .before .before .before .pre in
-    let e = (bounds-part (a .sheet .now) (p .0 .1) (c .before .before .before .bounds-of .result) (a .colours) (c .before .before .before .bounds-of .ensures) (p .1 .1 .1)) in
-    (omega (arith, ap length e, bounds-long ((sheetIn (a .sheet .now)) .colours), sound (a .sheet .now) (p .0 .1) .few-colours), (bounds-low (a .sheet .now) (p .0 .1) (take (a .colours) (c .before .before .before .bounds-of .result)) e, product-low (a .sheet .now) (p .0 .1) (take (a .colours) (c .before .before .before .bounds-of .result)) e))
+    let a = c .before .before .before .before .before .before .before .before .args in let p = c .before .before .before .before .before .before .before .before .pre in
+    let e = (bounds-part (a .sheet .now) (p .0 .1) (c .before .before .bounds-of .result) (a .colours) (c .before .before .bounds-of .ensures) (p .1 .1 .1)) in
+    (omega (arith, ap length e, bounds-long ((sheetIn (a .sheet .now)) .colours), sound (a .sheet .now) (p .0 .1) .few-colours), (bounds-low (a .sheet .now) (p .0 .1) (take (a .colours) (c .before .before .bounds-of .result)) e, product-low (a .sheet .now) (p .0 .1) (take (a .colours) (c .before .before .bounds-of .result)) e))
 
 xs-of-requires : tie.Need-xs-of-requires
 xs-of-requires c κs = search needs
@@ -65,91 +52,68 @@ colours-of-requires c κs = search needs
 
 array-share-prefix-heights : tie.Need-array-share-prefix-heights
 array-share-prefix-heights c =
-    let a = c .before .before .before .before .before .before .before .before .before .before .before .before .before .args in let p = c .before .before .before .before .before .before .before .before .before .before .before .before .before .pre in
+    let a = c .before .before .before .before .before .before .before .before .before .before .before .before .args in let p = c .before .before .before .before .before .before .before .before .before .before .before .before .pre in
     omega (arith, p .1 .1 .0, sound (a .sheet .now) (p .0 .1) .few-slots)
 
 slice-aggregate-lay-sites : tie.Need-slice-aggregate-lay-sites
 slice-aggregate-lay-sites c =
-    let a = c .before .before .before .before .before .before .before .before .before .before .before .before .before .before .args in let p = c .before .before .before .before .before .before .before .before .before .before .before .before .before .before .pre in
-    part-long 48 ((sheetIn (a .sheet .now)) .slots) (c .before .before .before .before .before .before .before .before .before .heights-of .result) (a .slots) (c .before .before .before .before .before .before .before .before .before .heights-of .ensures) (p .1 .1 .0)
+    let a = c .before .before .before .before .before .before .before .before .before .before .before .before .before .args in let p = c .before .before .before .before .before .before .before .before .before .before .before .before .before .pre in
+    part-long 48 ((sheetIn (a .sheet .now)) .slots) (c .before .before .before .before .before .before .before .before .heights-of .result) (a .slots) (c .before .before .before .before .before .before .before .before .heights-of .ensures) (p .1 .1 .0)
 
-array-share-prefix-bounds-3 : tie.Need-array-share-prefix-bounds-3
-array-share-prefix-bounds-3 c =
-    let a = c .before .before .before .before .before .before .before .before .before .before .before .before .before .before .args in let p = c .before .before .before .before .before .before .before .before .before .before .before .before .before .before .pre in
+array-share-prefix-radices : tie.Need-array-share-prefix-radices
+array-share-prefix-radices c =
+    let a = c .before .before .before .before .before .before .before .before .before .before .before .before .before .args in let p = c .before .before .before .before .before .before .before .before .before .before .before .before .before .pre in
     omega (arith, p .1 .1 .1, sound (a .sheet .now) (p .0 .1) .few-colours)
 
 slice-aggregate-lay-sites-2 : tie.Need-slice-aggregate-lay-sites-2
 slice-aggregate-lay-sites-2 c =
-    let a = c .before .before .before .before .before .before .before .before .before .before .before .before .before .before .before .args in let p = c .before .before .before .before .before .before .before .before .before .before .before .before .before .before .before .pre in
-    part-long 8 (boundsOf ((sheetIn (a .sheet .now)) .colours)) (c .before .before .before .before .before .before .before .before .before .bounds-of .result) (a .colours) (c .before .before .before .before .before .before .before .before .before .bounds-of .ensures) (p .1 .1 .1 ∙ sym (bounds-long ((sheetIn (a .sheet .now)) .colours)))
+    let a = c .before .before .before .before .before .before .before .before .before .before .before .before .before .before .args in let p = c .before .before .before .before .before .before .before .before .before .before .before .before .before .before .pre in
+    part-long 8 (radicesBy (take (a .colours) (c .before .before .before .before .before .before .before .before .bounds-of .result))) (c .before .before .before .before .before .before .radices-of .result) (a .colours) (c .before .before .before .before .before .before .radices-of .ensures) ((part-long 8 (boundsOf ((sheetIn (a .sheet .now)) .colours)) (c .before .before .before .before .before .before .before .before .bounds-of .result) (a .colours) (c .before .before .before .before .before .before .before .before .bounds-of .ensures) (p .1 .1 .1 ∙ sym (bounds-long ((sheetIn (a .sheet .now)) .colours)))) ∙ sym (radices-long (take (a .colours) (c .before .before .before .before .before .before .before .before .bounds-of .result))))
 
-array-share-prefix-radices : tie.Need-array-share-prefix-radices
-array-share-prefix-radices c =
-    let a = c .before .before .before .before .before .before .before .before .before .before .before .before .before .before .before .args in let p = c .before .before .before .before .before .before .before .before .before .before .before .before .before .before .before .pre in
+array-share-prefix-draws : tie.Need-array-share-prefix-draws
+array-share-prefix-draws c =
+    let a = c .before .before .before .before .before .before .before .before .before .before .before .before .before .before .args in let p = c .before .before .before .before .before .before .before .before .before .before .before .before .before .before .pre in
     omega (arith, p .1 .1 .1, sound (a .sheet .now) (p .0 .1) .few-colours)
 
 slice-aggregate-lay-sites-3 : tie.Need-slice-aggregate-lay-sites-3
 slice-aggregate-lay-sites-3 c =
-    let a = c .before .before .before .before .before .before .before .before .before .before .before .before .before .before .before .before .args in let p = c .before .before .before .before .before .before .before .before .before .before .before .before .before .before .before .before .pre in
-    part-long 8 (radicesBy (take (a .colours) (c .before .before .before .before .before .before .before .before .before .before .bounds-of .result))) (c .before .before .before .before .before .before .before .before .radices-of .result) (a .colours) (c .before .before .before .before .before .before .before .before .radices-of .ensures) ((part-long 8 (boundsOf ((sheetIn (a .sheet .now)) .colours)) (c .before .before .before .before .before .before .before .before .before .before .bounds-of .result) (a .colours) (c .before .before .before .before .before .before .before .before .before .before .bounds-of .ensures) (p .1 .1 .1 ∙ sym (bounds-long ((sheetIn (a .sheet .now)) .colours)))) ∙ sym (radices-long (take (a .colours) (c .before .before .before .before .before .before .before .before .before .before .bounds-of .result))))
-
-array-share-prefix-draws : tie.Need-array-share-prefix-draws
-array-share-prefix-draws c =
-    let a = c .before .before .before .before .before .before .before .before .before .before .before .before .before .before .before .before .args in let p = c .before .before .before .before .before .before .before .before .before .before .before .before .before .before .before .before .pre in
-    omega (arith, p .1 .1 .1, sound (a .sheet .now) (p .0 .1) .few-colours)
-
-slice-aggregate-lay-sites-4 : tie.Need-slice-aggregate-lay-sites-4
-slice-aggregate-lay-sites-4 c =
-    let a = c .before .before .before .before .before .before .before .before .before .before .before .before .before .before .before .before .before .args in let p = c .before .before .before .before .before .before .before .before .before .before .before .before .before .before .before .before .before .pre in
-    part-long 8 (drawsBy 1 (take (a .colours) (c .before .before .before .before .before .before .before .before .before .before .before .bounds-of .result))) (c .before .before .before .before .before .before .before .draws-of .result) (a .colours) (c .before .before .before .before .before .before .before .draws-of .ensures) ((part-long 8 (boundsOf ((sheetIn (a .sheet .now)) .colours)) (c .before .before .before .before .before .before .before .before .before .before .before .bounds-of .result) (a .colours) (c .before .before .before .before .before .before .before .before .before .before .before .bounds-of .ensures) (p .1 .1 .1 ∙ sym (bounds-long ((sheetIn (a .sheet .now)) .colours)))) ∙ sym (draws-long 1 (take (a .colours) (c .before .before .before .before .before .before .before .before .before .before .before .bounds-of .result))))
+    let a = c .before .before .before .before .before .before .before .before .before .before .before .before .before .before .before .args in let p = c .before .before .before .before .before .before .before .before .before .before .before .before .before .before .before .pre in
+    part-long 8 (drawsBy 1 (take (a .colours) (c .before .before .before .before .before .before .before .before .before .bounds-of .result))) (c .before .before .before .before .before .before .draws-of .result) (a .colours) (c .before .before .before .before .before .before .draws-of .ensures) ((part-long 8 (boundsOf ((sheetIn (a .sheet .now)) .colours)) (c .before .before .before .before .before .before .before .before .before .bounds-of .result) (a .colours) (c .before .before .before .before .before .before .before .before .before .bounds-of .ensures) (p .1 .1 .1 ∙ sym (bounds-long ((sheetIn (a .sheet .now)) .colours)))) ∙ sym (draws-long 1 (take (a .colours) (c .before .before .before .before .before .before .before .before .before .bounds-of .result))))
 
 array-share-prefix-ys : tie.Need-array-share-prefix-ys
 array-share-prefix-ys c =
-    let a = c .before .before .before .before .before .before .before .before .before .before .before .before .before .before .before .before .before .args in let p = c .before .before .before .before .before .before .before .before .before .before .before .before .before .before .before .before .before .pre in
+    let a = c .before .before .before .before .before .before .before .before .before .before .before .before .before .before .before .args in let p = c .before .before .before .before .before .before .before .before .before .before .before .before .before .before .before .pre in
+    omega (arith, p .1 .1 .2, sound (a .sheet .now) (p .0 .1) .few-sites)
+
+slice-aggregate-lay-sites-4 : tie.Need-slice-aggregate-lay-sites-4
+slice-aggregate-lay-sites-4 c =
+    let a = c .before .before .before .before .before .before .before .before .before .before .before .before .before .before .before .before .args in let p = c .before .before .before .before .before .before .before .before .before .before .before .before .before .before .before .before .pre in
+    part-long 32 (ysOf ((sheetIn (a .sheet .now)) .sites)) (c .before .before .before .before .before .ys-of .result) (a .sites) (c .before .before .before .before .before .ys-of .ensures) (p .1 .1 .2 ∙ sym (ys-long ((sheetIn (a .sheet .now)) .sites)))
+
+array-share-prefix-codes : tie.Need-array-share-prefix-codes
+array-share-prefix-codes c =
+    let a = c .before .before .before .before .before .before .before .before .before .before .before .before .before .before .before .before .args in let p = c .before .before .before .before .before .before .before .before .before .before .before .before .before .before .before .before .pre in
     omega (arith, p .1 .1 .2, sound (a .sheet .now) (p .0 .1) .few-sites)
 
 slice-aggregate-lay-sites-5 : tie.Need-slice-aggregate-lay-sites-5
 slice-aggregate-lay-sites-5 c =
-    let a = c .before .before .before .before .before .before .before .before .before .before .before .before .before .before .before .before .before .before .args in let p = c .before .before .before .before .before .before .before .before .before .before .before .before .before .before .before .before .before .before .pre in
-    part-long 32 (ysOf ((sheetIn (a .sheet .now)) .sites)) (c .before .before .before .before .before .before .ys-of .result) (a .sites) (c .before .before .before .before .before .before .ys-of .ensures) (p .1 .1 .2 ∙ sym (ys-long ((sheetIn (a .sheet .now)) .sites)))
+    let a = c .before .before .before .before .before .before .before .before .before .before .before .before .before .before .before .before .before .args in let p = c .before .before .before .before .before .before .before .before .before .before .before .before .before .before .before .before .before .pre in
+    part-long 32 (coloursOf ((sheetIn (a .sheet .now)) .sites)) (c .before .before .before .before .before .colours-of .result) (a .sites) (c .before .before .before .before .before .colours-of .ensures) (p .1 .1 .2 ∙ sym (cs-long ((sheetIn (a .sheet .now)) .sites)))
 
-array-share-prefix-codes : tie.Need-array-share-prefix-codes
-array-share-prefix-codes c =
-    let a = c .before .before .before .before .before .before .before .before .before .before .before .before .before .before .before .before .before .before .args in let p = c .before .before .before .before .before .before .before .before .before .before .before .before .before .before .before .before .before .before .pre in
+array-share-prefix-xs : tie.Need-array-share-prefix-xs
+array-share-prefix-xs c =
+    let a = c .before .before .before .before .before .before .before .before .before .before .before .before .before .before .before .before .before .args in let p = c .before .before .before .before .before .before .before .before .before .before .before .before .before .before .before .before .before .pre in
     omega (arith, p .1 .1 .2, sound (a .sheet .now) (p .0 .1) .few-sites)
 
 slice-aggregate-lay-sites-6 : tie.Need-slice-aggregate-lay-sites-6
 slice-aggregate-lay-sites-6 c =
-    let a = c .before .before .before .before .before .before .before .before .before .before .before .before .before .before .before .before .before .before .before .args in let p = c .before .before .before .before .before .before .before .before .before .before .before .before .before .before .before .before .before .before .before .pre in
-    part-long 32 (coloursOf ((sheetIn (a .sheet .now)) .sites)) (c .before .before .before .before .before .before .colours-of .result) (a .sites) (c .before .before .before .before .before .before .colours-of .ensures) (p .1 .1 .2 ∙ sym (cs-long ((sheetIn (a .sheet .now)) .sites)))
-
-array-share-prefix-xs : tie.Need-array-share-prefix-xs
-array-share-prefix-xs c =
-    let a = c .before .before .before .before .before .before .before .before .before .before .before .before .before .before .before .before .before .before .before .args in let p = c .before .before .before .before .before .before .before .before .before .before .before .before .before .before .before .before .before .before .before .pre in
-    omega (arith, p .1 .1 .2, sound (a .sheet .now) (p .0 .1) .few-sites)
-
-slice-aggregate-lay-sites-7 : tie.Need-slice-aggregate-lay-sites-7
-slice-aggregate-lay-sites-7 c =
-    let a = c .before .before .before .before .before .before .before .before .before .before .before .before .before .before .before .before .before .before .before .before .args in let p = c .before .before .before .before .before .before .before .before .before .before .before .before .before .before .before .before .before .before .before .before .pre in
-    part-long 32 (xsOf ((sheetIn (a .sheet .now)) .sites)) (c .before .before .before .before .before .before .before .before .before .xs-of .result) (a .sites) (c .before .before .before .before .before .before .before .before .before .xs-of .ensures) (p .1 .1 .2 ∙ sym (xs-long ((sheetIn (a .sheet .now)) .sites)))
-
-array-share-prefix-caps : tie.Need-array-share-prefix-caps
-array-share-prefix-caps c =
-    let a = c .before .before .before .before .before .before .before .before .before .before .before .before .before .before .before .before .before .before .before .before .args in let p = c .before .before .before .before .before .before .before .before .before .before .before .before .before .before .before .before .before .before .before .before .pre in
-    omega (arith, p .1 .1 .2, sound (a .sheet .now) (p .0 .1) .few-sites)
-
-slice-aggregate-lay-sites-8 : tie.Need-slice-aggregate-lay-sites-8
-slice-aggregate-lay-sites-8 c =
-    let a = c .before .before .before .before .before .before .before .before .before .before .before .before .before .before .before .before .before .before .before .before .before .args in let p = c .before .before .before .before .before .before .before .before .before .before .before .before .before .before .before .before .before .before .before .before .before .pre in
-    sym (length-take-le (a .sites) (replicate {A = ℕ} 32 0) (omega (arith, length-replicate {A = ℕ} 32 0, p .1 .1 .2, sound (a .sheet .now) (p .0 .1) .few-sites)))
+    let a = c .before .before .before .before .before .before .before .before .before .before .before .before .before .before .before .before .before .before .args in let p = c .before .before .before .before .before .before .before .before .before .before .before .before .before .before .before .before .before .before .pre in
+    part-long 32 (xsOf ((sheetIn (a .sheet .now)) .sites)) (c .before .before .before .before .before .before .before .before .xs-of .result) (a .sites) (c .before .before .before .before .before .before .before .before .xs-of .ensures) (p .1 .1 .2 ∙ sym (xs-long ((sheetIn (a .sheet .now)) .sites)))
 
 lay-sites-requires : tie.Need-lay-sites-requires
 lay-sites-requires c κs =
-    let a = c .before .before .before .before .before .before .before .before .before .before .before .before .before .before .before .before .before .before .before .before .before .before .before .args in let p = c .before .before .before .before .before .before .before .before .before .before .before .before .before .before .before .before .before .before .before .before .before .before .before .pre in
-    let n : length (take (a .sites) (replicate {A = ℕ} 32 0)) ≡ length ((sheetIn (a .sheet .now)) .sites) = length-take-le (a .sites) (replicate {A = ℕ} 32 0) (omega (arith, length-replicate {A = ℕ} 32 0, p .1 .1 .2, sound (a .sheet .now) (p .0 .1) .few-sites)) ∙ p .1 .1 .2 in (
-      fits-from (a .sheet .now) (p .0 .1) (c .before .before .before .before .before .before .before .before .before .before .before .before .before .before .before .before .before .before .before .measures-of .result) (take (a .slots) (c .before .before .before .before .before .before .before .before .before .before .before .before .before .before .before .before .before .before .heights-of .result)) (take (a .colours) (c .before .before .before .before .before .before .before .before .before .before .before .before .before .before .before .before .before .bounds-of .result)) (take (a .colours) (c .before .before .before .before .before .before .before .before .before .before .before .before .before .before .before .radices-of .result)) (take (a .colours) (c .before .before .before .before .before .before .before .before .before .before .before .before .before .draws-of .result)) (take (a .sites) (c .before .before .before .before .before .before .before .before .before .before .before .ys-of .result)) (take (a .sites) (c .before .before .before .before .before .before .before .before .before .before .colours-of .result)) (take (a .sites) (replicate {A = ℕ} 32 0)) ((c .before .before .before .before .before .before .before .before .before .before .before .before .before .before .before .before .before .before .before .measures-of .ensures) ∙ rw (p .1 .1 .1, p .1 .1 .3)) (part-is 48 ((sheetIn (a .sheet .now)) .slots) (c .before .before .before .before .before .before .before .before .before .before .before .before .before .before .before .before .before .before .heights-of .result) (a .slots) (c .before .before .before .before .before .before .before .before .before .before .before .before .before .before .before .before .before .before .heights-of .ensures) (p .1 .1 .0)) (bounds-part (a .sheet .now) (p .0 .1) (c .before .before .before .before .before .before .before .before .before .before .before .before .before .before .before .before .before .bounds-of .result) (a .colours) (c .before .before .before .before .before .before .before .before .before .before .before .before .before .before .before .before .before .bounds-of .ensures) (p .1 .1 .1)) (part-is 8 (radicesBy (take (a .colours) (c .before .before .before .before .before .before .before .before .before .before .before .before .before .before .before .before .before .bounds-of .result))) (c .before .before .before .before .before .before .before .before .before .before .before .before .before .before .before .radices-of .result) (a .colours) (c .before .before .before .before .before .before .before .before .before .before .before .before .before .before .before .radices-of .ensures) ((part-long 8 (boundsOf ((sheetIn (a .sheet .now)) .colours)) (c .before .before .before .before .before .before .before .before .before .before .before .before .before .before .before .before .before .bounds-of .result) (a .colours) (c .before .before .before .before .before .before .before .before .before .before .before .before .before .before .before .before .before .bounds-of .ensures) (p .1 .1 .1 ∙ sym (bounds-long ((sheetIn (a .sheet .now)) .colours)))) ∙ sym (radices-long (take (a .colours) (c .before .before .before .before .before .before .before .before .before .before .before .before .before .before .before .before .before .bounds-of .result))))) (part-is 8 (drawsBy 1 (take (a .colours) (c .before .before .before .before .before .before .before .before .before .before .before .before .before .before .before .before .before .bounds-of .result))) (c .before .before .before .before .before .before .before .before .before .before .before .before .before .draws-of .result) (a .colours) (c .before .before .before .before .before .before .before .before .before .before .before .before .before .draws-of .ensures) ((part-long 8 (boundsOf ((sheetIn (a .sheet .now)) .colours)) (c .before .before .before .before .before .before .before .before .before .before .before .before .before .before .before .before .before .bounds-of .result) (a .colours) (c .before .before .before .before .before .before .before .before .before .before .before .before .before .before .before .before .before .bounds-of .ensures) (p .1 .1 .1 ∙ sym (bounds-long ((sheetIn (a .sheet .now)) .colours)))) ∙ sym (draws-long 1 (take (a .colours) (c .before .before .before .before .before .before .before .before .before .before .before .before .before .before .before .before .before .bounds-of .result))))) (part-is 32 (ysOf ((sheetIn (a .sheet .now)) .sites)) (c .before .before .before .before .before .before .before .before .before .before .before .ys-of .result) (a .sites) (c .before .before .before .before .before .before .before .before .before .before .before .ys-of .ensures) (p .1 .1 .2 ∙ sym (ys-long ((sheetIn (a .sheet .now)) .sites)))) (part-is 32 (coloursOf ((sheetIn (a .sheet .now)) .sites)) (c .before .before .before .before .before .before .before .before .before .before .colours-of .result) (a .sites) (c .before .before .before .before .before .before .before .before .before .before .colours-of .ensures) (p .1 .1 .2 ∙ sym (cs-long ((sheetIn (a .sheet .now)) .sites)))) n,
-      ((λ i. zero-part (a .sites) 32 i), (areas-from (a .sheet .now) (a .work .now) (a .out .now) (p .0) (p .1 .0) (c .before .before .before .before .before .before .before .before .before .before .before .before .before .before .before .before .before .before .before .measures-of .result) (take (a .slots) (c .before .before .before .before .before .before .before .before .before .before .before .before .before .before .before .before .before .before .heights-of .result)) (take (a .sites) (c .before .before .before .before .before .before .before .before .before .before .before .ys-of .result)) ((c .before .before .before .before .before .before .before .before .before .before .before .before .before .before .before .before .before .before .before .measures-of .ensures) ∙ rw (p .1 .1 .1, p .1 .1 .3)) (part-is 48 ((sheetIn (a .sheet .now)) .slots) (c .before .before .before .before .before .before .before .before .before .before .before .before .before .before .before .before .before .before .heights-of .result) (a .slots) (c .before .before .before .before .before .before .before .before .before .before .before .before .before .before .before .before .before .before .heights-of .ensures) (p .1 .1 .0)) (part-is 32 (ysOf ((sheetIn (a .sheet .now)) .sites)) (c .before .before .before .before .before .before .before .before .before .before .before .ys-of .result) (a .sites) (c .before .before .before .before .before .before .before .before .before .before .before .ys-of .ensures) (p .1 .1 .2 ∙ sym (ys-long ((sheetIn (a .sheet .now)) .sites)))), steady-made (a .sheet .now) (a .work .now) (a .out .now) (p .0) (p .1 .0) (c .before .before .before .before .before .before .before .before .before .before .before .before .before .before .before .before .before .before .before .measures-of .result) (take (a .slots) (c .before .before .before .before .before .before .before .before .before .before .before .before .before .before .before .before .before .before .heights-of .result)) (take (a .colours) (c .before .before .before .before .before .before .before .before .before .before .before .before .before .before .before .before .before .bounds-of .result)) (take (a .colours) (c .before .before .before .before .before .before .before .before .before .before .before .before .before .before .before .radices-of .result)) (take (a .sites) (c .before .before .before .before .before .before .before .before .before .before .before .ys-of .result)) (take (a .sites) (c .before .before .before .before .before .before .before .before .before .before .colours-of .result)) ((c .before .before .before .before .before .before .before .before .before .before .before .before .before .before .before .before .before .before .before .measures-of .ensures) ∙ rw (p .1 .1 .1, p .1 .1 .3)) (part-is 48 ((sheetIn (a .sheet .now)) .slots) (c .before .before .before .before .before .before .before .before .before .before .before .before .before .before .before .before .before .before .heights-of .result) (a .slots) (c .before .before .before .before .before .before .before .before .before .before .before .before .before .before .before .before .before .before .heights-of .ensures) (p .1 .1 .0)) (bounds-part (a .sheet .now) (p .0 .1) (c .before .before .before .before .before .before .before .before .before .before .before .before .before .before .before .before .before .bounds-of .result) (a .colours) (c .before .before .before .before .before .before .before .before .before .before .before .before .before .before .before .before .before .bounds-of .ensures) (p .1 .1 .1)) (part-is 8 (radicesBy (take (a .colours) (c .before .before .before .before .before .before .before .before .before .before .before .before .before .before .before .before .before .bounds-of .result))) (c .before .before .before .before .before .before .before .before .before .before .before .before .before .before .before .radices-of .result) (a .colours) (c .before .before .before .before .before .before .before .before .before .before .before .before .before .before .before .radices-of .ensures) ((part-long 8 (boundsOf ((sheetIn (a .sheet .now)) .colours)) (c .before .before .before .before .before .before .before .before .before .before .before .before .before .before .before .before .before .bounds-of .result) (a .colours) (c .before .before .before .before .before .before .before .before .before .before .before .before .before .before .before .before .before .bounds-of .ensures) (p .1 .1 .1 ∙ sym (bounds-long ((sheetIn (a .sheet .now)) .colours)))) ∙ sym (radices-long (take (a .colours) (c .before .before .before .before .before .before .before .before .before .before .before .before .before .before .before .before .before .bounds-of .result))))) (part-is 32 (ysOf ((sheetIn (a .sheet .now)) .sites)) (c .before .before .before .before .before .before .before .before .before .before .before .ys-of .result) (a .sites) (c .before .before .before .before .before .before .before .before .before .before .before .ys-of .ensures) (p .1 .1 .2 ∙ sym (ys-long ((sheetIn (a .sheet .now)) .sites)))) (part-is 32 (coloursOf ((sheetIn (a .sheet .now)) .sites)) (c .before .before .before .before .before .before .before .before .before .before .colours-of .result) (a .sites) (c .before .before .before .before .before .before .before .before .before .before .colours-of .ensures) (p .1 .1 .2 ∙ sym (cs-long ((sheetIn (a .sheet .now)) .sites)))))),
-    )
+    let a = c .before .before .before .before .before .before .before .before .before .before .before .before .before .before .before .before .before .before .before .before .args in let p = c .before .before .before .before .before .before .before .before .before .before .before .before .before .before .before .before .before .before .before .before .pre in
+    (fits-from (a .sheet .now) (p .0 .1) (c .before .before .before .before .before .before .before .before .before .before .before .before .before .before .before .before .measures-of .result) (take (a .slots) (c .before .before .before .before .before .before .before .before .before .before .before .before .before .before .before .heights-of .result)) (take (a .colours) (c .before .before .before .before .before .before .before .before .before .before .before .before .before .before .bounds-of .result)) (take (a .colours) (c .before .before .before .before .before .before .before .before .before .before .before .before .radices-of .result)) (take (a .colours) (c .before .before .before .before .before .before .before .before .before .before .before .draws-of .result)) (take (a .sites) (c .before .before .before .before .before .before .before .before .before .ys-of .result)) (take (a .sites) (c .before .before .before .before .before .before .before .before .colours-of .result)) ((c .before .before .before .before .before .before .before .before .before .before .before .before .before .before .before .before .measures-of .ensures) ∙ rw (p .1 .1 .1, p .1 .1 .3)) (part-is 48 ((sheetIn (a .sheet .now)) .slots) (c .before .before .before .before .before .before .before .before .before .before .before .before .before .before .before .heights-of .result) (a .slots) (c .before .before .before .before .before .before .before .before .before .before .before .before .before .before .before .heights-of .ensures) (p .1 .1 .0)) (bounds-part (a .sheet .now) (p .0 .1) (c .before .before .before .before .before .before .before .before .before .before .before .before .before .before .bounds-of .result) (a .colours) (c .before .before .before .before .before .before .before .before .before .before .before .before .before .before .bounds-of .ensures) (p .1 .1 .1)) (part-is 8 (radicesBy (take (a .colours) (c .before .before .before .before .before .before .before .before .before .before .before .before .before .before .bounds-of .result))) (c .before .before .before .before .before .before .before .before .before .before .before .before .radices-of .result) (a .colours) (c .before .before .before .before .before .before .before .before .before .before .before .before .radices-of .ensures) ((part-long 8 (boundsOf ((sheetIn (a .sheet .now)) .colours)) (c .before .before .before .before .before .before .before .before .before .before .before .before .before .before .bounds-of .result) (a .colours) (c .before .before .before .before .before .before .before .before .before .before .before .before .before .before .bounds-of .ensures) (p .1 .1 .1 ∙ sym (bounds-long ((sheetIn (a .sheet .now)) .colours)))) ∙ sym (radices-long (take (a .colours) (c .before .before .before .before .before .before .before .before .before .before .before .before .before .before .bounds-of .result))))) (part-is 8 (drawsBy 1 (take (a .colours) (c .before .before .before .before .before .before .before .before .before .before .before .before .before .before .bounds-of .result))) (c .before .before .before .before .before .before .before .before .before .before .before .draws-of .result) (a .colours) (c .before .before .before .before .before .before .before .before .before .before .before .draws-of .ensures) ((part-long 8 (boundsOf ((sheetIn (a .sheet .now)) .colours)) (c .before .before .before .before .before .before .before .before .before .before .before .before .before .before .bounds-of .result) (a .colours) (c .before .before .before .before .before .before .before .before .before .before .before .before .before .before .bounds-of .ensures) (p .1 .1 .1 ∙ sym (bounds-long ((sheetIn (a .sheet .now)) .colours)))) ∙ sym (draws-long 1 (take (a .colours) (c .before .before .before .before .before .before .before .before .before .before .before .before .before .before .bounds-of .result))))) (part-is 32 (ysOf ((sheetIn (a .sheet .now)) .sites)) (c .before .before .before .before .before .before .before .before .before .ys-of .result) (a .sites) (c .before .before .before .before .before .before .before .before .before .ys-of .ensures) (p .1 .1 .2 ∙ sym (ys-long ((sheetIn (a .sheet .now)) .sites)))) (part-is 32 (coloursOf ((sheetIn (a .sheet .now)) .sites)) (c .before .before .before .before .before .before .before .before .colours-of .result) (a .sites) (c .before .before .before .before .before .before .before .before .colours-of .ensures) (p .1 .1 .2 ∙ sym (cs-long ((sheetIn (a .sheet .now)) .sites)))), (areas-from (a .sheet .now) (a .work .now) (a .out .now) (p .0) (p .1 .0) (c .before .before .before .before .before .before .before .before .before .before .before .before .before .before .before .before .measures-of .result) (take (a .slots) (c .before .before .before .before .before .before .before .before .before .before .before .before .before .before .before .heights-of .result)) (take (a .sites) (c .before .before .before .before .before .before .before .before .before .ys-of .result)) ((c .before .before .before .before .before .before .before .before .before .before .before .before .before .before .before .before .measures-of .ensures) ∙ rw (p .1 .1 .1, p .1 .1 .3)) (part-is 48 ((sheetIn (a .sheet .now)) .slots) (c .before .before .before .before .before .before .before .before .before .before .before .before .before .before .before .heights-of .result) (a .slots) (c .before .before .before .before .before .before .before .before .before .before .before .before .before .before .before .heights-of .ensures) (p .1 .1 .0)) (part-is 32 (ysOf ((sheetIn (a .sheet .now)) .sites)) (c .before .before .before .before .before .before .before .before .before .ys-of .result) (a .sites) (c .before .before .before .before .before .before .before .before .before .ys-of .ensures) (p .1 .1 .2 ∙ sym (ys-long ((sheetIn (a .sheet .now)) .sites)))), steady-made (a .sheet .now) (a .work .now) (a .out .now) (p .0) (p .1 .0) (c .before .before .before .before .before .before .before .before .before .before .before .before .before .before .before .before .measures-of .result) (take (a .slots) (c .before .before .before .before .before .before .before .before .before .before .before .before .before .before .before .heights-of .result)) (take (a .colours) (c .before .before .before .before .before .before .before .before .before .before .before .before .before .before .bounds-of .result)) (take (a .colours) (c .before .before .before .before .before .before .before .before .before .before .before .before .radices-of .result)) (take (a .sites) (c .before .before .before .before .before .before .before .before .before .ys-of .result)) (take (a .sites) (c .before .before .before .before .before .before .before .before .colours-of .result)) ((c .before .before .before .before .before .before .before .before .before .before .before .before .before .before .before .before .measures-of .ensures) ∙ rw (p .1 .1 .1, p .1 .1 .3)) (part-is 48 ((sheetIn (a .sheet .now)) .slots) (c .before .before .before .before .before .before .before .before .before .before .before .before .before .before .before .heights-of .result) (a .slots) (c .before .before .before .before .before .before .before .before .before .before .before .before .before .before .before .heights-of .ensures) (p .1 .1 .0)) (bounds-part (a .sheet .now) (p .0 .1) (c .before .before .before .before .before .before .before .before .before .before .before .before .before .before .bounds-of .result) (a .colours) (c .before .before .before .before .before .before .before .before .before .before .before .before .before .before .bounds-of .ensures) (p .1 .1 .1)) (part-is 8 (radicesBy (take (a .colours) (c .before .before .before .before .before .before .before .before .before .before .before .before .before .before .bounds-of .result))) (c .before .before .before .before .before .before .before .before .before .before .before .before .radices-of .result) (a .colours) (c .before .before .before .before .before .before .before .before .before .before .before .before .radices-of .ensures) ((part-long 8 (boundsOf ((sheetIn (a .sheet .now)) .colours)) (c .before .before .before .before .before .before .before .before .before .before .before .before .before .before .bounds-of .result) (a .colours) (c .before .before .before .before .before .before .before .before .before .before .before .before .before .before .bounds-of .ensures) (p .1 .1 .1 ∙ sym (bounds-long ((sheetIn (a .sheet .now)) .colours)))) ∙ sym (radices-long (take (a .colours) (c .before .before .before .before .before .before .before .before .before .before .before .before .before .before .bounds-of .result))))) (part-is 32 (ysOf ((sheetIn (a .sheet .now)) .sites)) (c .before .before .before .before .before .before .before .before .before .ys-of .result) (a .sites) (c .before .before .before .before .before .before .before .before .before .ys-of .ensures) (p .1 .1 .2 ∙ sym (ys-long ((sheetIn (a .sheet .now)) .sites)))) (part-is 32 (coloursOf ((sheetIn (a .sheet .now)) .sites)) (c .before .before .before .before .before .before .before .before .colours-of .result) (a .sites) (c .before .before .before .before .before .before .before .before .colours-of .ensures) (p .1 .1 .2 ∙ sym (cs-long ((sheetIn (a .sheet .now)) .sites))))))
 
 same-length : tie.Need-same-length
 same-length c = search needs
@@ -159,9 +123,9 @@ same-length-2 c = search needs
 
 returns : tie.Need-returns
 returns c =
-    let a = c .before .before .before .before .before .before .before .before .before .before .before .before .before .before .before .before .before .before .before .before .before .before .before .before .before .before .before .before .args in let p = c .before .before .before .before .before .before .before .before .before .before .before .before .before .before .before .before .before .before .before .before .before .before .before .before .before .before .before .before .pre in
-    let r = made (a .sheet .now) (a .work .now) (a .out .now) (p .0) (p .1 .0) (c .before .before .before .before .before .before .before .before .before .before .before .before .before .before .before .before .before .before .before .before .before .before .before .before .measures-of .result) (take (a .slots) (c .before .before .before .before .before .before .before .before .before .before .before .before .before .before .before .before .before .before .before .before .before .before .before .heights-of .result)) (take (a .colours) (c .before .before .before .before .before .before .before .before .before .before .before .before .before .before .before .before .before .before .before .before .before .before .bounds-of .result)) (take (a .colours) (c .before .before .before .before .before .before .before .before .before .before .before .before .before .before .before .before .before .before .before .before .radices-of .result)) (take (a .sites) (c .before .before .before .before .before .before .before .before .before .before .before .before .before .before .before .before .ys-of .result)) (take (a .sites) (c .before .before .before .before .before .before .before .before .before .before .before .before .before .before .before .colours-of .result)) (take (a .sites) (c .before .before .before .before .before .before .before .before .before .before .before .before .before .before .before .before .before .xs-of .result)) (c .before .before .before .before .lay-sites .result) (c .before .before .before .before .lay-sites .last .1 .1 .1 .1 .1 .1 .1 .1 .1 .0) (c .before .before .before .before .lay-sites .last .1 .1 .1 .1 .1 .1 .1 .1 .1 .1 .0)
-    ((c .before .before .before .before .before .before .before .before .before .before .before .before .before .before .before .before .before .before .before .before .before .before .before .before .measures-of .ensures) ∙ rw (p .1 .1 .1, p .1 .1 .3)) (part-is 48 ((sheetIn (a .sheet .now)) .slots) (c .before .before .before .before .before .before .before .before .before .before .before .before .before .before .before .before .before .before .before .before .before .before .before .heights-of .result) (a .slots) (c .before .before .before .before .before .before .before .before .before .before .before .before .before .before .before .before .before .before .before .before .before .before .before .heights-of .ensures) (p .1 .1 .0)) (bounds-part (a .sheet .now) (p .0 .1) (c .before .before .before .before .before .before .before .before .before .before .before .before .before .before .before .before .before .before .before .before .before .before .bounds-of .result) (a .colours) (c .before .before .before .before .before .before .before .before .before .before .before .before .before .before .before .before .before .before .before .before .before .before .bounds-of .ensures) (p .1 .1 .1)) (part-is 8 (radicesBy (take (a .colours) (c .before .before .before .before .before .before .before .before .before .before .before .before .before .before .before .before .before .before .before .before .before .before .bounds-of .result))) (c .before .before .before .before .before .before .before .before .before .before .before .before .before .before .before .before .before .before .before .before .radices-of .result) (a .colours) (c .before .before .before .before .before .before .before .before .before .before .before .before .before .before .before .before .before .before .before .before .radices-of .ensures) ((part-long 8 (boundsOf ((sheetIn (a .sheet .now)) .colours)) (c .before .before .before .before .before .before .before .before .before .before .before .before .before .before .before .before .before .before .before .before .before .before .bounds-of .result) (a .colours) (c .before .before .before .before .before .before .before .before .before .before .before .before .before .before .before .before .before .before .before .before .before .before .bounds-of .ensures) (p .1 .1 .1 ∙ sym (bounds-long ((sheetIn (a .sheet .now)) .colours)))) ∙ sym (radices-long (take (a .colours) (c .before .before .before .before .before .before .before .before .before .before .before .before .before .before .before .before .before .before .before .before .before .before .bounds-of .result))))) (part-is 32 (ysOf ((sheetIn (a .sheet .now)) .sites)) (c .before .before .before .before .before .before .before .before .before .before .before .before .before .before .before .before .ys-of .result) (a .sites) (c .before .before .before .before .before .before .before .before .before .before .before .before .before .before .before .before .ys-of .ensures) (p .1 .1 .2 ∙ sym (ys-long ((sheetIn (a .sheet .now)) .sites)))) (part-is 32 (coloursOf ((sheetIn (a .sheet .now)) .sites)) (c .before .before .before .before .before .before .before .before .before .before .before .before .before .before .before .colours-of .result) (a .sites) (c .before .before .before .before .before .before .before .before .before .before .before .before .before .before .before .colours-of .ensures) (p .1 .1 .2 ∙ sym (cs-long ((sheetIn (a .sheet .now)) .sites)))) (part-is 32 (xsOf ((sheetIn (a .sheet .now)) .sites)) (c .before .before .before .before .before .before .before .before .before .before .before .before .before .before .before .before .before .xs-of .result) (a .sites) (c .before .before .before .before .before .before .before .before .before .before .before .before .before .before .before .before .before .xs-of .ensures) (p .1 .1 .2 ∙ sym (xs-long ((sheetIn (a .sheet .now)) .sites)))) (c .before .before .before .before .lay-sites .ensures) in
+    let a = c .before .before .before .before .before .before .before .before .before .before .before .before .before .before .before .before .before .before .before .before .before .before .before .before .before .args in let p = c .before .before .before .before .before .before .before .before .before .before .before .before .before .before .before .before .before .before .before .before .before .before .before .before .before .pre in
+    let r = made (a .sheet .now) (a .work .now) (a .out .now) (p .0) (p .1 .0) (c .before .before .before .before .before .before .before .before .before .before .before .before .before .before .before .before .before .before .before .before .before .measures-of .result) (take (a .slots) (c .before .before .before .before .before .before .before .before .before .before .before .before .before .before .before .before .before .before .before .before .heights-of .result)) (take (a .colours) (c .before .before .before .before .before .before .before .before .before .before .before .before .before .before .before .before .before .before .before .bounds-of .result)) (take (a .colours) (c .before .before .before .before .before .before .before .before .before .before .before .before .before .before .before .before .before .radices-of .result)) (take (a .sites) (c .before .before .before .before .before .before .before .before .before .before .before .before .before .before .ys-of .result)) (take (a .sites) (c .before .before .before .before .before .before .before .before .before .before .before .before .before .colours-of .result)) (take (a .sites) (c .before .before .before .before .before .before .before .before .before .before .before .before .before .before .before .xs-of .result)) (c .before .before .before .before .lay-sites .result) (c .before .before .before .before .lay-sites .last .1 .1 .1 .1 .1 .1 .1 .1 .0) (c .before .before .before .before .lay-sites .last .1 .1 .1 .1 .1 .1 .1 .1 .1 .0)
+    ((c .before .before .before .before .before .before .before .before .before .before .before .before .before .before .before .before .before .before .before .before .before .measures-of .ensures) ∙ rw (p .1 .1 .1, p .1 .1 .3)) (part-is 48 ((sheetIn (a .sheet .now)) .slots) (c .before .before .before .before .before .before .before .before .before .before .before .before .before .before .before .before .before .before .before .before .heights-of .result) (a .slots) (c .before .before .before .before .before .before .before .before .before .before .before .before .before .before .before .before .before .before .before .before .heights-of .ensures) (p .1 .1 .0)) (bounds-part (a .sheet .now) (p .0 .1) (c .before .before .before .before .before .before .before .before .before .before .before .before .before .before .before .before .before .before .before .bounds-of .result) (a .colours) (c .before .before .before .before .before .before .before .before .before .before .before .before .before .before .before .before .before .before .before .bounds-of .ensures) (p .1 .1 .1)) (part-is 8 (radicesBy (take (a .colours) (c .before .before .before .before .before .before .before .before .before .before .before .before .before .before .before .before .before .before .before .bounds-of .result))) (c .before .before .before .before .before .before .before .before .before .before .before .before .before .before .before .before .before .radices-of .result) (a .colours) (c .before .before .before .before .before .before .before .before .before .before .before .before .before .before .before .before .before .radices-of .ensures) ((part-long 8 (boundsOf ((sheetIn (a .sheet .now)) .colours)) (c .before .before .before .before .before .before .before .before .before .before .before .before .before .before .before .before .before .before .before .bounds-of .result) (a .colours) (c .before .before .before .before .before .before .before .before .before .before .before .before .before .before .before .before .before .before .before .bounds-of .ensures) (p .1 .1 .1 ∙ sym (bounds-long ((sheetIn (a .sheet .now)) .colours)))) ∙ sym (radices-long (take (a .colours) (c .before .before .before .before .before .before .before .before .before .before .before .before .before .before .before .before .before .before .before .bounds-of .result))))) (part-is 32 (ysOf ((sheetIn (a .sheet .now)) .sites)) (c .before .before .before .before .before .before .before .before .before .before .before .before .before .before .ys-of .result) (a .sites) (c .before .before .before .before .before .before .before .before .before .before .before .before .before .before .ys-of .ensures) (p .1 .1 .2 ∙ sym (ys-long ((sheetIn (a .sheet .now)) .sites)))) (part-is 32 (coloursOf ((sheetIn (a .sheet .now)) .sites)) (c .before .before .before .before .before .before .before .before .before .before .before .before .before .colours-of .result) (a .sites) (c .before .before .before .before .before .before .before .before .before .before .before .before .before .colours-of .ensures) (p .1 .1 .2 ∙ sym (cs-long ((sheetIn (a .sheet .now)) .sites)))) (part-is 32 (xsOf ((sheetIn (a .sheet .now)) .sites)) (c .before .before .before .before .before .before .before .before .before .before .before .before .before .before .before .xs-of .result) (a .sites) (c .before .before .before .before .before .before .before .before .before .before .before .before .before .before .before .xs-of .ensures) (p .1 .1 .2 ∙ sym (xs-long ((sheetIn (a .sheet .now)) .sites)))) (c .before .before .before .before .lay-sites .ensures) in
     (sym (r .fault-is), (sym (r .work-is), sym (r .out-is)))
 
 pub lay-two-sided-spec : {M : Type 1} → statement M
@@ -172,30 +136,24 @@ lay-two-sided-spec =
     heights-of-requires
     bounds-of-requires
     array-share-prefix-bounds
-    slice-aggregate-radices-of
+    slice-aggregate-used
     radices-of-requires
-    array-share-prefix-bounds-2
-    slice-aggregate-draws-of
     draws-of-requires
     xs-of-requires
     ys-of-requires
     colours-of-requires
     array-share-prefix-heights
     slice-aggregate-lay-sites
-    array-share-prefix-bounds-3
-    slice-aggregate-lay-sites-2
     array-share-prefix-radices
-    slice-aggregate-lay-sites-3
+    slice-aggregate-lay-sites-2
     array-share-prefix-draws
-    slice-aggregate-lay-sites-4
+    slice-aggregate-lay-sites-3
     array-share-prefix-ys
-    slice-aggregate-lay-sites-5
+    slice-aggregate-lay-sites-4
     array-share-prefix-codes
-    slice-aggregate-lay-sites-6
+    slice-aggregate-lay-sites-5
     array-share-prefix-xs
-    slice-aggregate-lay-sites-7
-    array-share-prefix-caps
-    slice-aggregate-lay-sites-8
+    slice-aggregate-lay-sites-6
     lay-sites-requires
     same-length
     same-length-2
