@@ -51,10 +51,16 @@ fn end_above(heights: &[u32], ys: &[u32], k: u32) -> u32
     0
 }
 
-// One more colour's code beside those that are kept, of two codes at most. A colour above 14 has no room.
-fn code_kept(codes: u32, colour: u32) -> u32
-    ensures { λ r. ⌜ ((hs ys cs : List ℕ) (a k : ℕ) → Codes hs ys cs a k codes → Between hs ys cs a k (suc colour) → Codes hs ys cs a k r) ⌝ }
+// The colour's code of a site that lies between two heights, beside the codes that are kept: two at most. A colour above 14 has no room.
+fn codes_after(codes: u32, top: u32, bottom: u32, y: u32, colour: u32) -> u32
+    ensures { λ r. ⌜ ((hs ys cs : List ℕ) (a k : ℕ) → Codes hs ys cs a k codes → (top ≤ y → y < bottom → Between hs ys cs a k (suc colour)) → Codes hs ys cs a k r) ⌝ }
 {
+    if y < top {
+        return codes;
+    }
+    if bottom <= y {
+        return codes;
+    }
     if colour > 14 {
         return codes;
     }
@@ -69,19 +75,6 @@ fn code_kept(codes: u32, colour: u32) -> u32
         return codes;
     }
     codes + 16 * code
-}
-
-// The same where the site lies between two heights.
-fn codes_after(codes: u32, top: u32, bottom: u32, y: u32, colour: u32) -> u32
-    ensures { λ r. ⌜ ((hs ys cs : List ℕ) (a k : ℕ) → Codes hs ys cs a k codes → (top ≤ y → y < bottom → Between hs ys cs a k (suc colour)) → Codes hs ys cs a k r) ⌝ }
-{
-    if y < top {
-        return codes;
-    }
-    if bottom <= y {
-        return codes;
-    }
-    code_kept(codes, colour)
 }
 
 // Codes of sites in the band between slot k and the place next above, from one of the sites on to the first that is not above the slot.

@@ -1,9 +1,9 @@
 // The cost of a strip's sites: each is tied to the label above or to the one below.
 ghost use mathlib.Core.Path.{_≡_};
-ghost use Prim.Native.Nat.{_+_, _<_, _≤_, min};
+ghost use Prim.Native.Nat.{_+_, _<_, _≤_};
 ghost use lib.ListN.{length};
 ghost use Rattle.bands.specs.Bands.{Starts, Ends};
-ghost use Rattle.stripcosts.specs.Costs.{upperAt, lowerAt, insideOf, tieCost, siteOf, stripOf, Among};
+ghost use Rattle.stripcosts.specs.Costs.{upperAt, lowerAt, tieCost, siteOf, stripOf, Among};
 use arrays::Measures;
 use drops::apart_of;
 use tiefits::Label;
@@ -30,43 +30,30 @@ fn tie_cost(q: Measures, fits: bool, height: u32, y: u32) -> u64
     share
 }
 
-fn is_inside(above: Label, below: Label, y: u32) -> bool
-    ensures { λ r. ⌜ r ≡ insideOf above below y ⌝ }
-{
-    both(
-        either(above.edge, at_most(above.height, y)),
-        either(below.edge, less(y, below.height)),
-    )
-}
-
-fn least_of(a: u64, b: u64) -> u64
-    ensures { λ r. ⌜ r ≡ min a b ⌝ }
-{
-    if b < a {
-        return b;
-    }
-    a
-}
-
+// What a site costs that lies between them, tied to the better of the two; 0 if it does not.
 fn site_cost(q: Measures, above: Label, below: Label, y: u32, colour: u32, cap: u32) -> u64
     ensures { λ r. ⌜ r ≡ siteOf q above below y colour cap ⌝ }
 {
-    if is_inside(above, below, y) {
-        let up = tie_cost(
-            q,
-            fits_up(q.gap, above, below, y, colour, cap),
-            above.height,
-            y,
-        );
-        let down = tie_cost(
-            q,
-            fits_down(q.gap, above, below, y, colour, cap),
-            below.height,
-            y,
-        );
-        return least_of(up, down);
+    let under = either(above.edge, at_most(above.height, y));
+    if !both(under, either(below.edge, less(y, below.height))) {
+        return 0;
     }
-    0
+    let up = tie_cost(
+        q,
+        fits_up(q.gap, above, below, y, colour, cap),
+        above.height,
+        y,
+    );
+    let down = tie_cost(
+        q,
+        fits_down(q.gap, above, below, y, colour, cap),
+        below.height,
+        y,
+    );
+    if down < up {
+        return down;
+    }
+    up
 }
 
 // The sum of its sites' costs, of those from start to end; it ends at a site that has neither neighbour.
@@ -119,20 +106,6 @@ fn upper_label(heights: &[u32], a: u32, code: u32) -> Label
     }
 }
 
-fn lower_label(heights: &[u32], k: u32, code: u32) -> Label
-    requires { ⌜ k < 4294967295 ⌝ }
-    ensures { λ r. ⌜ r ≡ lowerAt (now (heights .entry)) k code ⌝ }
-{
-    let edge = heights.len() <= k as usize;
-    let height = get(heights, k);
-    Label {
-        edge: edge,
-        place: k + 1,
-        code: code,
-        height: height,
-    }
-}
-
 // The strip between the place a and slot k, or the bottom edge where k is m.
 pub fn strip_between(
     q: Measures,
@@ -151,10 +124,16 @@ pub fn strip_between(
     requires { ⌜ Starts (now heights) (now ys) a start × Ends (now heights) (now ys) k end ⌝ }
     ensures { λ r. ⌜ r ≡ stripOf q (upperAt (now (heights .entry)) a code) (lowerAt (now (heights .entry)) k below) (now (ys .entry)) (now (colours .entry)) (now (caps .entry)) ⌝ }
 {
+    let lower = Label {
+        edge: heights.len() <= k as usize,
+        place: k + 1,
+        code: below,
+        height: get(heights, k),
+    };
     strip_cost(
         q,
         upper_label(heights, a, code),
-        lower_label(heights, k, below),
+        lower,
         ys,
         colours,
         caps,

@@ -5,7 +5,7 @@ use Rattle.capsearch.proofs.Search.{Sought, sought-first, sought-inside
 use mathlib.Core.Path.{sym, _∙_}
 use Prim.Native.Nat.{_+_, _-_}
 use native.Mathlib.Omega.{arith}
-use lib.ListN.{length-set}
+use lib.ListN.{set, length-set}
 use borrow.Author.Needs.{needs}
 use Rattle.capsearch.proofs.cap_site.Statement.{statement}
 use Rattle.capsearch.proofs.cap_site.Tie as tie
@@ -59,7 +59,7 @@ probed-requires c κs =
     let a = c .before .before .before .before .before .before .before .before .before .before .before .before .before .before .before .before .before .before .args in let p = c .before .before .before .before .before .before .before .before .before .before .before .before .before .before .before .before .before .before .pre in let l = c .before .before .before .before .loop in
     let G : Instance = tableBy (a .q) (a .heights .now) (a .bounds .now) (a .radices .now) (a .ys .now) (a .colours .now) in
     let e = length-set (l .caps) (a .site) (l .probe + 1) in (
-      fits-set (a .q) (a .heights .now) (a .bounds .now) (a .radices .now) (a .draws .now) (a .ys .now) (a .colours .now) (a .caps .now) _ (e ∙ l .inv .long) (p .0),
+      fits-set (a .q) (a .heights .now) (a .bounds .now) (a .radices .now) (a .draws .now) (a .ys .now) (a .colours .now) (a .caps .now) (set (l .caps) (a .site) (l .probe + 1)) (e ∙ l .inv .long) (p .0),
       (p .1 .0 .0, omega (arith, e, sought-inside G (a .least) (p .1 .1 .1) (a .caps .now) (a .site) (l .caps) (l .goals) (l .range) (l .probe) (l .inv)), sought-low G (a .least) (p .1 .1 .1) (a .caps .now) (a .site) (l .caps) (l .goals) (l .range) (l .probe) (l .inv) (c .before .before .if1 .taken) (p .0 .few-slots), sought-own G (a .least) (p .1 .1 .1) (a .caps .now) (a .site) (l .caps) (l .goals) (l .range) (l .probe) (l .inv), p .1 .0 .3, sought-aimed G (a .least) (p .1 .1 .1) (a .caps .now) (a .site) (l .caps) (l .goals) (l .range) (l .probe) (l .inv)),
     )
 
@@ -67,20 +67,20 @@ add-probe : tie.Need-add-probe Inv-loop μ-loop
 add-probe c =
     let a = c .before .before .before .before .before .before .before .before .before .before .before .before .before .before .before .before .before .before .before .before .before .before .args in let p = c .before .before .before .before .before .before .before .before .before .before .before .before .before .before .before .before .before .before .before .before .before .before .pre in let l = c .before .before .before .before .before .before .before .before .loop in let k = c .before .before .before .probed in
     let G : Instance = tableBy (a .q) (a .heights .now) (a .bounds .now) (a .radices .now) (a .ys .now) (a .colours .now) in
-    let n = sought-step G (a .least) (p .1 .1 .1) (a .caps .now) (a .site) (l .caps) (l .goals) (l .range) (l .probe) (l .inv) _ (k .result) (c .before .before .before .before .before .before .if1 .taken) (k .ensures .0) (k .ensures .1) .0 in
+    let n = sought-step G (a .least) (p .1 .1 .1) (a .caps .now) (a .site) (l .caps) (l .goals) (l .range) (l .probe) (l .inv) (k .last .1 .1 .1 .1 .1 .1 .1 .1 .1 .1 .0) (k .result) (c .before .before .before .before .before .before .if1 .taken) (k .ensures .0) (k .ensures .1) .0 in
     omega (arith, n .range .ordered, n .range .bounded, p .0 .few-slots)
 
 loop-less : tie.Need-loop-less Inv-loop μ-loop
 loop-less c =
     let a = c .before .before .before .before .before .before .before .before .before .before .before .before .before .before .before .before .before .before .before .before .before .before .args in let p = c .before .before .before .before .before .before .before .before .before .before .before .before .before .before .before .before .before .before .before .before .before .before .pre in let l = c .before .before .before .before .before .before .before .before .loop in let k = c .before .before .before .probed in
     let G : Instance = tableBy (a .q) (a .heights .now) (a .bounds .now) (a .radices .now) (a .ys .now) (a .colours .now) in
-    sought-step G (a .least) (p .1 .1 .1) (a .caps .now) (a .site) (l .caps) (l .goals) (l .range) (l .probe) (l .inv) _ (k .result) (c .before .before .before .before .before .before .if1 .taken) (k .ensures .0) (k .ensures .1) .1
+    sought-step G (a .least) (p .1 .1 .1) (a .caps .now) (a .site) (l .caps) (l .goals) (l .range) (l .probe) (l .inv) (k .last .1 .1 .1 .1 .1 .1 .1 .1 .1 .1 .0) (k .result) (c .before .before .before .before .before .before .if1 .taken) (k .ensures .0) (k .ensures .1) .1
 
 loop-again : tie.Need-loop-again Inv-loop μ-loop
 loop-again c =
     let a = c .before .before .before .before .before .before .before .before .before .before .before .before .before .before .before .before .before .before .before .before .before .before .args in let p = c .before .before .before .before .before .before .before .before .before .before .before .before .before .before .before .before .before .before .before .before .before .before .pre in let l = c .before .before .before .before .before .before .before .before .loop in let k = c .before .before .before .probed in
     let G : Instance = tableBy (a .q) (a .heights .now) (a .bounds .now) (a .radices .now) (a .ys .now) (a .colours .now) in
-    sought-step G (a .least) (p .1 .1 .1) (a .caps .now) (a .site) (l .caps) (l .goals) (l .range) (l .probe) (l .inv) _ (k .result) (c .before .before .before .before .before .before .if1 .taken) (k .ensures .0) (k .ensures .1) .0
+    sought-step G (a .least) (p .1 .1 .1) (a .caps .now) (a .site) (l .caps) (l .goals) (l .range) (l .probe) (l .inv) (k .last .1 .1 .1 .1 .1 .1 .1 .1 .1 .1 .0) (k .result) (c .before .before .before .before .before .before .if1 .taken) (k .ensures .0) (k .ensures .1) .0
 
 add-cap : tie.Need-add-cap Inv-loop μ-loop
 add-cap c =
