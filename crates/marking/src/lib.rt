@@ -26,55 +26,7 @@ use words::NONE;
 use words::get;
 use words::monus;
 
-// A label of colour d at slot a + j, the next below the place a.
-fn mark_colour(
-    q: Measures,
-    heights: &[u32],
-    bounds: &[u32],
-    radices: &[u32],
-    draws: &[u32],
-    ys: &[u32],
-    colours: &[u32],
-    caps: &[u32],
-    work: &[u32],
-    marks: &mut [u8],
-    a: u32,
-    code: u32,
-    j: u32,
-    d: u32,
-    start: u32,
-    end: u32,
-)
-    requires { ⌜ Fits q (now heights) (now bounds) (now radices) (now draws) (now ys) (now colours) (now caps) ⌝ }
-    requires { ⌜ (a + j < length (now heights)) × (code ≤ q .colours) × (d < q .colours) × Starts (now heights) (now ys) a start × Ends (now heights) (now ys) (a + j) end ⌝ }
-    requires { ⌜ Table (tableBy q (now heights) (now bounds) (now radices) (now ys) (now colours)) (now work) (q .budgets) a code × (length (now marks) ≡ tableWords q (now heights)) × (tableWords q (now heights) ≤ length (now work)) ⌝ }
-    ensures { λ _. ⌜ ((old : List ℕ) → RowTo (tableBy q (now (heights .entry)) (now (bounds .entry)) (now (radices .entry)) (now (ys .entry)) (now (colours .entry))) (capsIn (now (caps .entry))) (q .budgets) old (now (marks .entry)) a code j d → RowTo (tableBy q (now (heights .entry)) (now (bounds .entry)) (now (radices .entry)) (now (ys .entry)) (now (colours .entry))) (capsIn (now (caps .entry))) (q .budgets) old (now (marks .exit)) a code j (suc d)) ⌝ }
-{
-    let k = a + j;
-    if !is_far(q, heights, a, code, k, d + 1) {
-        return;
-    }
-    let strip = strip_between(q, heights, ys, colours, caps, a, code, k, d + 1, start, end);
-    if strip == NONE {
-        return;
-    }
-    let skip = get(draws, d);
-    let size = block_size(q.budgets, get(bounds, d), skip, get(radices, d));
-    let own = row_start(q, a, code);
-    let to = row_start(q, k + 1, d + 1);
-    mark_blocks(
-        marks,
-        work,
-        own,
-        to,
-        q.budgets as usize,
-        skip as usize,
-        size as usize,
-        link_cost(q, strip),
-    );
-}
-
-// Labels of all colours at slot a + j.
+// Labels of all colours at slot a + j, the next below the place a.
 fn mark_slot(
     q: Measures,
     heights: &[u32],
@@ -98,28 +50,32 @@ fn mark_slot(
     requires { ⌜ Table (tableBy q (now heights) (now bounds) (now radices) (now ys) (now colours)) (now work) (q .budgets) a code × (length (now marks) ≡ tableWords q (now heights)) × (tableWords q (now heights) ≤ length (now work)) ⌝ }
     ensures { λ _. ⌜ ((old : List ℕ) → RowTo (tableBy q (now (heights .entry)) (now (bounds .entry)) (now (radices .entry)) (now (ys .entry)) (now (colours .entry))) (capsIn (now (caps .entry))) (q .budgets) old (now (marks .entry)) a code j 0 → RowTo (tableBy q (now (heights .entry)) (now (bounds .entry)) (now (radices .entry)) (now (ys .entry)) (now (colours .entry))) (capsIn (now (caps .entry))) (q .budgets) old (now (marks .exit)) a code (suc j) 0) ⌝ }
 {
+    let k = a + j;
+    let own = row_start(q, a, code);
     let last = end_colour(other, q.colours);
-    let mut d = first_colour(other, q.colours);
-    while d < last {
-        mark_colour(
-            q,
-            heights,
-            bounds,
-            radices,
-            draws,
-            ys,
-            colours,
-            caps,
-            work,
+    let mut next = first_colour(other, q.colours);
+    while next < last {
+        let d = next;
+        next += 1;
+        if !is_far(q, heights, a, code, k, next) {
+            continue;
+        }
+        let strip = strip_between(q, heights, ys, colours, caps, a, code, k, next, start, end);
+        if strip == NONE {
+            continue;
+        }
+        let skip = get(draws, d);
+        let size = block_size(q.budgets, get(bounds, d), skip, get(radices, d));
+        mark_blocks(
             marks,
-            a,
-            code,
-            j,
-            d,
-            start,
-            end,
+            work,
+            own,
+            row_start(q, k + 1, next),
+            q.budgets as usize,
+            skip as usize,
+            size as usize,
+            link_cost(q, strip),
         );
-        d += 1;
     }
 }
 

@@ -25,54 +25,7 @@ use usedslots::last_code;
 use words::NONE;
 use words::get;
 
-// A label of colour d at slot a + j, the next below the place a.
-fn colour_link(
-    q: Measures,
-    heights: &[u32],
-    bounds: &[u32],
-    radices: &[u32],
-    draws: &[u32],
-    ys: &[u32],
-    colours: &[u32],
-    caps: &[u32],
-    work: &[u32],
-    row: &mut [u32],
-    a: u32,
-    code: u32,
-    j: u32,
-    d: u32,
-    start: u32,
-    end: u32,
-)
-    requires { ⌜ Fits q (now heights) (now bounds) (now radices) (now draws) (now ys) (now colours) (now caps) ⌝ }
-    requires { ⌜ (a + j < length (now heights)) × (d < q .colours) × (q .budgets ≤ length (now row)) × (tableWords q (now heights) ≤ length (now work)) × Starts (now heights) (now ys) a start × Ends (now heights) (now ys) (a + j) end ⌝ }
-    requires { ⌜ RightFrom (tableBy q (now heights) (now bounds) (now radices) (now ys) (now colours)) (capsIn (now caps)) (now work) (q .budgets) (suc a) ⌝ }
-    requires { ⌜ RowTo (tableBy q (now heights) (now bounds) (now radices) (now ys) (now colours)) (capsIn (now caps)) (now row) (q .budgets) a code j d ⌝ }
-    ensures { λ _. ⌜ RowTo (tableBy q (now (heights .entry)) (now (bounds .entry)) (now (radices .entry)) (now (ys .entry)) (now (colours .entry))) (capsIn (now (caps .entry))) (now (row .exit)) (q .budgets) a code j (suc d) ⌝ }
-{
-    let k = a + j;
-    if !is_far(q, heights, a, code, k, d + 1) {
-        return;
-    }
-    let strip = strip_between(q, heights, ys, colours, caps, a, code, k, d + 1, start, end);
-    if strip == NONE {
-        return;
-    }
-    let skip = get(draws, d);
-    let size = block_size(q.budgets, get(bounds, d), skip, get(radices, d));
-    let from = row_start(q, k + 1, d + 1);
-    link(
-        row,
-        work,
-        from,
-        q.budgets as usize,
-        skip as usize,
-        size as usize,
-        link_cost(q, strip),
-    );
-}
-
-// Labels of all colours at slot a + j.
+// Labels of all colours at slot a + j, the next below the place a.
 fn slot_links(
     q: Measures,
     heights: &[u32],
@@ -97,28 +50,30 @@ fn slot_links(
     requires { ⌜ RowTo (tableBy q (now heights) (now bounds) (now radices) (now ys) (now colours)) (capsIn (now caps)) (now row) (q .budgets) a code j 0 ⌝ }
     ensures { λ _. ⌜ RowTo (tableBy q (now (heights .entry)) (now (bounds .entry)) (now (radices .entry)) (now (ys .entry)) (now (colours .entry))) (capsIn (now (caps .entry))) (now (row .exit)) (q .budgets) a code (suc j) 0 ⌝ }
 {
+    let k = a + j;
     let last = end_colour(other, q.colours);
-    let mut d = first_colour(other, q.colours);
-    while d < last {
-        colour_link(
-            q,
-            heights,
-            bounds,
-            radices,
-            draws,
-            ys,
-            colours,
-            caps,
-            work,
+    let mut next = first_colour(other, q.colours);
+    while next < last {
+        let d = next;
+        next += 1;
+        if !is_far(q, heights, a, code, k, next) {
+            continue;
+        }
+        let strip = strip_between(q, heights, ys, colours, caps, a, code, k, next, start, end);
+        if strip == NONE {
+            continue;
+        }
+        let skip = get(draws, d);
+        let size = block_size(q.budgets, get(bounds, d), skip, get(radices, d));
+        link(
             row,
-            a,
-            code,
-            j,
-            d,
-            start,
-            end,
+            work,
+            row_start(q, k + 1, next),
+            q.budgets as usize,
+            skip as usize,
+            size as usize,
+            link_cost(q, strip),
         );
-        d += 1;
     }
 }
 
