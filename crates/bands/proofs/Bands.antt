@@ -7,7 +7,15 @@ use native.Mathlib.Omega.{arith}
 use lib.ListN.{length, getD, set}
 use lib.Seq.{getD-set-same, getD-set-other}
 use Rattle.lists.proofs.Tests.{by-equal}
-use Rattle.bands.specs.Bands.{Between, Codes, Lost, Barred, Ends, Marks}
+use Rattle.bands.specs.Bands.{Between, Codes, Lost, Barred, Starts, Ends, Marks}
+
+-- ---- all sites
+
+pub starts-first : (hs ys : List ℕ) (a : ℕ) → Starts hs ys a 0
+starts-first hs ys a = record { few = omega arith; some = λ i l. absurd (omega arith); higher = λ i l. absurd (omega arith) }
+
+pub ends-last : (hs ys : List ℕ) (k : ℕ) → Ends hs ys k (length ys)
+ends-last hs ys k = record { few = omega arith; some = λ i l u. absurd (omega arith); lower = λ i l u. absurd (omega arith) }
 
 -- ---- codes in one number
 

@@ -12,7 +12,6 @@ use guesses::is_kept;
 use labels::Chosen;
 use labels::after_slot;
 use labels::labels_cost;
-use labels::with_label;
 use links::link_cost;
 use links::row_start;
 use words::get;
@@ -40,12 +39,13 @@ fn is_next(
     requires { ⌜ Fits q (now heights) (now bounds) (now radices) (now draws) (now ys) (now colours) (now caps) ⌝ }
     requires { ⌜ (k < length (now heights)) × (d < q .colours) ⌝ }
 {
-    let start = row_start(q, k + 1, d + 1) as u32;
+    let code = d + 1;
+    let start = row_start(q, k + 1, code) as u32;
     let rest = get(work, plus_of(start, monus(s.budget, get(draws, d))));
     if least < plus_of(s.cost, plus_of(link_cost(q, 0), rest)) {
         return false;
     }
-    let t = with_label(
+    let t = after_slot(
         q,
         heights,
         bounds,
@@ -56,7 +56,7 @@ fn is_next(
         caps,
         s,
         k,
-        d,
+        code,
     );
     plus_of(t.cost, rest) == least
 }

@@ -21,65 +21,6 @@ pub struct Chosen {
     pub cost: u32,
 }
 
-// A label of colour d at slot k.
-pub fn with_label(
-    q: Measures,
-    heights: &[u32],
-    bounds: &[u32],
-    radices: &[u32],
-    draws: &[u32],
-    ys: &[u32],
-    colours: &[u32],
-    caps: &[u32],
-    s: Chosen,
-    k: u32,
-    d: u32,
-) -> Chosen
-    requires { ⌜ Fits q (now heights) (now bounds) (now radices) (now draws) (now ys) (now colours) (now caps) ⌝ }
-    requires { ⌜ (k < length (now heights)) × (d < q .colours) ⌝ }
-    ensures { λ r. ⌜ leastAfter (tableBy q (now (heights .entry)) (now (bounds .entry)) (now (radices .entry)) (now (ys .entry)) (now (colours .entry))) (capsIn (now (caps .entry))) s k ≤ leastAfter (tableBy q (now (heights .entry)) (now (bounds .entry)) (now (radices .entry)) (now (ys .entry)) (now (colours .entry))) (capsIn (now (caps .entry))) r (suc k) ⌝ }
-{
-    if !may_stand(
-        q,
-        heights,
-        bounds,
-        radices,
-        draws,
-        s.place,
-        s.code,
-        s.budget,
-        k,
-        d,
-    ) {
-        return Chosen {
-            place: s.place,
-            code: s.code,
-            budget: s.budget,
-            cost: NONE,
-        };
-    }
-    let all = ys.len() as u32;
-    let strip = strip_between(
-        q,
-        heights,
-        ys,
-        colours,
-        caps,
-        s.place,
-        s.code,
-        k,
-        d + 1,
-        0,
-        all,
-    );
-    Chosen {
-        place: k + 1,
-        code: d + 1,
-        budget: monus(s.budget, get(draws, d)),
-        cost: plus_of(s.cost, link_cost(q, strip)),
-    }
-}
-
 // A label of a code at slot k, or none.
 pub fn after_slot(
     q: Measures,
@@ -101,27 +42,50 @@ pub fn after_slot(
     if code == 0 {
         return s;
     }
-    if q.colours < code {
-        return Chosen {
-            place: s.place,
-            code: s.code,
-            budget: s.budget,
-            cost: NONE,
-        };
+    let d = code - 1;
+    let lost = Chosen {
+        place: s.place,
+        code: s.code,
+        budget: s.budget,
+        cost: NONE,
+    };
+    if q.colours <= d {
+        return lost;
     }
-    with_label(
+    if !may_stand(
         q,
         heights,
         bounds,
         radices,
         draws,
+        s.place,
+        s.code,
+        s.budget,
+        k,
+        d,
+    ) {
+        return lost;
+    }
+    let all = ys.len() as u32;
+    let strip = strip_between(
+        q,
+        heights,
         ys,
         colours,
         caps,
-        s,
+        s.place,
+        s.code,
         k,
-        code - 1,
-    )
+        d + 1,
+        0,
+        all,
+    );
+    Chosen {
+        place: k + 1,
+        code: d + 1,
+        budget: monus(s.budget, get(draws, d)),
+        cost: plus_of(s.cost, link_cost(q, strip)),
+    }
 }
 
 // What labels cost, given by their codes slot by slot: at least the least cost.

@@ -5,11 +5,11 @@ use borrow.Author.Needs.{needs}
 use Rattle.goals.proofs.is_next.Statement.{statement}
 use Rattle.goals.proofs.is_next.Tie as tie
 
+add-code : tie.Need-add-code
+add-code c = search needs
+
 add-row-start : tie.Need-add-row-start
 add-row-start c = search needs
-
-add-row-start-2 : tie.Need-add-row-start-2
-add-row-start-2 c = search needs
 
 row-start-requires : tie.Need-row-start-requires
 row-start-requires c κs = search needs
@@ -43,8 +43,8 @@ plus-of-requires-3 c κs = search needs
 returns : tie.Need-returns
 returns c = search needs
 
-with-label-requires : tie.Need-with-label-requires
-with-label-requires c κs = search needs
+after-slot-requires : tie.Need-after-slot-requires
+after-slot-requires c κs = search needs
 
 plus-of-requires-4 : tie.Need-plus-of-requires-4
 plus-of-requires-4 c κs = search needs
@@ -56,8 +56,8 @@ pub is-next-spec : {M : Type 1} → statement M
 is-next-spec =
     tie.close
     (tie.spec
+    add-code
     add-row-start
-    add-row-start-2
     row-start-requires
     cast-start
     get-requires
@@ -68,6 +68,6 @@ is-next-spec =
     plus-of-requires-2
     plus-of-requires-3
     returns
-    with-label-requires
+    after-slot-requires
     plus-of-requires-4
     returns-2)

@@ -1,10 +1,11 @@
+use Rattle.bands.proofs.Bands.{starts-first, ends-last}
 use native.Mathlib.Nat.{le-trans}
 use Rattle.optimum.specs.UsedSlots.{value}
 use Rattle.usedslots.specs.Table.{tableBy, capsIn}
 use Rattle.labels.specs.Labels.{leastAfter}
 use Rattle.labels.proofs.Least.{least-first, least-none, cost-above}
 use mathlib.Core.Path.{refl}
-use Prim.Native.Nat.{_-_, _≤_}
+use Prim.Native.Nat.{suc, _-_, _≤_}
 use native.Mathlib.Omega.{arith}
 use native.Mathlib.Numerals.{add-one}
 use borrow.Author.Needs.{needs}
@@ -46,7 +47,7 @@ loop-less c = search needs
 loop-again : tie.Need-loop-again Inv-loop μ-loop
 loop-again c =
     let a = c .before .before .before .before .before .before .before .before .before .before .before .before .before .args in let l = c .before .before .before .loop in
-    (omega arith, rw add-one (le-trans (l .inv .1) (c .after-slot .ensures)))
+    (omega arith, rw add-one (le-trans {k = leastAfter (tableBy (a .q) (a .heights .now) (a .bounds .now) (a .radices .now) (a .ys .now) (a .colours .now)) (capsIn (a .caps .now)) (c .after-slot .result) (suc (l .k))} (l .inv .1) (c .after-slot .ensures)))
 
 returns : tie.Need-returns Inv-loop μ-loop
 returns c =
@@ -57,7 +58,7 @@ strip-between-requires : tie.Need-strip-between-requires Inv-loop μ-loop
 strip-between-requires c κs =
     let p = c .before .before .before .before .before .before .before .before .before .before .before .before .before .pre in (
       (p .colours-long, p .caps-long, c .if1 .left, omega (arith, p .few-slots)),
-      (record { few = omega arith; some = λ i l. absurd (omega arith); higher = λ i l. absurd (omega arith) }, record { few = omega arith; some = λ i l u. absurd (omega arith); lower = λ i l u. absurd (omega arith) }),
+      (starts-first _ _ _, ends-last _ _ _),
     )
 
 plus-of-requires : tie.Need-plus-of-requires Inv-loop μ-loop

@@ -1,3 +1,4 @@
+use Rattle.bands.proofs.Bands.{ends-last}
 use Rattle.marking.proofs.Rows.{row-none, row-ended, row-passed, row-in}
 use Rattle.lists.proofs.Tests.{clash}
 use borrow.Author.Tests.{not-true}
@@ -37,7 +38,7 @@ cast-all c = search needs
 strip-between-requires : tie.Need-strip-between-requires
 strip-between-requires c κs =
     let p = c .before .before .before .before .before .before .before .before .before .before .before .before .before .before .before .before .pre in
-    ((p .0 .colours-long, p .0 .caps-long, p .1 .0 .0, omega (arith, p .0 .few-slots)), (p .1 .0 .3, record { few = omega arith; some = λ i l u. absurd (omega arith); lower = λ i l u. absurd (omega arith) }))
+    ((p .0 .colours-long, p .0 .caps-long, p .1 .0 .0, omega (arith, p .0 .few-slots)), (p .1 .0 .3, ends-last _ _ _))
 
 is-any-ended-requires : tie.Need-is-any-ended-requires
 is-any-ended-requires c κs =

@@ -1,6 +1,6 @@
 use Rattle.bands.specs.Bands.{Barred, Ends}
 use Rattle.usedslots.specs.Table.{tableBy, capsIn, RowTo}
-use Rattle.bands.proofs.Bands.{barred-none, barred-down, barred-more}
+use Rattle.bands.proofs.Bands.{ends-last, barred-none, barred-down, barred-more}
 use Rattle.usedslots.proofs.Links.{row-first, row-whole, row-ends}
 use mathlib.Core.Path.{_≡_, refl, _∙_}
 use Prim.Native.Nat.{_+_, _-_, _<_, _≤_}
@@ -28,7 +28,7 @@ cast-all c =
 strip-between-requires : tie.Need-strip-between-requires Inv-loop μ-loop
 strip-between-requires c κs =
     let p = c .before .before .before .before .before .before .before .before .before .before .before .pre in
-    ((p .0 .colours-long, p .0 .caps-long, p .1 .0 .0, omega (arith, p .0 .few-slots)), (p .1 .0 .4, record { few = omega arith; some = λ i l u. absurd (omega arith); lower = λ i l u. absurd (omega arith) }))
+    ((p .0 .colours-long, p .0 .caps-long, p .1 .0 .0, omega (arith, p .0 .few-slots)), (p .1 .0 .4, ends-last _ _ _))
 
 cast-fill-row : tie.Need-cast-fill-row Inv-loop μ-loop
 cast-fill-row c = search needs
