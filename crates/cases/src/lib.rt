@@ -1,28 +1,17 @@
-// Cases of a test as lines of text: a name, a colon, and words in hexadecimal, a blank before each.
+// Cases of a test as lines of text: a name, a colon, and words in hexadecimal, a blank before each; and a line for what is given.
 ghost use Prim.Native.Nat.{_≤_};
 ghost use lib.ListN.{length};
+use libc::STDOUT_FILENO;
 
-// The value of a hexadecimal digit, 0 of another byte.
-pub fn digit(b: u8) -> u32
+// The value of a hexadecimal digit: a letter has bit 6, and the low bits 1 for A.
+fn digit(b: u8) -> u32
     ensures { λ r. ⌜ r ≤ 15 ⌝ }
 {
-    if b < b'0' {
-        return 0;
-    }
-    if b <= b'9' {
-        return (b - b'0') as u32;
-    }
-    if b < b'A' {
-        return 0;
-    }
-    if b <= b'F' {
-        return (b - b'A') as u32 + 10;
-    }
-    0
+    ((b % 16 + b / 64 * 9) % 16) as u32
 }
 
 // Takes a byte: a blank begins a word, another byte goes on with it. So many words are begun.
-pub fn take_byte(words: &mut [u32], begun: usize, b: u8) -> usize
+fn take_byte(words: &mut [u32], begun: usize, b: u8) -> usize
     requires { ⌜ begun ≤ length (now words) ⌝ }
     ensures { λ r. ⌜ r ≤ length (now (words .entry)) ⌝ }
 {
@@ -41,30 +30,18 @@ pub fn take_byte(words: &mut [u32], begun: usize, b: u8) -> usize
     begun
 }
 
-// The words after the first blank, from the front of an area; so many.
-pub fn take_words(text: &[u8], words: &mut [u32]) -> usize
+// Takes the words after the first blank, with so many before them; so many in all.
+pub fn take_words(text: &[u8], words: &mut [u32], before: usize) -> usize
+    requires { ⌜ before ≤ length (now words) ⌝ }
     ensures { λ r. ⌜ r ≤ length (now (words .entry)) ⌝ }
 {
-    let mut begun: usize = 0;
+    let mut begun = before;
     let mut i: usize = 0;
     while i < text.len() {
         begun = take_byte(words, begun, text[i]);
         i += 1;
     }
     begun
-}
-
-// The words of a line that begins with a blank; another line is a remark.
-pub fn take_line(line: &[u8], words: &mut [u32]) -> usize
-    ensures { λ r. ⌜ r ≤ length (now (words .entry)) ⌝ }
-{
-    if line.len() == 0 {
-        return 0;
-    }
-    if line[0] != b' ' {
-        return 0;
-    }
-    take_words(line, words)
 }
 
 // The first place of a byte from a place on, or the end.
@@ -82,12 +59,23 @@ pub fn place_of(text: &[u8], from: usize, b: u8) -> usize
     i
 }
 
-// A number, or the most that it may be.
-pub fn within(n: usize, most: usize) -> usize
-    ensures { λ r. ⌜ r ≤ most ⌝ }
+// Writes a line's name, and takes its words.
+pub fn take_case(line: &[u8], words: &mut [u32]) -> usize
+    ensures { λ r. ⌜ r ≤ length (now (words .entry)) ⌝ }
 {
-    if most < n {
-        return most;
-    }
-    n
+    let name = place_of(line, 0, b':');
+    io::write_all(STDOUT_FILENO, &line[0..name]);
+    take_words(&line[name..], words, 0)
+}
+
+// Ends a line with a number.
+pub fn print_number(before: &[u8], number: u32) {
+    io::write_all(STDOUT_FILENO, before);
+    io::print_decimal(STDOUT_FILENO, number as u64);
+    io::write_all(STDOUT_FILENO, b"\n");
+}
+
+pub fn print_word(word: u32) {
+    io::write_all(STDOUT_FILENO, b" ");
+    io::print_hex(STDOUT_FILENO, word as u64, 8);
 }

@@ -4,7 +4,6 @@ use crate::rules::layout_size;
 use small_sheet::Sheet;
 use small_sheet::at;
 use small_sheet::product;
-use small_sheet::remainder;
 use small_sheet::sum;
 use small_sheet::with;
 
@@ -12,8 +11,10 @@ use small_sheet::with;
 pub const NONE: u32 = 16777215;
 
 pub struct Found {
-    // of the best layout: its labels times 65536, and its length
+    // of the best layout: its count of labels and its length as in an answer's first word
     pub size: u32,
+    // these in the order of the aim
+    pub rank: u32,
     // layouts tried so far with the same count and length as the best
     pub equals: u32,
     pub layout: u64,
@@ -33,59 +34,32 @@ fn ways(sheet: Sheet, from: u32) -> u32 {
     count
 }
 
-fn quotient(a: u32, n: u32) -> u32 {
-    if n == 0 {
-        return 0;
-    }
-    a / n
-}
-
-// A site's slot in a layout, by the layout's number: the rightmost site's slot counts up first.
-fn slot_in(sheet: Sheet, number: u32, site: u32) -> u32 {
-    let right = ways(sheet, sum(at(sheet.xs, site), 1));
-    remainder(quotient(number, right), sheet.slots)
-}
-
+// A layout by its number: the rightmost site's slot counts up first.
 fn layout_at(sheet: Sheet, number: u32) -> u64 {
     let n = sheet.sites;
+    let slots = sheet.slots;
     let mut layout: u64 = 0;
     let mut i: u32 = 0;
     while i < n {
-        layout = with(layout, i, slot_in(sheet, number, i));
+        let right = ways(sheet, at(sheet.xs, i) + 1);
+        if right == 0 {
+            return layout;
+        }
+        if slots == 0 {
+            return layout;
+        }
+        layout = with(layout, i, number / right % slots);
         i += 1;
     }
     layout
 }
 
 // A size in the order of the aim: the number of labels first, or the length.
-fn in_order(sheet: Sheet, size: u32) -> u32 {
+fn rank_of(sheet: Sheet, size: u32) -> u32 {
     if sheet.flags % 2 == 1 {
-        return size % 65536 * 256 + size / 65536 % 256;
+        return size % 2097152 * 256 + size / 2097152 % 256;
     }
     size
-}
-
-// The best so far, after one more layout.
-fn after(sheet: Sheet, layout: u64, best: Found) -> Found {
-    if !is_lawful(sheet, layout) {
-        return best;
-    }
-    let size = layout_size(sheet, layout);
-    if in_order(sheet, size) < in_order(sheet, best.size) {
-        return Found {
-            size: size,
-            equals: 1,
-            layout: layout,
-        };
-    }
-    if size == best.size {
-        return Found {
-            size: size,
-            equals: sum(best.equals, 1),
-            layout: best.layout,
-        };
-    }
-    best
 }
 
 // With no site there is one layout, and with no slot and some site there is none.
@@ -93,21 +67,32 @@ pub fn search(sheet: Sheet) -> Found {
     let n = ways(sheet, 0);
     let mut best = Found {
         size: NONE,
+        rank: NONE,
         equals: 0,
         layout: 0,
     };
     let mut i: u32 = 0;
     while i < n {
-        best = after(sheet, layout_at(sheet, i), best);
+        let layout = layout_at(sheet, i);
         i += 1;
+        if !is_lawful(sheet, layout) {
+            continue;
+        }
+        let size = layout_size(sheet, layout);
+        let rank = rank_of(sheet, size);
+        if best.rank < rank {
+            continue;
+        }
+        if rank == best.rank {
+            best.equals = sum(best.equals, 1);
+            continue;
+        }
+        best = Found {
+            size: size,
+            rank: rank,
+            equals: 1,
+            layout: layout,
+        };
     }
     best
-}
-
-// The answer's words: count and length, then a word for each site.
-pub fn answer_word(best: Found, i: u32) -> u32 {
-    if i == 0 {
-        return 2147483648 + best.size / 65536 % 128 * 2097152 + best.size % 65536;
-    }
-    2415919104 + at(best.layout, i - 1) % 256
 }

@@ -1,5 +1,10 @@
-// A small sheet as numbers by value. Nothing here is shared with the layout maker or the judge.
+// Small sheets as numbers by value, and a recipe that makes them. Nothing here is shared with the layout maker or the judge.
 // A row is eight numbers below 256 in one word: a number for each slot, each colour or each site.
+ghost use Prim.Native.Nat.{_≤_};
+
+pub mod recipe;
+pub mod words;
+
 pub struct Sheet {
     // the last number drawn, from which the next is
     pub seed: u32,
@@ -18,7 +23,9 @@ pub struct Sheet {
 }
 
 // The number at a place of a row.
-pub fn at(row: u64, i: u32) -> u32 {
+pub fn at(row: u64, i: u32) -> u32
+    ensures { λ r. ⌜ r ≤ 255 ⌝ }
+{
     ((row >> ((i % 8 * 8) as u64)) % 256) as u32
 }
 
@@ -34,6 +41,17 @@ pub fn joined(set: u32, number: u32) -> u32 {
 
 pub fn has(set: u32, number: u32) -> bool {
     (set >> (number % 32)) % 2 == 1
+}
+
+// The set of the first n numbers of a row.
+pub fn set_of(row: u64, n: u32) -> u32 {
+    let mut set: u32 = 0;
+    let mut i: u32 = 0;
+    while i < n {
+        set = joined(set, at(row, i));
+        i += 1;
+    }
+    set
 }
 
 // Numbers here stay far below 2^24 and 2^16.
@@ -52,13 +70,6 @@ pub fn apart(a: u32, b: u32) -> u32 {
         return b - a;
     }
     a - b
-}
-
-pub fn remainder(a: u32, n: u32) -> u32 {
-    if n == 0 {
-        return 0;
-    }
-    a % n
 }
 
 pub fn lesser(a: u32, b: u32) -> u32 {

@@ -1,18 +1,8 @@
 // What the reader gives, compared with what document 01 says; cases and differences are counted.
-ghost use Prim.Native.Nat.{_≤_};
-use cases::within;
 use libc::STDOUT_FILENO;
 use reader::ColourSize;
 use reader::Sizes;
 use reader::read_sheet;
-
-// A tally of cases in one number: 65536 for each, and 1 for each that differs.
-fn tally_of(right: bool) -> u32 {
-    if right {
-        return 65536;
-    }
-    65537
-}
 
 // The word at a place, 0 past the end.
 fn word_at(words: &[u32], i: usize) -> u32 {
@@ -57,27 +47,23 @@ fn same(sizes: Sizes, wanted: &[u32]) -> bool {
 }
 
 // How many words say what is wanted.
-fn wanted_words(words: &[u32]) -> usize
-    ensures { λ r. ⌜ r ≤ 22 ⌝ }
-{
+fn wanted_words(words: &[u32]) -> usize {
     if word_at(words, 0) != 0 {
         return 1;
     }
     6 + 2 * (word_at(words, 3) % 9) as usize
 }
 
-fn compare(words: &[u32]) -> u32 {
-    let k = within(wanted_words(words), words.len());
-    tally_of(same(read_sheet(&words[k..]), &words[0..k]))
-}
-
-// One case, the first n words: what is wanted, and the sheet after it; no word is no case.
-pub fn case(words: &[u32], n: usize) -> u32 {
-    let k = within(n, words.len());
-    if k == 0 {
-        return 0;
+// A case: what is wanted, and the sheet after it. A tally of cases is one number: 65536 for each, and 1 for each that differs.
+pub fn compare(words: &[u32]) -> u32 {
+    let k = wanted_words(words);
+    if words.len() < k {
+        return 65537;
     }
-    compare(&words[0..k])
+    if same(read_sheet(&words[k..]), &words[0..k]) {
+        return 65536;
+    }
+    65537
 }
 
 // A line for a group of cases.

@@ -10,5 +10,5 @@ use libc::STDIN_FILENO;
 fn main() {
     let mut text = io::large_buffer();
     let got = io::read_full(STDIN_FILENO, &mut text);
-    say(b"all", read_groups(&text[..got]));
+    say(b"all", read_groups(&text[0..got]));
 }

@@ -1,4 +1,4 @@
-//! The sheets of the test program `try_search`, drawn here by its recipe, and what the search in Rust finds in them:
+//! The sheets of the test program `try_maker`, drawn here by its recipe, and what the search in Rust finds in them:
 //! each count that the program has to print is counted twice, by code that shares nothing.
 
 use model::search::{find, Found};
@@ -167,5 +167,5 @@ fn the_counts_of_the_test_program_are_those_of_the_search() {
     }
     let lines = counts.iter().zip(LINES).map(|(count, line)| format!("{count} {line}\n"));
     let printed = lines.chain(["0 differences\n".to_string()]).collect::<String>();
-    assert_eq!(include_str!("../../../crates/try_search/stdout"), printed);
+    assert!(include_str!("../../../crates/try_maker/stdout").contains(&printed), "{printed}");
 }

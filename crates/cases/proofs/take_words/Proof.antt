@@ -6,10 +6,10 @@ use Rattle.cases.proofs.take_words.Statement.{statement}
 use Rattle.cases.proofs.take_words.Tie as tie
 
 abbrev Inv-loop : tie.InvT-loop
-Inv-loop text words₀ begun₀ i₀ words begun i = (length words ≡ length words₀) × (begun ≤ length words₀)
+Inv-loop text words₀ before begun₀ i₀ words begun i = (length words ≡ length words₀) × (begun ≤ length words₀)
 
 abbrev μ-loop : tie.MeasureT-loop
-μ-loop text words₀ begun₀ i₀ words begun i = length text - i
+μ-loop text words₀ before begun₀ i₀ words begun i = length text - i
 
 loop-holds : tie.Need-loop-holds Inv-loop μ-loop
 loop-holds c = search needs

@@ -16,6 +16,18 @@ loop-holds c = search needs
 place-of-requires : tie.Need-place-of-requires Inv-loop μ-loop
 place-of-requires c κs = search needs
 
+add-from : tie.Need-add-from Inv-loop μ-loop
+add-from c = search needs
+
+shared-slice-read-if1 : tie.Need-shared-slice-read-if1 Inv-loop μ-loop
+shared-slice-read-if1 c = search needs
+
+loop-less : tie.Need-loop-less Inv-loop μ-loop
+loop-less c = search needs
+
+loop-again : tie.Need-loop-again Inv-loop μ-loop
+loop-again c = search needs
+
 sub-judge-line : tie.Need-sub-judge-line Inv-loop μ-loop
 sub-judge-line c = search needs
 
@@ -28,14 +40,11 @@ part-judge-line-end c = search needs
 judge-line-requires : tie.Need-judge-line-requires Inv-loop μ-loop
 judge-line-requires c κs = search needs
 
-add-from : tie.Need-add-from Inv-loop μ-loop
-add-from c = search needs
+loop-less-2 : tie.Need-loop-less-2 Inv-loop μ-loop
+loop-less-2 c = search needs
 
-loop-less : tie.Need-loop-less Inv-loop μ-loop
-loop-less c = search needs
-
-loop-again : tie.Need-loop-again Inv-loop μ-loop
-loop-again c = search needs
+loop-again-2 : tie.Need-loop-again-2 Inv-loop μ-loop
+loop-again-2 c = search needs
 
 returns : tie.Need-returns Inv-loop μ-loop
 returns c = search needs
@@ -48,11 +57,14 @@ judge-lines-spec =
     μ-loop
     loop-holds
     place-of-requires
+    add-from
+    shared-slice-read-if1
+    loop-less
+    loop-again
     sub-judge-line
     part-judge-line-start
     part-judge-line-end
     judge-line-requires
-    add-from
-    loop-less
-    loop-again
+    loop-less-2
+    loop-again-2
     returns)

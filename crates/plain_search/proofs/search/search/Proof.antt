@@ -18,17 +18,44 @@ loop-holds c = search needs
 layout-at-requires : tie.Need-layout-at-requires Inv-loop μ-loop
 layout-at-requires c κs = search needs
 
-after-requires : tie.Need-after-requires Inv-loop μ-loop
-after-requires c κs = search needs
-
 add-i : tie.Need-add-i Inv-loop μ-loop
 add-i c = search needs
+
+is-lawful-requires : tie.Need-is-lawful-requires Inv-loop μ-loop
+is-lawful-requires c κs = search needs
 
 loop-less : tie.Need-loop-less Inv-loop μ-loop
 loop-less c = search needs
 
 loop-again : tie.Need-loop-again Inv-loop μ-loop
 loop-again c = search needs
+
+layout-size-requires : tie.Need-layout-size-requires Inv-loop μ-loop
+layout-size-requires c κs = search needs
+
+rank-of-requires : tie.Need-rank-of-requires Inv-loop μ-loop
+rank-of-requires c κs = search needs
+
+loop-less-2 : tie.Need-loop-less-2 Inv-loop μ-loop
+loop-less-2 c = search needs
+
+loop-again-2 : tie.Need-loop-again-2 Inv-loop μ-loop
+loop-again-2 c = search needs
+
+sum-requires : tie.Need-sum-requires Inv-loop μ-loop
+sum-requires c κs = search needs
+
+loop-less-3 : tie.Need-loop-less-3 Inv-loop μ-loop
+loop-less-3 c = search needs
+
+loop-again-3 : tie.Need-loop-again-3 Inv-loop μ-loop
+loop-again-3 c = search needs
+
+loop-less-4 : tie.Need-loop-less-4 Inv-loop μ-loop
+loop-less-4 c = search needs
+
+loop-again-4 : tie.Need-loop-again-4 Inv-loop μ-loop
+loop-again-4 c = search needs
 
 returns : tie.Need-returns Inv-loop μ-loop
 returns c = search needs
@@ -42,8 +69,17 @@ search-spec =
     ways-requires
     loop-holds
     layout-at-requires
-    after-requires
     add-i
+    is-lawful-requires
     loop-less
     loop-again
+    layout-size-requires
+    rank-of-requires
+    loop-less-2
+    loop-again-2
+    sum-requires
+    loop-less-3
+    loop-again-3
+    loop-less-4
+    loop-again-4
     returns)

@@ -4,7 +4,7 @@ use Rattle.try_reader.proofs.compare.same_colours.Statement.{statement}
 use Rattle.try_reader.proofs.compare.same_colours.Tie as tie
 
 abbrev Inv-loop : tie.InvT-loop
-Inv-loop wanted colours i₀ i = (i ≤ 8)
+Inv-loop wanted colours i₀ i = i ≤ 8
 
 abbrev μ-loop : tie.MeasureT-loop
 μ-loop wanted colours i₀ i = 8 - i

@@ -1,0 +1,163 @@
+// What a call of the layout maker should answer and leave, by the search. Some calls are lent too little.
+use crate::search::Found;
+use crate::search::NONE;
+use crate::search::search;
+use small_sheet::Sheet;
+use small_sheet::at;
+use small_sheet::last_of;
+use small_sheet::recipe::drawn;
+use small_sheet::recipe::next;
+use small_sheet::recipe::work_words;
+use small_sheet::sum;
+
+// What an area holds before a call.
+fn old_word(i: u32, seed: u32) -> u32 {
+    2147483648 + (i % 65536 * 7 + seed / 65536) % 65536
+}
+
+pub fn fill(area: &mut [u32], seed: u32) {
+    let mut i: usize = 0;
+    while i < area.len() {
+        area[i] = old_word((i % 65536) as u32, seed);
+        i += 1;
+    }
+}
+
+// What a call writes in front of an area: so many words, the first, and the others with a slot each; the seed of the words before it.
+struct Written {
+    words: u32,
+    first: u32,
+    other: u32,
+    slots: u64,
+    seed: u32,
+}
+
+fn word_after(w: Written, i: u32) -> u32 {
+    if w.words <= i {
+        return old_word(i, w.seed);
+    }
+    if i == 0 {
+        return w.first;
+    }
+    w.other % 4294967040 + at(w.slots, i - 1)
+}
+
+// Does an area hold what a call leaves there?
+fn is_left(area: &[u32], w: Written) -> bool {
+    let mut i: usize = 0;
+    while i < area.len() {
+        if area[i] != word_after(w, (i % 65536) as u32) {
+            return false;
+        }
+        i += 1;
+    }
+    true
+}
+
+// So many words are lent; the last number drawn.
+struct Room {
+    words: u32,
+    seed: u32,
+}
+
+// One word too few one time in 32, else up to two too many.
+fn lent_for(before: u32, needed: u32) -> Room {
+    let seed = next(before);
+    if drawn(seed, 31) == 0 {
+        return Room {
+            words: last_of(needed),
+            seed: seed,
+        };
+    }
+    let more = next(seed);
+    Room {
+        words: sum(needed, drawn(more, 2)),
+        seed: more,
+    }
+}
+
+fn fault_for(work: u32, needed: u32, out: u32, answer: u32, size: u32) -> u8 {
+    if work < needed {
+        return 8;
+    }
+    if out < answer {
+        return 9;
+    }
+    if size != NONE {
+        return 0;
+    }
+    10
+}
+
+// How many words are lent of the sheet, for work and for the answer; what the call should answer; the words that it needs.
+pub struct Expected {
+    pub words: u32,
+    pub work: u32,
+    pub out: u32,
+    pub fault: u8,
+    pub needed: u32,
+    pub answer: u32,
+    pub best: Found,
+    // the last number drawn: the areas' words before the call come from it
+    pub seed: u32,
+}
+
+pub fn expected_for(sheet: Sheet) -> Expected {
+    let needed = work_words(sheet);
+    let answer = sum(sheet.sites, 1);
+    let work = lent_for(sheet.seed, needed);
+    let out = lent_for(work.seed, answer);
+    let best = search(sheet);
+    Expected {
+        words: sum(answer, sum(sheet.slots, sheet.colours)),
+        work: work.words,
+        out: out.words,
+        fault: fault_for(work.words, needed, out.words, answer, best.size),
+        needed: needed,
+        answer: answer,
+        best: best,
+        seed: next(out.seed),
+    }
+}
+
+// The needed work words are zero after 0 and 10.
+fn work_written(e: Expected) -> Written {
+    let mut words = e.needed;
+    if e.fault % 10 != 0 {
+        words = 0;
+    }
+    Written {
+        words: words,
+        first: 0,
+        other: 0,
+        slots: 0,
+        seed: e.seed,
+    }
+}
+
+// After 0 the answer stands in front: count and length, then a word for each site.
+fn answer_written(e: Expected) -> Written {
+    let mut words = e.answer;
+    if e.fault != 0 {
+        words = 0;
+    }
+    let best = e.best;
+    Written {
+        words: words,
+        first: 2147483648 + best.size % 268435456,
+        other: 2415919104,
+        slots: best.layout,
+        seed: e.seed,
+    }
+}
+
+// Are a call's answer and both areas after it as they should be?
+pub fn is_right(e: Expected, fault: u8, work: &[u32], out: &[u32]) -> bool {
+    if fault != e.fault {
+        return false;
+    }
+    if !is_left(work, work_written(e)) {
+        return false;
+    }
+    is_left(out, answer_written(e))
+}
