@@ -20,48 +20,7 @@ use words::plus_of;
 
 // ---- the labels: nothing rests on them, whoever uses them asks for their cost
 
-// The table goes on from a label of colour d at slot k. Most cannot come to the least, whatever the strip above them costs.
-fn is_next(
-    q: Measures,
-    heights: &[u32],
-    bounds: &[u32],
-    radices: &[u32],
-    draws: &[u32],
-    ys: &[u32],
-    colours: &[u32],
-    caps: &[u32],
-    work: &[u32],
-    s: Chosen,
-    k: u32,
-    d: u32,
-    least: u32,
-) -> bool
-    requires { ⌜ Fits q (now heights) (now bounds) (now radices) (now draws) (now ys) (now colours) (now caps) ⌝ }
-    requires { ⌜ (k < length (now heights)) × (d < q .colours) ⌝ }
-{
-    let code = d + 1;
-    let start = row_start(q, k + 1, code) as u32;
-    let rest = get(work, plus_of(start, monus(s.budget, get(draws, d))));
-    if least < plus_of(s.cost, plus_of(link_cost(q, 0), rest)) {
-        return false;
-    }
-    let t = after_slot(
-        q,
-        heights,
-        bounds,
-        radices,
-        draws,
-        ys,
-        colours,
-        caps,
-        s,
-        k,
-        code,
-    );
-    plus_of(t.cost, rest) == least
-}
-
-// The code of a label at slot k that the table goes on from, or 0.
+// The code of a label at slot k that the table goes on from, or 0. Most cannot come to the least, whatever the strip above them costs.
 fn code_at(
     q: Measures,
     heights: &[u32],
@@ -79,9 +38,16 @@ fn code_at(
     requires { ⌜ Fits q (now heights) (now bounds) (now radices) (now draws) (now ys) (now colours) (now caps) ⌝ }
     requires { ⌜ k < length (now heights) ⌝ }
 {
-    let mut d: u32 = 0;
-    while d < q.colours {
-        if is_next(
+    let mut code: u32 = 0;
+    while code < q.colours {
+        let left = monus(s.budget, get(draws, code));
+        code += 1;
+        let start = row_start(q, k + 1, code) as u32;
+        let rest = get(work, plus_of(start, left));
+        if least < plus_of(s.cost, plus_of(link_cost(q, 0), rest)) {
+            continue;
+        }
+        let t = after_slot(
             q,
             heights,
             bounds,
@@ -90,15 +56,13 @@ fn code_at(
             ys,
             colours,
             caps,
-            work,
             s,
             k,
-            d,
-            least,
-        ) {
-            return d + 1;
+            code,
+        );
+        if plus_of(t.cost, rest) == least {
+            return code;
         }
-        d += 1;
     }
     0
 }
