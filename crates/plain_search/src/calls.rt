@@ -5,6 +5,7 @@ use crate::search::search;
 use small_sheet::Sheet;
 use small_sheet::at;
 use small_sheet::last_of;
+use small_sheet::product;
 use small_sheet::recipe::drawn;
 use small_sheet::recipe::next;
 use small_sheet::recipe::work_words;
@@ -122,12 +123,8 @@ pub fn expected_for(sheet: Sheet) -> Expected {
 
 // The needed work words are zero after 0 and 10.
 fn work_written(e: Expected) -> Written {
-    let mut words = e.needed;
-    if e.fault % 10 != 0 {
-        words = 0;
-    }
     Written {
-        words: words,
+        words: product((e.fault % 10 == 0) as u32, e.needed),
         first: 0,
         other: 0,
         slots: 0,
@@ -137,13 +134,9 @@ fn work_written(e: Expected) -> Written {
 
 // After 0 the answer stands in front: count and length, then a word for each site.
 fn answer_written(e: Expected) -> Written {
-    let mut words = e.answer;
-    if e.fault != 0 {
-        words = 0;
-    }
     let best = e.best;
     Written {
-        words: words,
+        words: product((e.fault == 0) as u32, e.answer),
         first: 2147483648 + best.size % 268435456,
         other: 2415919104,
         slots: best.layout,
@@ -153,11 +146,7 @@ fn answer_written(e: Expected) -> Written {
 
 // Are a call's answer and both areas after it as they should be?
 pub fn is_right(e: Expected, fault: u8, work: &[u32], out: &[u32]) -> bool {
-    if fault != e.fault {
-        return false;
-    }
-    if !is_left(work, work_written(e)) {
-        return false;
-    }
-    is_left(out, answer_written(e))
+    let is_work_right = is_left(work, work_written(e));
+    let is_out_right = is_left(out, answer_written(e));
+    (fault == e.fault) & is_work_right & is_out_right
 }

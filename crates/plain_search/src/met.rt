@@ -3,7 +3,6 @@ use crate::calls::Expected;
 use crate::rules::slots_of;
 use small_sheet::Sheet;
 use small_sheet::at;
-use small_sheet::has;
 use small_sheet::joined;
 use small_sheet::set_of;
 use small_sheet::sum;
@@ -38,18 +37,15 @@ fn noted(set: u32, kind: u32, met: bool) -> u32 {
 // Does the answer give some colour with a bound all the labels that it may have?
 fn spends_bound(sheet: Sheet, layout: u64) -> bool {
     let n = sheet.colours;
+    let mut spent = false;
     let mut c: u32 = 0;
     while c < n {
         let most = at(sheet.bounds, c);
         let labels = u32::count_ones(slots_of(sheet, layout, c));
-        if 0 < most {
-            if labels == most {
-                return true;
-            }
-        }
+        spent = spent | (0 < most) & (labels == most);
         c += 1;
     }
-    false
+    spent
 }
 
 // The kinds that a sheet is of.
@@ -78,12 +74,8 @@ pub fn counted(counts: [u32; 12], set: u32) -> [u32; 12] {
     let mut more = counts;
     let mut i: usize = 0;
     while i < 12 {
-        let kind = i;
+        more[i] = sum(more[i], (set >> (i as u32)) % 2);
         i += 1;
-        if !has(set, kind as u32) {
-            continue;
-        }
-        more[kind] = sum(more[kind], 1);
     }
     more
 }

@@ -45,49 +45,32 @@ pub fn slots_of(sheet: Sheet, layout: u64, colour: u32) -> u32 {
 // Rule 1: no slot has sites of two colours. Rule 2: no colour has more labels than its bound; 255, for no bound, is more than there are.
 fn keeps_colours(sheet: Sheet, layout: u64) -> bool {
     let n = sheet.colours;
+    let mut kept = true;
     let mut used: u32 = 0;
     let mut c: u32 = 0;
     while c < n {
         let own = slots_of(sheet, layout, c);
-        if used & own != 0 {
-            return false;
-        }
-        if at(sheet.bounds, c) < u32::count_ones(own) {
-            return false;
-        }
+        kept = kept & (used & own == 0) & (u32::count_ones(own) <= at(sheet.bounds, c));
         used = used | own;
         c += 1;
     }
-    true
+    kept
 }
 
 // Rules 3 to 5 for a site and a slot: its own, one that is not used, or another label's. A backbone reaches from its left end to the
-// width, and no site lies right of that.
+// width, and no site lies right of that; it crosses the site's vertical if it lies between the site and its label.
 fn is_clear(sheet: Sheet, layout: u64, site: u32, slot: u32) -> bool {
     let own = at(layout, site);
     let end = left_end(sheet, layout, slot);
-    if own == slot {
-        return true;
-    }
-    if end == NOWHERE {
-        return true;
-    }
+    let y = at(sheet.ys, site);
     let h = at(sheet.heights, slot);
     let label = at(sheet.heights, own);
     let over = apart(label, h);
-    if over < sheet.gap {
-        return false;
-    }
-    if at(sheet.xs, site) < end {
-        return true;
-    }
-    // The backbone crosses the site's vertical if it lies between the site and its label.
-    let y = at(sheet.ys, site);
     let near = apart(y, h);
-    if sum(near, over) == apart(y, label) {
-        return false;
-    }
-    sheet.gap <= near
+    let is_other = (own != slot) & (end != NOWHERE);
+    let is_left = at(sheet.xs, site) < end;
+    let is_crossed = sum(near, over) == apart(y, label);
+    !is_other | (sheet.gap <= over) & (is_left | (sheet.gap <= near) & !is_crossed)
 }
 
 // Rules 1 to 5: the colours, then each site and each slot.

@@ -3,6 +3,7 @@ use crate::rules::is_lawful;
 use crate::rules::layout_size;
 use small_sheet::Sheet;
 use small_sheet::at;
+use small_sheet::last_of;
 use small_sheet::product;
 use small_sheet::sum;
 use small_sheet::with;
@@ -34,21 +35,16 @@ fn ways(sheet: Sheet, from: u32) -> u32 {
     count
 }
 
-// A layout by its number: the rightmost site's slot counts up first.
+// A layout by its number: the rightmost site's slot counts up first. There is some slot if there is some layout with a site.
 fn layout_at(sheet: Sheet, number: u32) -> u64 {
     let n = sheet.sites;
-    let slots = sheet.slots;
+    let last = last_of(sheet.slots);
     let mut layout: u64 = 0;
     let mut i: u32 = 0;
     while i < n {
-        let right = ways(sheet, at(sheet.xs, i) + 1);
-        if right == 0 {
-            return layout;
-        }
-        if slots == 0 {
-            return layout;
-        }
-        layout = with(layout, i, number / right % slots);
+        let right = last_of(ways(sheet, at(sheet.xs, i) + 1));
+        let slot = number / (right % 65536 + 1) % (last % 256 + 1);
+        layout = with(layout, i, slot);
         i += 1;
     }
     layout
@@ -80,11 +76,8 @@ pub fn search(sheet: Sheet) -> Found {
         }
         let size = layout_size(sheet, layout);
         let rank = rank_of(sheet, size);
-        if best.rank < rank {
-            continue;
-        }
-        if rank == best.rank {
-            best.equals = sum(best.equals, 1);
+        if best.rank <= rank {
+            best.equals = sum(best.equals, (rank == best.rank) as u32);
             continue;
         }
         best = Found {

@@ -39,10 +39,6 @@ pub fn joined(set: u32, number: u32) -> u32 {
     set | (1u32 << (number % 32))
 }
 
-pub fn has(set: u32, number: u32) -> bool {
-    (set >> (number % 32)) % 2 == 1
-}
-
 // The set of the first n numbers of a row.
 pub fn set_of(row: u64, n: u32) -> u32 {
     let mut set: u32 = 0;

@@ -2,7 +2,6 @@
 ghost use Prim.Native.Nat.{_≤_};
 use crate::Sheet;
 use crate::at;
-use crate::has;
 use crate::last_of;
 use crate::lesser;
 use crate::product;
@@ -107,10 +106,8 @@ fn free_column(taken: u32, from: u32, width: u32) -> u32 {
     let mut place = from;
     let mut i: u32 = 0;
     while i < 8 {
-        if !has(taken, place) {
-            return place;
-        }
-        place = sum(place, 1) % (width % 256 + 1);
+        let is_taken = (taken >> (place % 32)) % 2;
+        place = sum(place, is_taken) % (width % 256 + 1);
         i += 1;
     }
     place

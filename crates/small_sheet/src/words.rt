@@ -17,10 +17,7 @@ fn word_at(sheet: Sheet, place: u32, colours: u32) -> u32 {
     }
     let colour = 805306368 + at(sheet.bounds, colours);
     let site = apart(place, sum(sum(sheet.slots, 1), colours));
-    if sheet.sites <= site {
-        return colour;
-    }
-    if colours <= at(sheet.site_colours, site) {
+    if (sheet.sites <= site) | (colours <= at(sheet.site_colours, site)) {
         return colour;
     }
     1073741824 + at(sheet.xs, site) * 16384 + at(sheet.ys, site)
@@ -34,11 +31,8 @@ pub fn sheet_words(sheet: Sheet) -> [u32; 32] {
     while i < 32 {
         let word = word_at(sheet, i as u32, colours);
         words[i] = word;
+        colours = sum(colours, (word / 268435456 == 3) as u32);
         i += 1;
-        if word / 268435456 != 3 {
-            continue;
-        }
-        colours += 1;
     }
     words
 }

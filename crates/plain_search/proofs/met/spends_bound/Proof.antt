@@ -4,10 +4,10 @@ use Rattle.plain_search.proofs.met.spends_bound.Statement.{statement}
 use Rattle.plain_search.proofs.met.spends_bound.Tie as tie
 
 abbrev Inv-loop : tie.InvT-loop
-Inv-loop sheet layout n c₀ c = c ≤ n
+Inv-loop sheet layout n spent₀ c₀ spent c = c ≤ n
 
 abbrev μ-loop : tie.MeasureT-loop
-μ-loop sheet layout n c₀ c = n - c
+μ-loop sheet layout n spent₀ c₀ spent c = n - c
 
 loop-holds : tie.Need-loop-holds Inv-loop μ-loop
 loop-holds c = search needs
@@ -18,9 +18,6 @@ at-requires c κs = search needs
 slots-of-requires : tie.Need-slots-of-requires Inv-loop μ-loop
 slots-of-requires c κs = search needs
 
-returns : tie.Need-returns Inv-loop μ-loop
-returns c = search needs
-
 add-c : tie.Need-add-c Inv-loop μ-loop
 add-c c = search needs
 
@@ -30,8 +27,8 @@ loop-less c = search needs
 loop-again : tie.Need-loop-again Inv-loop μ-loop
 loop-again c = search needs
 
-returns-2 : tie.Need-returns-2 Inv-loop μ-loop
-returns-2 c = search needs
+returns : tie.Need-returns Inv-loop μ-loop
+returns c = search needs
 
 pub spends-bound-spec : {M : Type 1} → statement M
 spends-bound-spec =
@@ -42,8 +39,7 @@ spends-bound-spec =
     loop-holds
     at-requires
     slots-of-requires
-    returns
     add-c
     loop-less
     loop-again
-    returns-2)
+    returns)

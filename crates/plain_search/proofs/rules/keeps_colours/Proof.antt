@@ -4,10 +4,10 @@ use Rattle.plain_search.proofs.rules.keeps_colours.Statement.{statement
 use Rattle.plain_search.proofs.rules.keeps_colours.Tie as tie
 
 abbrev Inv-loop : tie.InvT-loop
-Inv-loop sheet layout n used₀ c₀ used c = c ≤ n
+Inv-loop sheet layout n kept₀ used₀ c₀ kept used c = c ≤ n
 
 abbrev μ-loop : tie.MeasureT-loop
-μ-loop sheet layout n used₀ c₀ used c = n - c
+μ-loop sheet layout n kept₀ used₀ c₀ kept used c = n - c
 
 loop-holds : tie.Need-loop-holds Inv-loop μ-loop
 loop-holds c = search needs
@@ -15,14 +15,8 @@ loop-holds c = search needs
 slots-of-requires : tie.Need-slots-of-requires Inv-loop μ-loop
 slots-of-requires c κs = search needs
 
-returns : tie.Need-returns Inv-loop μ-loop
-returns c = search needs
-
 at-requires : tie.Need-at-requires Inv-loop μ-loop
 at-requires c κs = search needs
-
-returns-2 : tie.Need-returns-2 Inv-loop μ-loop
-returns-2 c = search needs
 
 add-c : tie.Need-add-c Inv-loop μ-loop
 add-c c = search needs
@@ -33,8 +27,8 @@ loop-less c = search needs
 loop-again : tie.Need-loop-again Inv-loop μ-loop
 loop-again c = search needs
 
-returns-3 : tie.Need-returns-3 Inv-loop μ-loop
-returns-3 c = search needs
+returns : tie.Need-returns Inv-loop μ-loop
+returns c = search needs
 
 pub keeps-colours-spec : {M : Type 1} → statement M
 keeps-colours-spec =
@@ -44,10 +38,8 @@ keeps-colours-spec =
     μ-loop
     loop-holds
     slots-of-requires
-    returns
     at-requires
-    returns-2
     add-c
     loop-less
     loop-again
-    returns-3)
+    returns)

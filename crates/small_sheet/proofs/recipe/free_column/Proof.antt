@@ -12,11 +12,8 @@ abbrev μ-loop : tie.MeasureT-loop
 loop-holds : tie.Need-loop-holds Inv-loop μ-loop
 loop-holds c = search needs
 
-has-requires : tie.Need-has-requires Inv-loop μ-loop
-has-requires c κs = search needs
-
-returns : tie.Need-returns Inv-loop μ-loop
-returns c = search needs
+shr-is-taken : tie.Need-shr-is-taken Inv-loop μ-loop
+shr-is-taken c = search needs
 
 sum-requires : tie.Need-sum-requires Inv-loop μ-loop
 sum-requires c κs = search needs
@@ -36,8 +33,8 @@ loop-less c = search needs
 loop-again : tie.Need-loop-again Inv-loop μ-loop
 loop-again c = search needs
 
-returns-2 : tie.Need-returns-2 Inv-loop μ-loop
-returns-2 c = search needs
+returns : tie.Need-returns Inv-loop μ-loop
+returns c = search needs
 
 pub free-column-spec : {M : Type 1} → statement M
 free-column-spec =
@@ -46,12 +43,11 @@ free-column-spec =
     Inv-loop
     μ-loop
     loop-holds
-    has-requires
-    returns
+    shr-is-taken
     sum-requires
     add-place
     rem-place
     add-i
     loop-less
     loop-again
-    returns-2)
+    returns)

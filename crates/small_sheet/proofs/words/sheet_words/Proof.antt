@@ -4,7 +4,7 @@ use Rattle.small_sheet.proofs.words.sheet_words.Statement.{statement}
 use Rattle.small_sheet.proofs.words.sheet_words.Tie as tie
 
 abbrev Inv-loop : tie.InvT-loop
-Inv-loop sheet words₀ colours₀ i₀ words colours i = (i ≤ 32) × (colours ≤ i)
+Inv-loop sheet words₀ colours₀ i₀ words colours i = i ≤ 32
 
 abbrev μ-loop : tie.MeasureT-loop
 μ-loop sheet words₀ colours₀ i₀ words colours i = 32 - i
@@ -24,6 +24,12 @@ mul-words c = search needs
 array-write-words : tie.Need-array-write-words Inv-loop μ-loop
 array-write-words c = search needs
 
+cast-sum : tie.Need-cast-sum Inv-loop μ-loop
+cast-sum c = search needs
+
+sum-requires : tie.Need-sum-requires Inv-loop μ-loop
+sum-requires c κs = search needs
+
 add-i : tie.Need-add-i Inv-loop μ-loop
 add-i c = search needs
 
@@ -32,15 +38,6 @@ loop-less c = search needs
 
 loop-again : tie.Need-loop-again Inv-loop μ-loop
 loop-again c = search needs
-
-add-colours : tie.Need-add-colours Inv-loop μ-loop
-add-colours c = search needs
-
-loop-less-2 : tie.Need-loop-less-2 Inv-loop μ-loop
-loop-less-2 c = search needs
-
-loop-again-2 : tie.Need-loop-again-2 Inv-loop μ-loop
-loop-again-2 c = search needs
 
 returns : tie.Need-returns Inv-loop μ-loop
 returns c = search needs
@@ -56,10 +53,9 @@ sheet-words-spec =
     word-at-requires
     mul-words
     array-write-words
+    cast-sum
+    sum-requires
     add-i
     loop-less
     loop-again
-    add-colours
-    loop-less-2
-    loop-again-2
     returns)
