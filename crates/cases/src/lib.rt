@@ -75,7 +75,35 @@ pub fn print_number(before: &[u8], number: u32) {
     io::write_all(STDOUT_FILENO, b"\n");
 }
 
-pub fn print_word(word: u32) {
+fn print_word(word: u32) {
     io::write_all(STDOUT_FILENO, b" ");
     io::print_hex(STDOUT_FILENO, word as u64, 8);
+}
+
+// Ends a line with what the layout maker gives.
+pub fn print_answer(fault: u8, answer: &[u32]) {
+    if fault != 0 {
+        print_number(b": refused ", fault as u32);
+        return;
+    }
+    io::write_all(STDOUT_FILENO, b":");
+    let mut i: usize = 0;
+    while i < answer.len() {
+        print_word(answer[i]);
+        i += 1;
+    }
+    io::write_all(STDOUT_FILENO, b"\n");
+}
+
+// Each count with its name: a line of a text, after the byte >.
+pub fn print_counts(text: &[u8], counts: [u32; 12]) {
+    let mut i: usize = 0;
+    let mut from = place_of(text, 0, b'>');
+    while from < text.len() {
+        let start = from + 1;
+        from = place_of(text, start, b'>');
+        io::print_decimal(STDOUT_FILENO, counts[i] as u64);
+        io::write_all(STDOUT_FILENO, &text[start..from]);
+        i = (i + 1) % 12;
+    }
 }

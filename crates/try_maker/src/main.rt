@@ -3,9 +3,9 @@
 mod compare;
 mod examples;
 
+use cases::print_counts;
 use compare::count_sheets;
 use examples::lay_out_lines;
-use examples::print_counts;
 use libc::STDIN_FILENO;
 use libc::STDOUT_FILENO;
 use program::report;

@@ -1,8 +1,8 @@
 use Prim.Native.Nat.{_-_, _≤_}
 use lib.ListN.{length}
 use borrow.Author.Needs.{needs}
-use Rattle.try_maker.proofs.examples.print_counts.Statement.{statement}
-use Rattle.try_maker.proofs.examples.print_counts.Tie as tie
+use Rattle.cases.proofs.print_counts.Statement.{statement}
+use Rattle.cases.proofs.print_counts.Tie as tie
 
 abbrev Inv-loop : tie.InvT-loop
 Inv-loop text counts i₀ from₀ i from = (from ≤ length text) × (i ≤ 11)

@@ -1,8 +1,8 @@
 use Prim.Native.Nat.{_-_, _≤_}
 use lib.ListN.{length}
 use borrow.Author.Needs.{needs}
-use Rattle.try_maker.proofs.examples.print_answer.Statement.{statement}
-use Rattle.try_maker.proofs.examples.print_answer.Tie as tie
+use Rattle.cases.proofs.print_answer.Statement.{statement}
+use Rattle.cases.proofs.print_answer.Tie as tie
 
 abbrev Inv-loop : tie.InvT-loop
 Inv-loop fault answer i₀ t6 i = i ≤ length answer
