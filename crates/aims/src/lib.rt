@@ -1,4 +1,6 @@
 // Goals for the sites' caps, aimed at the slots to which known labels lead.
+pub mod capwords;
+
 ghost use mathlib.Core.Path.{_≡_};
 ghost use mathlib.Core.Bool.{cond};
 ghost use Prim.Native.Nat.{_≤_};

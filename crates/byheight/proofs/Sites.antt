@@ -18,8 +18,8 @@ use Rattle.arrays.proofs.Ordered.{gathered-long}
 use Rattle.tiefits.specs.declared.Label.{Label}
 use Rattle.stripcosts.specs.Costs.{upperAt, lowerAt, siteOf, stripOf}
 use Rattle.optimum.specs.CostWord.{topWord}
-use Rattle.usedslots.specs.Table.{tableBy, capsIn, Fits, RightTo}
-use Rattle.usedslots.proofs.Strips.{strip-is}
+use Rattle.stripcosts.specs.Table.{tableBy, capsIn, Fits, RightTo}
+use Rattle.stripcosts.proofs.Strips.{strip-is}
 use Rattle.siteorder.specs.Sites.{Reorders}
 
 -- ---- words taken in an order

@@ -18,12 +18,12 @@ use Rattle.optimum.proofs.Rows.{put-set}
 use Rattle.optimum.proofs.Steady.{keeps, misses, choose-is, choose-keeps}
 use Rattle.arrays.specs.declared.Measures.{Measures}
 use Rattle.optimum.specs.CostWord.{topWord}
-use Rattle.usedslots.specs.Table.{tableBy, capsIn}
+use Rattle.stripcosts.specs.Table.{tableBy, capsIn}
 use Rattle.marking.proofs.Lower.{value-lower}
 use Rattle.aims.specs.Aims.{Within}
 use Rattle.goals.specs.Goals.{Reaches, Goals}
 use Rattle.goals.proofs.Goals.{goals-free, goals-own, goals-copied}
-use Rattle.capwords.specs.Caps.{Low}
+use Rattle.aims.specs.Caps.{Low}
 use Rattle.guesses.specs.declared.Range.{Range}
 use Rattle.capsearch.specs.Search.{keepsCost, Probed, uncapped, Filled}
 

@@ -8,7 +8,7 @@ use lib.ListN.{length}
 use Rattle.optimum.specs.UsedSlots.{Instance, value}
 use Rattle.arrays.specs.declared.Measures.{Measures}
 use Rattle.optimum.specs.CostWord.{topWord}
-use Rattle.usedslots.specs.Table.{tableBy, capsIn, tableWords, RightTo}
+use Rattle.stripcosts.specs.Table.{tableBy, capsIn, tableWords, RightTo}
 use Rattle.goals.specs.Goals.{Reaches}
 use Rattle.guesses.specs.declared.Range.{Range}
 

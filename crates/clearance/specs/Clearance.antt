@@ -2,9 +2,9 @@
 use mathlib.Core.Bool.{Bool, _||_, not}
 use lib.Dec.{leb, eqb}
 use Rattle.labelling.specs.Layout.{apart}
-use Rattle.tied.specs.declared.TiedSite.{TiedSite}
-use Rattle.tied.specs.declared.Head.{Head}
-use Rattle.tied.specs.Starts.{startOf}
+use Rattle.words.specs.declared.tied.TiedSite.{TiedSite}
+use Rattle.words.specs.declared.tied.Head.{Head}
+use Rattle.words.specs.Starts.{startOf}
 
 -- 3: used slots at least D apart
 abbrev pub gapsPass : Head → (t u : TiedSite) → Bool

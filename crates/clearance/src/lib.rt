@@ -2,12 +2,12 @@
 ghost use mathlib.Core.Path.{_≡_};
 ghost use Rattle.clearance.specs.Clearance.{gapsPass, clearsPass};
 use drops::apart_of;
-use tied::Head;
-use tied::TiedSite;
-use tied::start_of;
 use words::either;
 use words::is_not;
 use words::same;
+use words::tied::Head;
+use words::tied::TiedSite;
+use words::tied::start_of;
 
 // Rule 3: labels lie at least D apart.
 pub fn gaps_pass(h: Head, t: TiedSite, u: TiedSite) -> bool

@@ -12,7 +12,7 @@ use borrow.Author.Tests.{leb-true}
 use Rattle.lists.proofs.Tests.{by-test, by-equal}
 use Rattle.optimum.specs.UsedSlots.{Instance, value}
 use Rattle.arrays.specs.declared.Measures.{Measures}
-use Rattle.usedslots.specs.Table.{capsIn, Fits}
+use Rattle.stripcosts.specs.Table.{capsIn, Fits}
 use Rattle.aims.specs.Aims.{Within}
 use Rattle.goals.specs.Goals.{Goals}
 

@@ -4,7 +4,7 @@ use mathlib.Core.List.{List}
 use Prim.Native.Nat.{ℕ, suc, _≤_}
 use lib.ListN.{length, set}
 use Rattle.optimum.specs.UsedSlots.{Instance, value}
-use Rattle.usedslots.specs.Table.{capsIn}
+use Rattle.stripcosts.specs.Table.{capsIn}
 use Rattle.aims.specs.Aims.{Within}
 
 -- goals within the caps, with which the cost is still so much at most

@@ -3,7 +3,7 @@ ghost use mathlib.Core.Path.{_≡_};
 ghost use Prim.Native.Nat.{_<_, _≤_};
 ghost use lib.ListN.{length};
 ghost use Rattle.optimum.specs.UsedSlots.{value};
-ghost use Rattle.usedslots.specs.Table.{tableBy, capsIn, Fits};
+ghost use Rattle.stripcosts.specs.Table.{tableBy, capsIn, Fits};
 ghost use Rattle.goals.specs.Goals.{Goals};
 use aims::aim_goals;
 use aims::keep_goals;

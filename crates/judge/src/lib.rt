@@ -2,10 +2,10 @@
 ghost use mathlib.Core.Path.{_≡_};
 ghost use Rattle.judge.specs.Judge.{judgePost, partsPost};
 use faults::sheet_fault;
-use layouts::is_layout;
-use layouts::layout_start;
+use refusals::layouts::is_layout;
+use refusals::layouts::layout_start;
 use rules::head_of;
-use rulings::broken_by;
+use rules::rulings::broken_by;
 
 // refusal: 1 to 7 or 11, 0 for none. rule: the least broken one, 0 for none and beside a refusal.
 #[repr(C)]

@@ -17,9 +17,9 @@ use Rattle.arrays.specs.declared.Measures.{Measures}
 use Rattle.arrays.specs.Arrays.{labelCost}
 use Rattle.stripcosts.specs.Costs.{upperAt, lowerAt, stripOf}
 use Rattle.optimum.specs.CostWord.{topWord}
-use Rattle.usedslots.specs.Table.{tableBy, capsIn, Fits}
-use Rattle.usedslots.proofs.Strips.{strip-is}
-use Rattle.usedslots.proofs.Links.{may-is, draw-is, product-low, blocks-of}
+use Rattle.stripcosts.specs.Table.{tableBy, capsIn, Fits}
+use Rattle.stripcosts.proofs.Strips.{strip-is}
+use Rattle.stripcosts.proofs.Links.{may-is, draw-is, product-low, blocks-of}
 use Rattle.allowed.specs.Allowed.{Parted, Stands}
 use Rattle.labels.specs.declared.Chosen.{Chosen}
 use Rattle.labels.specs.Labels.{leastAfter}

@@ -2,7 +2,7 @@
 ghost use Prim.Native.Nat.{suc, _<_, _≤_};
 ghost use lib.ListN.{length};
 ghost use Rattle.optimum.specs.UsedSlots.{value};
-ghost use Rattle.usedslots.specs.Table.{tableBy, capsIn, Fits};
+ghost use Rattle.stripcosts.specs.Table.{tableBy, capsIn, Fits};
 ghost use Rattle.labels.specs.Labels.{leastAfter};
 use allowed::may_stand;
 use arrays::Measures;

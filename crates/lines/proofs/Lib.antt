@@ -1,2 +1,4 @@
+pub mod Written
+pub mod Decimal
 mod Lines
 pub mod Words

@@ -10,8 +10,8 @@ use lib.ListN.{length, getD, drop}
 use lib.Seq.{drop-cons}
 use borrow.Author.Tests.{eqb-true, ne-eqb}
 use Rattle.lists.proofs.Tests.{by-test}
-use Rattle.text.specs.Text.{ascii, decimal}
-use Rattle.text.proofs.Written.{Put, put-more}
+use Rattle.lines.specs.Text.{ascii, decimal}
+use Rattle.lines.proofs.Written.{Put, put-more}
 use Rattle.sheet.specs.Sheet.{bits, kindOf, sitesIn}
 use Rattle.lines.specs.Lines.{layoutLine, siteLine, siteLines, lineOf, countWith}
 

@@ -6,7 +6,7 @@ use lib.Dec.{eqb}
 use lib.ListN.{getD}
 use Rattle.sheet.specs.Sheet.{bits, kindOf, Site, Sheet}
 use Rattle.labelling.specs.Layout.{statedCount, statedLength}
-use Rattle.text.specs.Text.{ascii, decimal}
+use Rattle.lines.specs.Text.{ascii, decimal}
 
 -- the input's words: four bytes each, the lowest first
 unfoldable pub wordsIn : (bytes : List ℕ) → List ℕ

@@ -1,14 +1,16 @@
 // The words of an input, and the lines of a report.
+pub mod text;
+
 ghost use mathlib.Core.Path.{_≡_};
 ghost use mathlib.Core.List.{[], _∷_, _++_};
 ghost use Prim.Native.Nat.{_+_, _*_, _<_, _≤_};
 ghost use lib.ListN.{length, getD, drop};
 ghost use Rattle.sheet.specs.Sheet.{bits, sitesIn, sheetIn};
-ghost use Rattle.text.specs.Text.{decimal, written, pastOf};
+ghost use Rattle.lines.specs.Text.{decimal, written, pastOf};
 ghost use Rattle.lines.specs.Lines.{wordsIn, refusedLine, layoutLine, siteLines, lineOf, countWith, layoutText};
-use text::put_byte;
-use text::put_bytes;
-use text::put_decimal;
+use crate::text::put_byte;
+use crate::text::put_bytes;
+use crate::text::put_decimal;
 use words::byte_field;
 use words::get;
 use words::kind_of;

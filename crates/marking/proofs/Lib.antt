@@ -1,3 +1,4 @@
+mod Marks
 pub mod Lower
 pub mod Rows
 pub mod Search

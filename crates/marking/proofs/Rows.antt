@@ -20,10 +20,10 @@ use Rattle.stripcosts.specs.Costs.{upperAt, lowerAt, stripOf}
 use Rattle.stripcosts.proofs.Costs.{lost-strip}
 use Rattle.links.specs.Rows.{sizeOf}
 use Rattle.optimum.specs.CostWord.{topWord}
-use Rattle.usedslots.specs.Table.{tableBy, capsIn, Fits, tableWords}
-use Rattle.usedslots.proofs.Strips.{strip-is}
-use Rattle.usedslots.proofs.Links.{may-is, draw-is, row-there}
-use Rattle.rowmarks.specs.Marks.{Linked, Ended}
+use Rattle.stripcosts.specs.Table.{tableBy, capsIn, Fits, tableWords}
+use Rattle.stripcosts.proofs.Strips.{strip-is}
+use Rattle.stripcosts.proofs.Links.{may-is, draw-is, row-there}
+use Rattle.marking.specs.Marks.{Linked, Ended}
 use Rattle.marking.specs.Marked.{Table, Reached, RowTo, PlaceTo}
 use Rattle.marking.proofs.Search.{row-skip, row-more, row-found, row-first, row-whole, row-unmarked, place-unmarked}
 

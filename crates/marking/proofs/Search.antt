@@ -17,9 +17,9 @@ use Rattle.optimum.specs.Slots.{Slots, farFrom}
 use Rattle.optimum.specs.UsedSlots.{Instance, allows, may, draw, strip, T, value}
 use Rattle.optimum.specs.Rows.{link, acc, cell}
 use Rattle.optimum.proofs.Rows.{cell-apart, acc-link, acc-same, acc-start, acc-end, link-spent, link-is}
-use Rattle.usedslots.specs.Table.{firstCode, lastCode, RightTo}
-use Rattle.usedslots.proofs.Entries.{codes-top, codes-slot}
-use Rattle.rowmarks.specs.Marks.{Marked, Linked, Ended}
+use Rattle.stripcosts.specs.Table.{firstCode, lastCode, RightTo}
+use Rattle.stripcosts.proofs.Entries.{codes-top, codes-slot}
+use Rattle.marking.specs.Marks.{Marked, Linked, Ended}
 use Rattle.marking.specs.Marked.{Reached, Dearer, Table, Grown, RowTo, PlaceTo, Search}
 use Rattle.marking.proofs.Lower.{no-caps, edge, T-lower, T-bottom, T-edge}
 

@@ -5,8 +5,8 @@ use Prim.Native.Nat.{ℕ, suc, _+_, _≤_, _<_}
 use lib.ListN.{getD}
 use Rattle.optimum.specs.UsedSlots.{Instance, T, value}
 use Rattle.optimum.specs.Rows.{cell, acc}
-use Rattle.rowmarks.specs.Marks.{Marked}
-use Rattle.usedslots.specs.Table.{RightFrom}
+use Rattle.marking.specs.Marks.{Marked}
+use Rattle.stripcosts.specs.Table.{RightFrom}
 
 -- of the table without caps beside that with the caps c
 

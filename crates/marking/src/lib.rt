@@ -1,4 +1,6 @@
 // Marks of the table's entries passed on, from the rows of a place to those of the labels next below it.
+pub mod rowmarks;
+
 ghost use mathlib.Core.Path.{_≡_};
 ghost use mathlib.Core.Bool.{true, false};
 ghost use mathlib.Core.List.{List};
@@ -6,22 +8,22 @@ ghost use Prim.Native.Nat.{ℕ, suc, _+_, _-_, _<_, _≤_};
 ghost use lib.ListN.{length};
 ghost use Rattle.optimum.specs.UsedSlots.{value};
 ghost use Rattle.bands.specs.Bands.{Barred, Starts, Ends, Marks};
-ghost use Rattle.usedslots.specs.Table.{Fits, tableWords, tableBy, capsIn};
+ghost use Rattle.stripcosts.specs.Table.{Fits, tableWords, tableBy, capsIn};
 ghost use Rattle.marking.specs.Marked.{Table, Reached, RowTo, PlaceTo};
+use crate::rowmarks::is_any_ended;
+use crate::rowmarks::is_any_marked;
+use crate::rowmarks::mark_blocks;
 use arrays::Measures;
+use arrays::places::is_far;
 use bands::ALL_LOST;
 use bands::other_in;
 use links::block_size;
 use links::link_cost;
 use links::row_start;
-use places::is_far;
-use rowmarks::is_any_ended;
-use rowmarks::is_any_marked;
-use rowmarks::mark_blocks;
 use slotbands::first_below;
 use stripcosts::strip_between;
-use usedslots::end_colour;
-use usedslots::first_colour;
+use stripcosts::usedslots::end_colour;
+use stripcosts::usedslots::first_colour;
 use words::NONE;
 use words::get;
 use words::monus;

@@ -14,9 +14,9 @@ use Rattle.sheet.proofs.Accepted.{sound}
 use Rattle.labelling.specs.Layout.{best, statedCount, statedLength}
 use Rattle.labelling.specs.Entry.{isNone, makeFault, makeAnswer}
 use Rattle.labelling.proofs.Maker.{fault-seven}
-use Rattle.text.specs.Text.{decimal, written, pastOf}
-use Rattle.text.proofs.Decimal.{decimal-length}
-use Rattle.text.proofs.Written.{written-front}
+use Rattle.lines.specs.Text.{decimal, written, pastOf}
+use Rattle.lines.proofs.Decimal.{decimal-length}
+use Rattle.lines.proofs.Written.{written-front}
 use Rattle.lines.specs.Lines.{wordsIn, refusedLine, slotAt, siteLines, layoutText}
 use Rattle.program.specs.Report.{isUnfit, sheetText, programSheetText, programText, longest, reportSize, reportArea}
 use Rattle.lines.proofs.Words.{words-fit}

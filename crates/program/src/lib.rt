@@ -5,7 +5,7 @@ ghost use Prim.Native.Nat.{_≤_};
 ghost use lib.Dec.{eqb};
 ghost use lib.ListN.{length};
 ghost use Rattle.sheet.specs.Sheet.{sheetIn};
-ghost use Rattle.text.specs.Text.{written, pastOf};
+ghost use Rattle.lines.specs.Text.{written, pastOf};
 ghost use Rattle.lines.specs.Lines.{refusedLine, layoutText};
 ghost use Rattle.program.specs.Report.{programSheetText, isUnfit, programText, reportSize, reportArea};
 use libc::STDIN_FILENO;

@@ -1,3 +1,4 @@
 mod Order
 mod Wordwise
 mod Steps
+pub mod Parts

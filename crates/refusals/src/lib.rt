@@ -1,4 +1,6 @@
 // The tests behind refusals 2, 4, 5 and 6, each over any list of words. `body`: a sheet's words after its head.
+pub mod layouts;
+
 ghost use mathlib.Core.Path.{_≡_};
 ghost use Rattle.sheet.specs.Sheet.{all, inOrder, slotsIn, sitesIn, bodyOf, insideBy, rising, ranksDiffer};
 use ranks::rank_new;

@@ -18,10 +18,10 @@ use Rattle.labelling.proofs.Counted.{all-before, before-all, taken-at, at-taken
 use Rattle.labelling.proofs.Pairs.{rule-four-pairs, rule-five-pairs}
 use Rattle.labelling.proofs.Members.{noTied, length-tied, tied-at}
 use Rattle.labelling.proofs.Rules.{least-min}
-use Rattle.tied.specs.declared.TiedSite.{TiedSite}
-use Rattle.tied.specs.declared.Head.{Head}
-use Rattle.pairs.specs.declared.Test.the-variants.{Colours, Gaps, Misses, Clears, First, FirstIn}
-use Rattle.pairs.specs.Pairs.{passes}
+use Rattle.words.specs.declared.tied.TiedSite.{TiedSite}
+use Rattle.words.specs.declared.tied.Head.{Head}
+use Rattle.rules.specs.declared.pairs.Test.the-variants.{Colours, Gaps, Misses, Clears, First, FirstIn}
+use Rattle.rules.specs.Pairs.{passes}
 use Rattle.rules.specs.Words.{oneIf, isColour, headOf, tiedIn, passesAll, pairsPass, passOne, passing, boundKept, boundsFrom, labelsIn, leastIn, leftIn, lengthAt, lengthIn}
 use Rattle.rules.proofs.Numbered.{noTiedSite, seenAt, long, low, colours-after, count-seen, seen-at, all-seen, sum-seen, sum-same, pairs-seen}
 

@@ -18,10 +18,10 @@ use Rattle.labelling.proofs.Counted.{all-is, tied-is, sum-front}
 use Rattle.labelling.proofs.Members.{all-at}
 use Rattle.labelling.proofs.Best.{below}
 use Rattle.labelling.proofs.Words.{formed, length-tiesIn, ties-low}
-use Rattle.tied.specs.declared.TiedSite.{TiedSite}
-use Rattle.tied.specs.declared.Head.{Head}
-use Rattle.pairs.specs.declared.Test.{Test}
-use Rattle.pairs.specs.Pairs.{passes}
+use Rattle.words.specs.declared.tied.TiedSite.{TiedSite}
+use Rattle.words.specs.declared.tied.Head.{Head}
+use Rattle.rules.specs.declared.pairs.Test.{Test}
+use Rattle.rules.specs.Pairs.{passes}
 use Rattle.rules.specs.declared.Place.{Place}
 use Rattle.rules.proofs.Steps.{site-no-colour}
 use Rattle.rules.specs.Words.{isColour, isSite, slotsRun, headOf, heightIn, begin, tiedFrom, tiedIn, passesAll, pairsPass, sumOver}

@@ -12,9 +12,9 @@ use Rattle.lists.proofs.Places.{at}
 use Rattle.lists.proofs.Tests.{by-test}
 use Rattle.sheet.specs.Sheet.{all, kindOf, Sheet}
 use Rattle.labelling.proofs.Words.{share-le}
-use Rattle.tied.specs.declared.Head.{Head}
-use Rattle.pairs.specs.declared.Test.the-variants.{First}
-use Rattle.tied.specs.declared.TiedSite.{TiedSite}
+use Rattle.words.specs.declared.tied.Head.{Head}
+use Rattle.rules.specs.declared.pairs.Test.the-variants.{First}
+use Rattle.words.specs.declared.tied.TiedSite.{TiedSite}
 use Rattle.rules.specs.declared.Place.{Place}
 use Rattle.rules.specs.Words.{oneIf, isColour, isSite, slotsRun, placeAt, begin, tiedAt, tiedFrom, Next, sumOver, boundKept, boundsFrom, leastIn, leftIn, passesAll, lengthAt}
 

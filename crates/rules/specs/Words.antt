@@ -8,11 +8,11 @@ use lib.Dec.{eqb, leb}
 use lib.ListN.{length, getD, drop}
 use Rattle.sheet.specs.Sheet.{all, kindOf, bits, headIn, bodyOf, Sheet}
 use Rattle.labelling.specs.Layout.{siteShare}
-use Rattle.tied.specs.declared.TiedSite.{TiedSite}
-use Rattle.tied.specs.declared.Head.{Head}
-use Rattle.pairs.specs.declared.Test.{Test}
-use Rattle.pairs.specs.declared.Test.the-variants.{First, FirstIn}
-use Rattle.pairs.specs.Pairs.{passes}
+use Rattle.words.specs.declared.tied.TiedSite.{TiedSite}
+use Rattle.words.specs.declared.tied.Head.{Head}
+use Rattle.rules.specs.declared.pairs.Test.{Test}
+use Rattle.rules.specs.declared.pairs.Test.the-variants.{First, FirstIn}
+use Rattle.rules.specs.Pairs.{passes}
 use Rattle.rules.specs.declared.Place.{Place}
 
 abbrev pub oneIf : Bool → ℕ

@@ -1,14 +1,15 @@
 // Rules 1 to 6 on the words of a stored sheet, by loops over pairs of tied sites. No list of slots or labels is kept.
+pub mod pairs;
+pub mod rulings;
+
 ghost use mathlib.Core.Path.{_≡_};
 ghost use Prim.Native.Nat.{_+_, _-_, _<_, _≤_};
 ghost use lib.ListN.{length, getD, drop};
 ghost use Rattle.sheet.specs.Sheet.{sheetIn, bodyOf};
 ghost use Rattle.rules.specs.Words.{oneIf, headOf, slotsRun, heightIn, placeAt, Next, tiedAt, tiedIn, passesAll, pairsPass, passing, boundKept, boundsFrom, labelsIn, leftIn, lengthAt, lengthIn};
+use crate::pairs::Test;
+use crate::pairs::pass;
 use drops::share_of;
-use pairs::Test;
-use pairs::pass;
-use tied::Head;
-use tied::TiedSite;
 use words::byte_field;
 use words::choose;
 use words::gap_field;
@@ -19,6 +20,8 @@ use words::low_field;
 use words::monus;
 use words::same;
 use words::side_bit;
+use words::tied::Head;
+use words::tied::TiedSite;
 
 // Where a loop over the sites is: the place of the next one's word, the colours passed, and the place of its tie in the layout.
 pub struct Place {

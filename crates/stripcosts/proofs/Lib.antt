@@ -1,1 +1,4 @@
 pub mod Costs
+pub mod Strips
+pub mod Links
+pub mod Entries

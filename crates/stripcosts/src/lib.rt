@@ -1,4 +1,6 @@
 // The cost of a strip's sites: each is tied to the label above or to the one below.
+pub mod usedslots;
+
 ghost use mathlib.Core.Path.{_≡_};
 ghost use Prim.Native.Nat.{_+_, _<_, _≤_};
 ghost use lib.ListN.{length};

@@ -30,9 +30,9 @@ use Rattle.arrays.proofs.Instances.{bounds-at, xs-at, ys-at, colours-at}
 use Rattle.arrays.proofs.Whole.{front}
 use Rattle.arrays.proofs.Ordered.{radices-long, draws-long, product-positive, product-are}
 use Rattle.optimum.specs.CostWord.{topWord}
-use Rattle.usedslots.specs.Table.{unitOf, labelCost, instanceBy, tableBy, capsIn, Fits, tableWords, RightTo}
-use Rattle.usedslots.proofs.Strips.{value-ranks}
-use Rattle.capwords.specs.Caps.{wordsBy}
+use Rattle.stripcosts.specs.Table.{unitOf, labelCost, instanceBy, tableBy, capsIn, Fits, tableWords, RightTo}
+use Rattle.stripcosts.proofs.Strips.{value-ranks}
+use Rattle.aims.specs.Caps.{wordsBy}
 use Rattle.capsearch.specs.Search.{uncapped, Filled}
 use Rattle.twosided.specs.Layouts.{countBy, lengthBy, laidBy, Laid}
 

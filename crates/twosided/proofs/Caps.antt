@@ -13,10 +13,10 @@ use Rattle.search.proofs.Cost.{first-cong}
 use Rattle.optimum.specs.UsedSlots.{Instance, put, value, leftmost, choose, capAll}
 use Rattle.optimum.proofs.Rows.{put-set}
 use Rattle.arrays.specs.declared.Measures.{Measures}
-use Rattle.usedslots.specs.Table.{instanceBy, tableBy, capsIn}
-use Rattle.usedslots.proofs.Strips.{value-ranks}
+use Rattle.stripcosts.specs.Table.{instanceBy, tableBy, capsIn}
+use Rattle.stripcosts.proofs.Strips.{value-ranks}
 use Rattle.siteorder.specs.Sites.{Reorders}
-use Rattle.capwords.specs.Caps.{leftmostBy, Low}
+use Rattle.aims.specs.Caps.{leftmostBy, Low}
 use Rattle.capsearch.specs.Search.{uncapped}
 
 leftmost-is : (q : Measures) (hs bs rs ys cs xs caps : List ℕ) (c : ℕ) →

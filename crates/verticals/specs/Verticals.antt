@@ -2,9 +2,9 @@
 use mathlib.Core.Bool.{Bool, _&&_, _||_, not}
 use lib.Dec.{leb, eqb}
 use Rattle.labelling.specs.Layout.{verticalHas}
-use Rattle.tied.specs.declared.TiedSite.{TiedSite}
-use Rattle.tied.specs.declared.Head.{Head}
-use Rattle.tied.specs.Starts.{startOf}
+use Rattle.words.specs.declared.tied.TiedSite.{TiedSite}
+use Rattle.words.specs.declared.tied.Head.{Head}
+use Rattle.words.specs.Starts.{startOf}
 
 -- 4: t's vertical has no point of the backbone that u's label has from u on
 abbrev pub missesPass : Head → (t u : TiedSite) → Bool

@@ -2,14 +2,14 @@
 ghost use mathlib.Core.Path.{_≡_};
 ghost use Rattle.labelling.specs.Layout.{isOver, verticalHas};
 ghost use Rattle.verticals.specs.Verticals.{missesPass};
-use tied::Head;
-use tied::TiedSite;
-use tied::start_of;
 use words::both;
 use words::choose;
 use words::either;
 use words::is_not;
 use words::same;
+use words::tied::Head;
+use words::tied::TiedSite;
+use words::tied::start_of;
 
 // Whether a height lies between two others, both included.
 fn over(low: u32, high: u32, h: u32) -> bool

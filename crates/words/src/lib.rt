@@ -1,4 +1,6 @@
 // Kind and fields of a word, and tests and sums as functions. Each is total: its contract is one equation and asks nothing.
+pub mod tied;
+
 ghost use mathlib.Core.Path.{_≡_};
 ghost use mathlib.Core.Bool.{cond, _&&_, _||_, not};
 ghost use Prim.Native.Nat.{_+_, _-_, min};

@@ -1,8 +1,8 @@
 use Rattle.marking.proofs.Search.{search-found, search-end, root-reached, table-at, search-on}
 use Rattle.marking.specs.Marked.{Reached, Search}
-use Rattle.usedslots.proofs.Entries.{codes-in}
-use Rattle.usedslots.proofs.Links.{row-there}
-use Rattle.usedslots.specs.Table.{tableBy, capsIn}
+use Rattle.stripcosts.proofs.Entries.{codes-in}
+use Rattle.stripcosts.proofs.Links.{row-there}
+use Rattle.stripcosts.specs.Table.{tableBy, capsIn}
 use mathlib.Core.Path.{_≡_, refl, sym, ap, _∙_, subst⁻¹}
 use Prim.Native.Nat.{ℕ, _+_, _-_, _<_, _≤_}
 use native.Mathlib.Omega.{arith}

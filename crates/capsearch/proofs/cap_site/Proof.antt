@@ -1,5 +1,5 @@
 use Rattle.optimum.specs.UsedSlots.{Instance}
-use Rattle.usedslots.specs.Table.{tableBy}
+use Rattle.stripcosts.specs.Table.{tableBy}
 use Rattle.goals.proofs.Goals.{fits-set}
 use Rattle.capsearch.proofs.Search.{Sought, sought-first, sought-inside, sought-low, sought-own, sought-aimed, sought-step, sought-ended}
 use mathlib.Core.Path.{sym, _∙_}

@@ -1,4 +1,4 @@
-use Rattle.usedslots.specs.Table.{tableBy}
+use Rattle.stripcosts.specs.Table.{tableBy}
 use Rattle.optimum.specs.UsedSlots.{Instance}
 use Rattle.goals.proofs.Goals.{goals-free}
 use Rattle.capsearch.proofs.Search.{filled-some, keeps-at, kept-value, probed-kept, probed-lost}

@@ -1,4 +1,4 @@
-use Rattle.usedslots.specs.Table.{tableBy}
+use Rattle.stripcosts.specs.Table.{tableBy}
 use Rattle.goals.proofs.Goals.{fits-set, goals-settled}
 use mathlib.Core.Path.{sym, _∙_}
 use native.Mathlib.Omega.{arith}

@@ -1,6 +1,6 @@
 use Rattle.bands.proofs.Bands.{starts-first, ends-last}
 use borrow.Author.Tests.{not-false}
-use Rattle.usedslots.specs.Table.{tableBy, capsIn}
+use Rattle.stripcosts.specs.Table.{tableBy, capsIn}
 use Rattle.labels.proofs.Least.{least-skip, least-lost, parted, label-chosen}
 use mathlib.Core.Path.{refl, _∙_}
 use Prim.Native.Nat.{suc, _-_, _<_}

@@ -1,7 +1,7 @@
 use Rattle.bands.proofs.Bands.{starts-first, ends-last}
 use native.Mathlib.Nat.{le-trans}
 use Rattle.optimum.specs.UsedSlots.{value}
-use Rattle.usedslots.specs.Table.{tableBy, capsIn}
+use Rattle.stripcosts.specs.Table.{tableBy, capsIn}
 use Rattle.labels.specs.Labels.{leastAfter}
 use Rattle.labels.proofs.Least.{least-first, least-none, cost-above}
 use mathlib.Core.Path.{refl}

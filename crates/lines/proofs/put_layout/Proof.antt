@@ -1,5 +1,5 @@
 use Rattle.lines.specs.Lines.{layoutText}
-use Rattle.text.proofs.Written.{put-more}
+use Rattle.lines.proofs.Written.{put-more}
 use borrow.Author.Needs.{needs}
 use Rattle.lines.proofs.put_layout.Statement.{statement}
 use Rattle.lines.proofs.put_layout.Tie as tie

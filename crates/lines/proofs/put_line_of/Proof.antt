@@ -2,7 +2,7 @@ use mathlib.Core.Path.{refl, sym, _∙_}
 use native.Mathlib.Omega.{arith}
 use borrow.Author.Tests.{eq-eqb, ne-eqb}
 use Rattle.sheet.specs.Sheet.{kindOf}
-use Rattle.text.specs.Text.{written}
+use Rattle.lines.specs.Text.{written}
 use Rattle.lines.proofs.Lines.{site-put}
 use borrow.Author.Needs.{needs}
 use Rattle.lines.proofs.put_line_of.Statement.{statement}

@@ -1,4 +1,4 @@
-use Rattle.text.proofs.Written.{put-more}
+use Rattle.lines.proofs.Written.{put-more}
 use borrow.Author.Needs.{needs}
 use Rattle.lines.proofs.put_named.Statement.{statement}
 use Rattle.lines.proofs.put_named.Tie as tie

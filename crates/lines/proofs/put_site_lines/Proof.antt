@@ -2,7 +2,7 @@ use lib.ListN.{drop-of-length-le, length, getD, drop}
 use Rattle.sheet.specs.Sheet.{sitesIn}
 use Rattle.lines.specs.Lines.{siteLines, lineOf}
 use Rattle.lines.proofs.Lines.{lines-at, count-le}
-use Rattle.text.proofs.Written.{Left, left-all, left-more, left-none}
+use Rattle.lines.proofs.Written.{Left, left-all, left-more, left-none}
 use mathlib.Core.Path.{refl}
 use Prim.Native.Nat.{_-_, _<_}
 use native.Mathlib.Omega.{arith}

@@ -1,5 +1,5 @@
-use Rattle.text.specs.Text.{written}
-use Rattle.text.proofs.Written.{written-out}
+use Rattle.lines.specs.Text.{written}
+use Rattle.lines.proofs.Written.{written-out}
 use mathlib.Core.Path.{refl, sym}
 use mathlib.Core.List.{[], _∷_}
 use native.Mathlib.Omega.{arith}

@@ -1,6 +1,6 @@
 use Rattle.lines.specs.Lines.{wordsIn}
 use Rattle.lines.proofs.Words.{words-at, words-end}
-use Rattle.text.proofs.Written.{Left, left-all, left-more, left-none}
+use Rattle.lines.proofs.Written.{Left, left-all, left-more, left-none}
 use mathlib.Core.Path.{refl, _∙_}
 use mathlib.Core.List.{[], _∷_}
 use Prim.Native.Nat.{_+_, _-_, _≤_}

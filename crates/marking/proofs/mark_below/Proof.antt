@@ -1,6 +1,6 @@
 use Rattle.marking.proofs.Rows.{row-ends}
 use Rattle.marking.specs.Marked.{RowTo}
-use Rattle.usedslots.specs.Table.{tableBy, capsIn}
+use Rattle.stripcosts.specs.Table.{tableBy, capsIn}
 use Rattle.bands.proofs.Bands.{barred-none, barred-more, barred-down}
 use Rattle.bands.specs.Bands.{Barred, Ends}
 use mathlib.Core.Path.{_≡_, refl, _∙_}

@@ -1,7 +1,7 @@
 use Rattle.marking.proofs.Search.{place-none, place-more, place-last}
 use Rattle.marking.proofs.Rows.{place-over, place-in, rows-few}
 use Rattle.marking.specs.Marked.{PlaceTo}
-use Rattle.usedslots.specs.Table.{tableBy, capsIn}
+use Rattle.stripcosts.specs.Table.{tableBy, capsIn}
 use Rattle.lists.proofs.Tests.{clash}
 use borrow.Author.Tests.{not-true}
 use mathlib.Core.Path.{_≡_, refl, _∙_}

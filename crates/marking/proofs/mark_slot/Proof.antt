@@ -1,5 +1,5 @@
-use Rattle.usedslots.specs.Table.{tableBy, capsIn, tableWords}
-use Rattle.usedslots.proofs.Links.{colours-last, product-of, size-of, blocks-of, row-there}
+use Rattle.stripcosts.specs.Table.{tableBy, capsIn, tableWords}
+use Rattle.stripcosts.proofs.Links.{colours-last, product-of, size-of, blocks-of, row-there}
 use Rattle.marking.specs.Marked.{RowTo}
 use Rattle.marking.proofs.Rows.{colours-to, colours-from, row-near, row-lost, row-linked, rows-apart}
 use mathlib.Core.Path.{_≡_, refl, _∙_}

@@ -1,7 +1,7 @@
 use Prim.Native.Nat.{_-_}
 use lib.ListN.{length}
 use borrow.Author.Tests.{not-true, not-false}
-use Rattle.pairs.specs.Pairs.{passes}
+use Rattle.rules.specs.Pairs.{passes}
 use Rattle.rules.proofs.Steps.{Passed, passed-none, passed-stop, passed-more, passed-all}
 use native.Mathlib.Omega.{arith}
 use borrow.Author.Needs.{needs}

@@ -1,7 +1,7 @@
 use lib.ListN.{length-replicate}
-use Rattle.usedslots.specs.Table.{tableBy, capsIn, tableWords, RightTo}
-use Rattle.usedslots.proofs.Links.{row-there}
-use Rattle.usedslots.proofs.Entries.{right-none, right-last, right-more}
+use Rattle.stripcosts.specs.Table.{tableBy, capsIn, tableWords, RightTo}
+use Rattle.stripcosts.proofs.Links.{row-there}
+use Rattle.stripcosts.proofs.Entries.{right-none, right-last, right-more}
 use mathlib.Core.Path.{_≡_, refl, sym, _∙_}
 use Prim.Native.Nat.{ℕ, _+_, _-_, _≤_}
 use native.Mathlib.Omega.{arith}

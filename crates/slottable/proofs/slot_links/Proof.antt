@@ -1,5 +1,5 @@
-use Rattle.usedslots.specs.Table.{tableBy, capsIn, RowTo}
-use Rattle.usedslots.proofs.Links.{colours-to, colours-from, colours-last, product-of, size-of, blocks-of, row-near, row-lost, row-links, row-there}
+use Rattle.stripcosts.specs.Table.{tableBy, capsIn, RowTo}
+use Rattle.stripcosts.proofs.Links.{colours-to, colours-from, colours-last, product-of, size-of, blocks-of, row-near, row-lost, row-links, row-there}
 use mathlib.Core.Path.{_≡_, refl, _∙_}
 use Prim.Native.Nat.{_+_, _-_, _<_, _≤_}
 use native.Mathlib.Omega.{arith}

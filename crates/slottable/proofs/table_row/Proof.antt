@@ -1,7 +1,7 @@
 use Rattle.bands.specs.Bands.{Barred, Ends}
-use Rattle.usedslots.specs.Table.{tableBy, capsIn, RowTo}
+use Rattle.stripcosts.specs.Table.{tableBy, capsIn, RowTo}
 use Rattle.bands.proofs.Bands.{ends-last, barred-none, barred-down, barred-more}
-use Rattle.usedslots.proofs.Links.{row-first, row-whole, row-ends}
+use Rattle.stripcosts.proofs.Links.{row-first, row-whole, row-ends}
 use mathlib.Core.Path.{_≡_, refl, _∙_}
 use Prim.Native.Nat.{_+_, _-_, _<_, _≤_}
 use native.Mathlib.Omega.{arith}

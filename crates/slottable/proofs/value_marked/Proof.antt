@@ -1,7 +1,7 @@
-use Rattle.usedslots.proofs.Entries.{right-root, right-next, codes-in}
-use Rattle.usedslots.proofs.Links.{row-there}
+use Rattle.stripcosts.proofs.Entries.{right-root, right-next, codes-in}
+use Rattle.stripcosts.proofs.Links.{row-there}
 use Rattle.optimum.specs.UsedSlots.{value}
-use Rattle.usedslots.specs.Table.{tableBy, capsIn, tableWords, RightFrom, RightTo}
+use Rattle.stripcosts.specs.Table.{tableBy, capsIn, tableWords, RightFrom, RightTo}
 use mathlib.Core.Path.{_≡_, refl, _∙_}
 use Prim.Native.Nat.{suc, _+_, _-_, _≤_}
 use native.Mathlib.Omega.{arith}

@@ -6,8 +6,8 @@ use Rattle.strips.proofs.is_inside.Statement.{statement}
 use Rattle.strips.proofs.is_inside.Tie as tie
 use Rattle.strips.proofs.is_inside.Reads as reads
 use Rattle.strips.proofs.is_inside.Lts as lts
-use Rattle.places.proofs.is_over.Reads as is-over-reads
-use Rattle.places.proofs.is_under.Reads as is-under-reads
+use Rattle.arrays.proofs.places.is_over.Reads as is-over-reads
+use Rattle.arrays.proofs.places.is_under.Reads as is-under-reads
 use Rattle.words.proofs.both.Reads as both-reads
 
 is-over-requires : tie.Need-is-over-requires

@@ -6,7 +6,7 @@ use Rattle.strips.proofs.joins_down.Statement.{statement}
 use Rattle.strips.proofs.joins_down.Tie as tie
 use Rattle.strips.proofs.joins_down.Reads as reads
 use Rattle.strips.proofs.joins_down.Lts as lts
-use Rattle.places.proofs.is_clear.Reads as is-clear-reads
+use Rattle.arrays.proofs.places.is_clear.Reads as is-clear-reads
 use Rattle.words.proofs.both.Reads as both-reads
 use Rattle.words.proofs.same.Reads as same-reads
 

@@ -8,7 +8,7 @@ use Rattle.strips.proofs.joins_up.Statement.{statement}
 use Rattle.strips.proofs.joins_up.Tie as tie
 use Rattle.strips.proofs.joins_up.Reads as reads
 use Rattle.strips.proofs.joins_up.Lts as lts
-use Rattle.places.proofs.is_clear.Reads as is-clear-reads
+use Rattle.arrays.proofs.places.is_clear.Reads as is-clear-reads
 use Rattle.words.proofs.both.Reads as both-reads
 use Rattle.words.proofs.same.Reads as same-reads
 

@@ -10,7 +10,7 @@ use Rattle.strips.proofs.opens.Reads as reads
 use Rattle.strips.proofs.opens.Lts as lts
 use Rattle.words.proofs.both.Reads as both-reads
 use Rattle.words.proofs.less.Reads as less-reads
-use Rattle.places.proofs.is_far.Reads as is-far-reads
+use Rattle.arrays.proofs.places.is_far.Reads as is-far-reads
 use Rattle.strips.proofs.site_opens.Reads as site-opens-reads
 
 returns : tie.Need-returns

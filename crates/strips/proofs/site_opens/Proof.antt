@@ -7,7 +7,7 @@ use Rattle.strips.proofs.site_opens.Statement.{statement}
 use Rattle.strips.proofs.site_opens.Tie as tie
 use Rattle.strips.proofs.site_opens.Reads as reads
 use Rattle.strips.proofs.site_opens.Lts as lts
-use Rattle.places.proofs.is_clear.Reads as is-clear-reads
+use Rattle.arrays.proofs.places.is_clear.Reads as is-clear-reads
 use Rattle.words.proofs.both.Reads as both-reads
 use Rattle.words.proofs.is_not.Reads as is-not-reads
 use Rattle.words.proofs.same.Reads as same-reads

@@ -1,7 +1,7 @@
 use Rattle.optimum.specs.UsedSlots.{Instance, value, capAll}
-use Rattle.usedslots.specs.Table.{instanceBy, tableBy, capsIn}
+use Rattle.stripcosts.specs.Table.{instanceBy, tableBy, capsIn}
 use Rattle.goals.specs.Goals.{Goals}
-use Rattle.capwords.specs.Caps.{Low}
+use Rattle.aims.specs.Caps.{Low}
 use Rattle.goals.proofs.Goals.{fits-set}
 use Rattle.capsearch.proofs.Search.{narrowed-keeps}
 use Rattle.twosided.proofs.Caps.{caps-done, caps-step, site-free}

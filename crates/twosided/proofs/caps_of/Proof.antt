@@ -1,6 +1,6 @@
 use lib.ListN.{replicate, length-replicate}
 use lib.Seq.{length-take-le}
-use Rattle.usedslots.specs.Table.{instanceBy, tableBy}
+use Rattle.stripcosts.specs.Table.{instanceBy, tableBy}
 use Rattle.goals.proofs.Goals.{fits-set}
 use Rattle.byheight.proofs.Sites.{zero-part}
 use Rattle.twosided.proofs.Caps.{caps-part, value-none}

@@ -1,0 +1,47 @@
+use Rattle.arrays.proofs.Standing.{clear-edge, clear-bottom, clear-label}
+use mathlib.Core.Path.{sym, _∙_}
+use Prim.Native.Nat.{_-_}
+use native.Mathlib.Omega.{arith}
+use borrow.Author.Needs.{needs}
+use Rattle.arrays.proofs.places.is_clear.Statement.{statement}
+use Rattle.arrays.proofs.places.is_clear.Tie as tie
+use Rattle.arrays.proofs.places.is_clear.Reads as reads
+use Rattle.arrays.proofs.places.is_clear.Lts as lts
+use Rattle.arrays.proofs.places.is_clear_at.Reads as is-clear-at-reads
+use Rattle.words.proofs.get.Reads as get-reads
+
+returns : tie.Need-returns
+returns c =
+    sym (clear-edge _ _ _ (c .if1 .taken))
+
+sub-i : tie.Need-sub-i
+sub-i c = search needs
+
+cast-if2 : tie.Need-cast-if2
+cast-if2 c = search needs
+
+returns-2 : tie.Need-returns-2
+returns-2 c =
+    sym (clear-bottom _ _ _ (omega arith) (c .if2 .taken))
+
+get-requires : tie.Need-get-requires
+get-requires c κs = search needs
+
+is-clear-at-requires : tie.Need-is-clear-at-requires
+is-clear-at-requires c κs = search needs
+
+returns-3 : tie.Need-returns-3
+returns-3 c =
+    c .is-clear-at .ensures ∙ rw (c .before .get .ensures) (sym (clear-label _ _ _ (omega arith) (omega arith)))
+
+pub is-clear-spec : {M : Type 1} → statement M
+is-clear-spec =
+    tie.close
+    (tie.spec
+    returns
+    sub-i
+    cast-if2
+    returns-2
+    get-requires
+    is-clear-at-requires
+    returns-3)

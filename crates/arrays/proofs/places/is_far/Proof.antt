@@ -1,0 +1,56 @@
+use Rattle.arrays.proofs.Standing.{far-edge, far-bottom, far-label}
+use mathlib.Core.Path.{sym, _∙_}
+use Prim.Native.Nat.{_-_}
+use native.Mathlib.Omega.{arith}
+use borrow.Author.Needs.{needs}
+use Rattle.arrays.proofs.places.is_far.Statement.{statement}
+use Rattle.arrays.proofs.places.is_far.Tie as tie
+use Rattle.arrays.proofs.places.is_far.Reads as reads
+use Rattle.arrays.proofs.places.is_far.Lts as lts
+use Rattle.drops.proofs.apart_of.Reads as apart-of-reads
+use Rattle.words.proofs.at_most.Reads as at-most-reads
+use Rattle.words.proofs.get.Reads as get-reads
+
+returns : tie.Need-returns
+returns c =
+    sym (far-edge _ _ _ _ _ (c .if1 .taken))
+
+sub-i : tie.Need-sub-i
+sub-i c = search needs
+
+cast-if2 : tie.Need-cast-if2
+cast-if2 c = search needs
+
+returns-2 : tie.Need-returns-2
+returns-2 c =
+    sym (far-bottom _ _ _ _ _ (omega arith) (c .if2 .taken))
+
+get-requires : tie.Need-get-requires
+get-requires c κs = search needs
+
+get-requires-2 : tie.Need-get-requires-2
+get-requires-2 c κs = search needs
+
+apart-of-requires : tie.Need-apart-of-requires
+apart-of-requires c κs = search needs
+
+at-most-requires : tie.Need-at-most-requires
+at-most-requires c κs = search needs
+
+returns-3 : tie.Need-returns-3
+returns-3 c =
+    c .at-most .ensures ∙ rw (c .before .apart-of .ensures, c .before .before .get2 .ensures, c .before .before .before .get .ensures) (sym (far-label _ _ _ _ _ (omega arith) (omega arith)))
+
+pub is-far-spec : {M : Type 1} → statement M
+is-far-spec =
+    tie.close
+    (tie.spec
+    returns
+    sub-i
+    cast-if2
+    returns-2
+    get-requires
+    get-requires-2
+    apart-of-requires
+    at-most-requires
+    returns-3)

@@ -1,3 +1,0 @@
-pub mod Strips
-pub mod Links
-pub mod Entries
