@@ -14,7 +14,7 @@ use Rattle.optimum.specs.OneSided.{topWord}
 use Rattle.optimum.proofs.Pairs.{zeros}
 use Rattle.optimum.proofs.Reached.{reached-start}
 use Rattle.search.specs.Walk.{walkBy}
-use Rattle.rest.specs.Rest.{levelSize, LevelIn, restRows}
+use Rattle.rows.specs.Rest.{levelSize, LevelIn, restRows}
 use Rattle.walk.specs.Walk.{Found, valueIn, Standing, tiedFrom}
 use Rattle.walk.proofs.Value.{Met, met-value, walk-right}
 use Rattle.walk.proofs.Tying.{points-long}

@@ -11,7 +11,7 @@ use Rattle.optimum.specs.OneSided.{topWord, writeTies}
 use Rattle.optimum.specs.Reached.{TableOf}
 use Rattle.arrays.specs.declared.Measures.{Measures}
 use Rattle.arrays.specs.Arrays.{instanceBy, pointsBy}
-use Rattle.rest.specs.Rest.{levelSize}
+use Rattle.rows.specs.Rest.{levelSize}
 use Rattle.costs.specs.Costs.{headWord}
 use Rattle.walk.specs.Walk.{WalkArrays}
 

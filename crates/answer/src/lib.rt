@@ -5,6 +5,7 @@ ghost use Rattle.answer.specs.Laid.{laidFault, laidOut, TableFilled};
 use arrays::Measures;
 use choice::Left;
 use costs::head_word;
+use rows::rest::rest_of;
 
 // Reads the least cost off the filled table, and writes the layout of it: its first word, and the ties of the walk.
 pub fn lay_least(
@@ -29,7 +30,7 @@ pub fn lay_least(
     let v = q.budgets - 1;
     let m = heights.len();
     let mut labels = [0u32; 48];
-    let least = rest::rest_of(parts, counts, work, 0, q, &labels[..m], v);
+    let least = rest_of(parts, counts, work, 0, q, &labels[..m], v);
     if least == words::NONE {
         return 10;
     }

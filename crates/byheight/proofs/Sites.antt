@@ -20,7 +20,7 @@ use Rattle.stripcosts.specs.Costs.{upperAt, lowerAt, siteOf, stripOf}
 use Rattle.optimum.specs.CostWord.{topWord}
 use Rattle.stripcosts.specs.Table.{tableBy, capsIn, Fits, RightTo}
 use Rattle.stripcosts.proofs.Strips.{strip-is}
-use Rattle.siteorder.specs.Sites.{Reorders}
+use Rattle.slotbands.specs.Sites.{Reorders}
 
 -- ---- words taken in an order
 

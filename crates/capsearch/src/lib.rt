@@ -4,7 +4,7 @@ ghost use Prim.Native.Nat.{suc, _+_, _-_, _<_, _≤_};
 ghost use lib.ListN.{length, getD, set};
 ghost use Rattle.optimum.specs.UsedSlots.{value, choose};
 ghost use Rattle.optimum.specs.Steady.{Steady};
-ghost use Rattle.siteorder.specs.Sites.{Reorders};
+ghost use Rattle.slotbands.specs.Sites.{Reorders};
 ghost use Rattle.stripcosts.specs.Table.{tableBy, capsIn, Fits};
 ghost use Rattle.goals.specs.Goals.{Goals};
 ghost use Rattle.aims.specs.Caps.{Low};

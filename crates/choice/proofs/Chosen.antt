@@ -13,7 +13,7 @@ use Rattle.search.specs.Cost.{plus, first}
 use Rattle.optimum.proofs.Loops.{first-at, first-none}
 use Rattle.optimum.specs.Strips.{Point, Strip, Instance}
 use Rattle.optimum.specs.OneSided.{topWord}
-use Rattle.rest.specs.Rest.{LevelIn, restRows}
+use Rattle.rows.specs.Rest.{LevelIn, restRows}
 use Rattle.strips.specs.Steps.{priceIn, budgetLeft}
 
 -- the labels are as they were

@@ -8,7 +8,7 @@ use Rattle.search.specs.Cost.{plus}
 use Rattle.optimum.specs.Strips.{Point, Strip, Instance}
 use Rattle.optimum.specs.OneSided.{topWord}
 use Rattle.strips.specs.Steps.{priceIn, budgetLeft}
-use Rattle.rest.specs.Rest.{restRows}
+use Rattle.rows.specs.Rest.{restRows}
 
 -- ---- one step, of the site s in the strip p
 

@@ -4,7 +4,7 @@ ghost use Prim.Native.Nat.{_+_, _-_, _<_};
 ghost use lib.ListN.{length};
 ghost use Rattle.search.specs.Cost.{first};
 ghost use Rattle.optimum.specs.OneSided.{topWord};
-ghost use Rattle.rest.specs.Rest.{LevelIn};
+ghost use Rattle.rows.specs.Rest.{LevelIn};
 ghost use Rattle.optimum.specs.Strips as model;
 ghost use Rattle.arrays.specs.Arrays.{instanceBy};
 ghost use Rattle.arrays.specs.declared.Measures as measured;

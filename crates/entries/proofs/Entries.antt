@@ -22,8 +22,8 @@ use Rattle.arrays.specs.declared.Measures.{Measures}
 use Rattle.arrays.specs.Arrays.{instanceBy}
 use Rattle.strips.specs.Strips.{instanceOn, gapLeft, siteOpens, openCost, joinCost, joinLeast}
 use Rattle.strips.proofs.Decisions.{inside-on, opens-on, joins-up-on, joins-down-on}
-use Rattle.budgets.specs.Budgets.{Within, Splits, partAt, shareBy, leftBy}
-use Rattle.budgets.proofs.Sharing.{share-by}
+use Rattle.rows.specs.Budgets.{Within, Splits, partAt, shareBy, leftBy}
+use Rattle.rows.proofs.Sharing.{share-by}
 use Rattle.rows.proofs.Places.{upper-is, lower-is}
 use Rattle.strips.proofs.Joining.{opening, opens-of, shut, up-at, down-at, up-least, down-least}
 use Rattle.entries.specs.Rows.{openBy, noPart, slotTerm, slotsLeast, insideEntry, entryBy, entryIn}

@@ -6,7 +6,7 @@ use native.Mathlib.Omega.{arith}
 use lib.ListN.{length}
 use Rattle.optimum.specs.Strips.{Point, Strip}
 use Rattle.arrays.specs.declared.Measures.{Measures}
-use Rattle.budgets.specs.Budgets.{Others}
+use Rattle.rows.specs.Budgets.{Others}
 use Rattle.rows.specs.Rows.{rowOf, rowIn, Lies, upperPart, lowerPart}
 use Rattle.rows.proofs.Places.{row-fits, upper-lies, lower-lies}
 use Rattle.entries.specs.Rows.{Ready}

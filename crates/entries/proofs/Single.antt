@@ -19,7 +19,7 @@ use Rattle.optimum.specs.OneSided.{topWord}
 use Rattle.arrays.specs.declared.Measures.{Measures}
 use Rattle.strips.specs.declared.Window.{Window}
 use Rattle.strips.specs.Strips.{instanceOn, WindowOf, gapLeft, openCost}
-use Rattle.budgets.specs.Budgets.{Others, partAt, shareBy}
+use Rattle.rows.specs.Budgets.{Others, partAt, shareBy}
 use Rattle.entries.specs.Rows.{openBy, noPart, slotTerm, slotsLeast, singleTerm, Single, isSingle}
 use Rattle.rows.specs.Rows.{rowIn, upperPart, lowerPart}
 use Rattle.entries.proofs.Terms.{window-gap, window-shut}

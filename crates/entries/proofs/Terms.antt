@@ -17,7 +17,7 @@ use Rattle.optimum.specs.OneSided.{topWord}
 use Rattle.arrays.specs.declared.Measures.{Measures}
 use Rattle.strips.specs.declared.Window.{Window}
 use Rattle.strips.specs.Strips.{instanceOn, WindowOf, gapLeft, siteOpens, openCost, joinLeast}
-use Rattle.budgets.specs.Budgets.{Others}
+use Rattle.rows.specs.Budgets.{Others}
 use Rattle.entries.proofs.Places.{same-rows}
 use Rattle.entries.specs.Rows.{openBy, noPart, slotTerm, slotsLeast, insideEntry, entryBy}
 use Rattle.rows.specs.Rows.{rowOf, rowIn, upperPart, lowerPart}

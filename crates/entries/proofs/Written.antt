@@ -6,7 +6,7 @@ use native.Mathlib.Omega.{arith}
 use lib.ListN.{length, getD, set, length-set}
 use lib.Seq.{getD-set-same, getD-set-other}
 use Rattle.lists.proofs.Tests.{by-order}
-use Rattle.budgets.specs.Budgets.{Others}
+use Rattle.rows.specs.Budgets.{Others}
 
 -- the first n words of the row at `base` are f 0, f 1, ..; all other words are as before
 pub record Written (old new : List ℕ) (base n : ℕ) (f : ℕ → ℕ) : Type 0 where

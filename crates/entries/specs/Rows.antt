@@ -14,7 +14,7 @@ use Rattle.arrays.specs.declared.Measures.{Measures}
 use Rattle.rows.specs.Rows.{rowsOf, upperPart, lowerPart}
 use Rattle.parts.specs.Parts.{partsCost}
 use Rattle.strips.specs.Strips.{Framed, Stands, joinLeast, instanceOn, gapLeft, siteOpens, openCost}
-use Rattle.budgets.specs.Budgets.{Within, shareBy}
+use Rattle.rows.specs.Budgets.{Within, shareBy}
 
 -- ---- what is asked of the numbers
 

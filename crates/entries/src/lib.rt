@@ -7,12 +7,13 @@ ghost use Rattle.search.specs.Cost.{plus, least};
 ghost use Rattle.optimum.specs.OneSided.{topWord};
 ghost use Rattle.strips.specs.Strips.{instanceOn, gapLeft, Measured};
 ghost use Rattle.rows.specs.Rows.{stripOf, pointOf, Lies, rowIn};
-ghost use Rattle.budgets.specs.Budgets.{Others, Within};
+ghost use Rattle.rows.specs.Budgets.{Others, Within};
 ghost use Rattle.parts.specs.Parts.{Room};
 ghost use Rattle.entries.specs.Rows.{Ready, openBy, slotTerm, singleTerm, slotsLeast, isSingle, entryBy};
 use arrays::Measures;
 use rows::Site;
 use rows::Strip;
+use rows::budgets::least_share;
 use strips::Window;
 use words::NONE;
 use words::both;
@@ -53,8 +54,7 @@ fn opened(
     if n <= u {
         return old;
     }
-    let t = (cost as u64)
-        + (budgets::least_share(parts, counts, n, work, upper, work, lower, u) as u64);
+    let t = (cost as u64) + (least_share(parts, counts, n, work, upper, work, lower, u) as u64);
     if t < old as u64 {
         return t as u32;
     }

@@ -1,17 +1,19 @@
 // The labels of a cheapest layout as the two-sided table tells them, and goals: a cap for every site, which these labels keep together.
+pub mod labels;
+
 ghost use mathlib.Core.Path.{_≡_};
 ghost use Prim.Native.Nat.{_<_, _≤_};
 ghost use lib.ListN.{length};
 ghost use Rattle.optimum.specs.UsedSlots.{value};
 ghost use Rattle.stripcosts.specs.Table.{tableBy, capsIn, Fits};
 ghost use Rattle.goals.specs.Goals.{Goals};
+use crate::labels::Chosen;
+use crate::labels::after_slot;
+use crate::labels::labels_cost;
 use aims::aim_goals;
 use aims::keep_goals;
 use arrays::Measures;
 use guesses::is_kept;
-use labels::Chosen;
-use labels::after_slot;
-use labels::labels_cost;
 use links::link_cost;
 use links::row_start;
 use words::get;

@@ -11,7 +11,7 @@ use Rattle.lists.proofs.Tests.{by-equal}
 use borrow.Author.Tests.{ne-eqb}
 use Rattle.search.specs.Cost.{plus}
 use Rattle.optimum.specs.OneSided.{topWord}
-use Rattle.rest.specs.Rest.{LevelIn}
+use Rattle.rows.specs.Rest.{LevelIn}
 
 -- labels with one changed
 pub level-set : (parts counts work : List ℕ) (base C R : ℕ) (L : List ℕ) (k c : ℕ) → LevelIn parts counts work base C R L → k < length L → c < C + 1 → LevelIn parts counts work base C R (set L k c)

@@ -5,8 +5,9 @@ ghost use lib.Dec.{eqb};
 ghost use lib.ListN.{length, set};
 ghost use Rattle.search.specs.Cost.{plus};
 ghost use Rattle.optimum.specs.OneSided.{topWord};
-ghost use Rattle.rest.specs.Rest.{LevelIn, restRows};
+ghost use Rattle.rows.specs.Rest.{LevelIn, restRows};
 use arrays::Measures;
+use rows::rest::rest_of;
 
 // A step that costs `price` and ties a site of colour c - 1 to slot k, so that the budget v is left, comes to `cost` with REST after it.
 // A step that is not lawful keeps no cost, so REST is not asked for.
@@ -34,7 +35,7 @@ pub fn keeps_cost(
     let at = k as usize;
     let old = labels[at];
     labels[at] = c;
-    let after = rest::rest_of(parts, counts, work, base, q, labels, v);
+    let after = rest_of(parts, counts, work, base, q, labels, v);
     labels[at] = old;
     words::same(words::plus_of(price, after), cost)
 }

@@ -11,26 +11,11 @@ ghost use Rattle.lines.specs.Lines.{wordsIn, refusedLine, layoutLine, si
 use crate::text::put_byte;
 use crate::text::put_bytes;
 use crate::text::put_decimal;
+use input::word_at;
 use words::byte_field;
 use words::get;
 use words::kind_of;
 use words::monus;
-
-pub fn wide(b: u8) -> u32
-    ensures { λ r. ⌜ (r ≡ b) × (r < 256) ⌝ }
-{
-    b as u32
-}
-
-fn word_at(bytes: &[u8], i: usize) -> u32
-    requires { ⌜ i + 4 ≤ length (now bytes) ⌝ }
-    ensures { λ r. ⌜ r ≡ getD (now (bytes .entry)) i 0 + 256 * getD (now (bytes .entry)) (i + 1) 0 + 65536 * getD (now (bytes .entry)) (i + 2) 0 + 16777216 * getD (now (bytes .entry)) (i + 3) 0 ⌝ }
-{
-    wide(bytes[i])
-        + 256 * wide(bytes[i + 1])
-        + 65536 * wide(bytes[i + 2])
-        + 16777216 * wide(bytes[i + 3])
-}
 
 fn put_word(words: &mut [u32], at: usize, word: u32) -> usize
     ensures { λ r. ⌜ r ≡ pastOf (now (words .entry)) at (word ∷ []) ⌝ }

@@ -23,7 +23,7 @@ use Rattle.arrays.specs.declared.Measures.{Measures}
 use Rattle.arrays.specs.Arrays.{measuresOf, boundsOf, drawsList, xsOf, ysOf, coloursOf, gathered, instanceBy, pointsBy}
 use Rattle.arrays.proofs.Instances.{instance-by, points-by}
 use Rattle.optimum.specs.Budgets.{radicesOf}
-use Rattle.rest.specs.Rest.{levelSize}
+use Rattle.rows.specs.Rest.{levelSize}
 use Rattle.costs.specs.Costs.{headWord}
 use Rattle.answer.specs.Laid.{leastCost, laidFault, written, laidOut, wiped}
 

@@ -25,10 +25,10 @@ use Rattle.arrays.specs.Arrays.{measuresOf, boundsOf, drawsList, xsOf, ysOf, co
 use Rattle.arrays.proofs.Instances.{ys-at, colours-at}
 use Rattle.arrays.proofs.Fields.{bounds-long}
 use Rattle.arrays.proofs.Ordered.{gathered-long, radix-pos}
-use Rattle.rest.proofs.Rows.{size}
+use Rattle.rows.proofs.Rows.{size}
 use Rattle.rows.specs.Rows.{levelSize}
 use Rattle.table.specs.Rows.{Given}
-use Rattle.budgets.specs.Budgets.{Splits}
+use Rattle.rows.specs.Budgets.{Splits}
 use Rattle.optimum.specs.Reached.{TableOf}
 use Rattle.walk.proofs.Tying.{points-long}
 use Rattle.answer.specs.Laid.{TableFilled, wiped}

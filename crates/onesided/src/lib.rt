@@ -21,6 +21,8 @@ use arrays::order_of;
 use arrays::radices_of;
 use arrays::xs_of;
 use arrays::ys_of;
+use rows::budgets::list_splits;
+use rows::rest::level_size;
 
 // Lays out the sites by rising rank, from arrays that are a sheet's.
 fn lay_ranked(
@@ -44,7 +46,7 @@ fn lay_ranked(
 {
     let mut parts = [0u8; 4096];
     let mut counts = [0u8; 64];
-    budgets::list_splits(radices, q.budgets as usize, &mut parts, &mut counts);
+    list_splits(radices, q.budgets as usize, &mut parts, &mut counts);
     let parts = &parts[..];
     let counts = &counts[..];
     table::fill_table(
@@ -75,7 +77,7 @@ fn lay_ranked(
         work,
         out,
     );
-    let size = rest::level_size(q, heights.len());
+    let size = level_size(q, heights.len());
     clear(work, (order.len() + 1) * size);
     fault
 }

@@ -7,7 +7,7 @@ use Rattle.search.specs.Cost.{plus}
 use Rattle.optimum.specs.Strips.{Point, Strip}
 use Rattle.optimum.specs.OneSided.{topWord}
 use Rattle.arrays.specs.declared.Measures.{Measures}
-use Rattle.budgets.specs.Budgets.{Others}
+use Rattle.rows.specs.Budgets.{Others}
 use Rattle.rows.specs.Rows.{rowOf, rowsOf, upperPart, lowerPart}
 
 -- what the parts cost together where there is but one budget, the whole of which goes to both

@@ -1,2 +1,5 @@
 mod Holding
 pub mod Places
+pub mod Sharing
+mod Lists
+pub mod Rows

@@ -1,4 +1,7 @@
 // Strips of a one-sided sheet and where their rows stand: a level has a row of words for each strip, by the ends above and below it.
+pub mod budgets;
+pub mod rest;
+
 ghost use mathlib.Core.Path.{_≡_};
 ghost use mathlib.Core.List.{List};
 ghost use Prim.Native.Nat.{ℕ, suc, _+_, _*_, _<_, _≤_};

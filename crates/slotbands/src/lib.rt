@@ -1,4 +1,6 @@
 // Where in the arrays the sites of a strip can stand, and codes of the sites in the band above each slot.
+pub mod siteorder;
+
 ghost use mathlib.Core.Path.{_≡_};
 ghost use mathlib.Core.List.{List};
 ghost use Prim.Native.Nat.{ℕ, suc, _<_, _≤_};

@@ -9,7 +9,7 @@ use lib.Seq.{getD-set-same, getD-set-other}
 use Rattle.lists.proofs.Tests.{by-order}
 use Rattle.optimum.specs.Strips.{Point, Strip}
 use Rattle.arrays.specs.declared.Measures.{Measures}
-use Rattle.budgets.specs.Budgets.{Others}
+use Rattle.rows.specs.Budgets.{Others}
 use Rattle.entries.specs.Rows.{entryBy}
 use Rattle.rows.specs.Rows.{rowOf, rowIn, levelSize, Lies, endPlace, endWords}
 use Rattle.entries.proofs.Places.{same-rows}

@@ -22,7 +22,7 @@ use Rattle.optimum.proofs.Loops.{at-drop}
 use Rattle.arrays.specs.declared.Measures.{Measures}
 use Rattle.arrays.specs.Arrays.{instanceBy, pointsBy}
 use Rattle.strips.specs.Strips.{instanceOn, Stands}
-use Rattle.budgets.specs.Budgets.{Others, Splits, leftBy}
+use Rattle.rows.specs.Budgets.{Others, Splits, leftBy}
 use Rattle.rows.specs.Rows.{rowOf, rowsOf, rowIn, levelSize, upperPart, lowerPart}
 use Rattle.rows.proofs.Places.{row-low, row-fits}
 use Rattle.entries.proofs.Entries.{Falls, cell-row, entry-by}

@@ -9,7 +9,7 @@ use Rattle.search.specs.Radix.{below}
 use Rattle.optimum.specs.Strips.{Point, Strip, Instance, rulesOf}
 use Rattle.optimum.specs.Reached.{Reached}
 use Rattle.arrays.specs.declared.Measures.{Measures}
-use Rattle.budgets.specs.Budgets.{Within}
+use Rattle.rows.specs.Budgets.{Within}
 use Rattle.masks.specs.Masks.{Divides}
 use Rattle.entries.specs.Rows.{entryBy}
 use Rattle.strips.specs.Strips.{Framed, Stands}

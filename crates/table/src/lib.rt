@@ -5,7 +5,7 @@ ghost use lib.ListN.{length, getD, drop};
 ghost use Rattle.rows.specs.Rows.{pointOf, levelSize, endPlace, endWords};
 ghost use Rattle.optimum.specs.Strips as model;
 ghost use Rattle.marks.specs.Marks.{Shaped};
-ghost use Rattle.budgets.specs.Budgets.{Others, Splits};
+ghost use Rattle.rows.specs.Budgets.{Others, Splits};
 ghost use Rattle.arrays.specs.Arrays.{instanceBy, pointsBy};
 ghost use Rattle.optimum.specs.Reached.{TableOf};
 ghost use Rattle.table.specs.Rows.{Ready, RowFilled, Given, LevelRight, LevelMarked};
@@ -13,6 +13,7 @@ use arrays::Measures;
 use rows::End;
 use rows::Site;
 use rows::Strip;
+use rows::budgets::list_left;
 
 // Fills the marked rows below one upper end, if a strip may have it.
 fn fill_below(
@@ -127,7 +128,7 @@ fn fill_site(
     let s = rows::site_at(xs, ys, cs, j);
     let draw = words::get(draws, s.c);
     let mut left = [0u8; 64];
-    budgets::list_left(radices, draw, q.budgets as usize, &mut left);
+    list_left(radices, draw, q.budgets as usize, &mut left);
     fill_level(
         work,
         q,

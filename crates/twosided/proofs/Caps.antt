@@ -15,7 +15,7 @@ use Rattle.optimum.proofs.Rows.{put-set}
 use Rattle.arrays.specs.declared.Measures.{Measures}
 use Rattle.stripcosts.specs.Table.{instanceBy, tableBy, capsIn}
 use Rattle.stripcosts.proofs.Strips.{value-ranks}
-use Rattle.siteorder.specs.Sites.{Reorders}
+use Rattle.slotbands.specs.Sites.{Reorders}
 use Rattle.aims.specs.Caps.{leftmostBy, Low}
 use Rattle.capsearch.specs.Search.{uncapped}
 

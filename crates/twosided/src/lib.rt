@@ -8,7 +8,7 @@ ghost use Rattle.labelling.specs.Entry.{makeFault, makeWork, makeAnswer};
 ghost use Rattle.labelling.specs.Promise.{takesSheet};
 ghost use Rattle.optimum.specs.UsedSlots.{value, capAll};
 ghost use Rattle.optimum.specs.Steady.{Steady};
-ghost use Rattle.siteorder.specs.Sites.{Reorders};
+ghost use Rattle.slotbands.specs.Sites.{Reorders};
 ghost use Rattle.stripcosts.specs.Table.{instanceBy, tableBy, capsIn, Fits, tableWords};
 ghost use Rattle.aims.specs.Caps.{Low};
 ghost use Rattle.capsearch.specs.Search.{uncapped, Filled};
@@ -29,7 +29,7 @@ use byheight::value_of;
 use capsearch::cap_site;
 use costs::head_word;
 use goals::trace_goals;
-use siteorder::order_sites;
+use slotbands::siteorder::order_sites;
 use tablewords::table_words;
 use words::NONE;
 

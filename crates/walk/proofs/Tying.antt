@@ -19,11 +19,11 @@ use Rattle.arrays.specs.Arrays.{instanceBy, pointsBy}
 use Rattle.optimum.specs.Strips.{Point, Strip, Instance, State, hold, price, next, labels}
 use Rattle.optimum.specs.OneSided.{topWord, writeTies}
 use Rattle.optimum.specs.Reached.{noPoint}
-use Rattle.rest.specs.Rest.{LevelIn, levelSize, restRows}
+use Rattle.rows.specs.Rest.{LevelIn, levelSize, restRows}
 use Rattle.choice.specs.Choice.{labelled, keepsCost}
 use Rattle.strips.specs.Steps.{priceIn, budgetLeft}
 use Rattle.walk.specs.Walk.{Found, valueIn, WalkArrays, Standing, tiedFrom}
-use Rattle.rest.proofs.Rows.{size}
+use Rattle.rows.proofs.Rows.{size}
 use Rattle.walk.proofs.Value.{first-under, next-is}
 
 -- ---- the sites by their numbers

@@ -28,11 +28,11 @@ use Rattle.search.proofs.Sums.{listing-same, length-listing}
 use Rattle.optimum.proofs.Loops.{walk-step}
 use Rattle.optimum.proofs.Reached.{reached-next, reached-rows}
 use Rattle.optimum.proofs.Pairs.{zeros}
-use Rattle.budgets.specs.Budgets.{Splits}
-use Rattle.budgets.proofs.Sharing.{share-by}
-use Rattle.rest.specs.Rest.{rowOf, levelSize, shareRow, joinRow, foldRows, restRows}
+use Rattle.rows.specs.Budgets.{Splits}
+use Rattle.rows.proofs.Sharing.{share-by}
+use Rattle.rows.specs.Rest.{rowOf, levelSize, shareRow, joinRow, foldRows, restRows}
 use Rattle.walk.specs.Walk.{Found, valueIn}
-use Rattle.rest.proofs.Rows.{join-long}
+use Rattle.rows.proofs.Rows.{join-long}
 
 pub first-under : (n : ℕ) (t u : ℕ → Bool) → ((k : ℕ) → k < n → t k ≡ u k) → first n t ≡ first n u
 unfolding first

@@ -7,8 +7,8 @@ use Rattle.search.specs.Walk.{Process, chooseBy, walkBy}
 use Rattle.optimum.specs.Strips.{Point, Instance, State, labels as process}
 use Rattle.optimum.specs.OneSided.{topWord, writeTies}
 use Rattle.arrays.specs.declared.Measures.{Measures}
-use Rattle.budgets.specs.Budgets.{Splits}
-use Rattle.rest.specs.Rest.{levelSize, restRows}
+use Rattle.rows.specs.Budgets.{Splits}
+use Rattle.rows.specs.Rest.{levelSize, restRows}
 use Rattle.strips.specs.Steps.{SheetArrays, SiteIn}
 
 -- each step of the walk by these values finds its slot

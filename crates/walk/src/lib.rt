@@ -7,6 +7,7 @@ ghost use Rattle.walk.specs.Walk.{WalkArrays, Standing, tiedFrom};
 use arrays::Measures;
 use choice::Left;
 use choice::choose_slot;
+use rows::rest::level_size;
 
 // Ties the site of rank j, and says what is left.
 fn tie_site(
@@ -35,7 +36,7 @@ fn tie_site(
 {
     let s = rows::site_at(xs, ys, colours, j);
     let p = rows::hold_of(heights, labels, s.y);
-    let size = rest::level_size(q, heights.len());
+    let size = level_size(q, heights.len());
     let base = (j + 1) * size;
     let k = choose_slot(
         parts,

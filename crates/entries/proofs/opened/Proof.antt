@@ -7,7 +7,7 @@ use Rattle.entries.proofs.opened.Statement.{statement}
 use Rattle.entries.proofs.opened.Tie as tie
 use Rattle.entries.proofs.opened.Reads as reads
 use Rattle.entries.proofs.opened.Lts as lts
-use Rattle.budgets.proofs.least_share.Reads as least-share-reads
+use Rattle.rows.proofs.budgets.least_share.Reads as least-share-reads
 
 returns : tie.Need-returns
 returns c =

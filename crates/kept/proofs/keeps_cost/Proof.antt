@@ -8,7 +8,7 @@ use Rattle.kept.proofs.keeps_cost.Statement.{statement}
 use Rattle.kept.proofs.keeps_cost.Tie as tie
 use Rattle.kept.proofs.keeps_cost.Reads as reads
 use Rattle.kept.proofs.keeps_cost.Lts as lts
-use Rattle.rest.proofs.rest_of.Reads as rest-of-reads
+use Rattle.rows.proofs.rest.rest_of.Reads as rest-of-reads
 use Rattle.words.proofs.plus_of.Reads as plus-of-reads
 use Rattle.words.proofs.same.Reads as same-reads
 

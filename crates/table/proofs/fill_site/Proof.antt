@@ -8,7 +8,7 @@ use Rattle.table.proofs.fill_site.Statement.{statement}
 use Rattle.table.proofs.fill_site.Tie as tie
 use Rattle.table.proofs.fill_site.Reads as reads
 use Rattle.table.proofs.fill_site.Lts as lts
-use Rattle.budgets.proofs.list_left.Reads as list-left-reads
+use Rattle.rows.proofs.budgets.list_left.Reads as list-left-reads
 use Rattle.table.proofs.fill_level.Reads as fill-level-reads
 use Rattle.words.proofs.get.Reads as get-reads
 

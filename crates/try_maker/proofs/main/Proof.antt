@@ -38,9 +38,6 @@ count-sheets-requires c κs = search needs
 print-counts-requires : tie.Need-print-counts-requires
 print-counts-requires c κs = search needs
 
-report-part-requires : tie.Need-report-part-requires
-report-part-requires c κs = search needs
-
 returns : tie.Need-returns
 returns c = search needs
 
@@ -60,5 +57,4 @@ main-spec =
     part-print-counts-end
     count-sheets-requires
     print-counts-requires
-    report-part-requires
     returns)

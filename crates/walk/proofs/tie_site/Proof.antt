@@ -12,7 +12,7 @@ use Rattle.walk.proofs.tie_site.Tie as tie
 use Rattle.walk.proofs.tie_site.Reads as reads
 use Rattle.walk.proofs.tie_site.Lts as lts
 use Rattle.choice.proofs.choose_slot.Reads as choose-slot-reads
-use Rattle.rest.proofs.level_size.Reads as level-size-reads
+use Rattle.rows.proofs.rest.level_size.Reads as level-size-reads
 use Rattle.rows.proofs.hold_of.Reads as hold-of-reads
 use Rattle.strips.proofs.step_of.Reads as step-of-reads
 use Rattle.ties.proofs.write_tie.Reads as write-tie-reads

@@ -1,0 +1,139 @@
+use Rattle.rows.proofs.Rows.{last-strip}
+use Rattle.rows.proofs.Rows.{row-inside, Folding, folding-none, folding-more, folding-all}
+use mathlib.Core.Path.{ap, sym, _∙_}
+use mathlib.Core.List.{List}
+use Prim.Native.Nat.{ℕ, _-_}
+use native.Mathlib.Omega.{arith}
+use lib.ListN.{length, getD}
+use borrow.Author.Needs.{needs}
+use Rattle.rows.proofs.rest.fold_rows.Statement.{statement}
+use Rattle.rows.proofs.rest.fold_rows.Tie as tie
+use Rattle.rows.proofs.rest.fold_rows.Reads as reads
+use Rattle.rows.proofs.rest.fold_rows.Lts as lts
+use Rattle.rows.proofs.rest.fold_at.Reads as fold-at-reads
+use Rattle.rows.proofs.rest.join_row.Reads as join-row-reads
+use Rattle.rows.proofs.rest.row_of.Reads as row-of-reads
+use Rattle.words.proofs.choose.Reads as choose-reads
+
+abbrev Inv-loop : tie.InvT-loop
+Inv-loop parts counts work base q labels v acc₀ m a₀ ca₀ i₀ acc a ca i = Folding parts counts work base (q .colours) (q .budgets) labels acc₀ acc a ca i
+
+abbrev μ-loop : tie.MeasureT-loop
+μ-loop parts counts work base q labels v acc₀ m a₀ ca₀ i₀ acc a ca i = length labels - i
+
+loop-holds : tie.Need-loop-holds Inv-loop μ-loop
+loop-holds c =
+    folding-none _ _ _ _ _ _ _ _ (c .before .before .before .before .before .pre .1 .0)
+
+mul-e : tie.Need-mul-e Inv-loop μ-loop
+mul-e c = search needs
+
+shared-slice-read-e : tie.Need-shared-slice-read-e Inv-loop μ-loop
+shared-slice-read-e c = search needs
+
+cast-b : tie.Need-cast-b Inv-loop μ-loop
+cast-b c =
+    omega (arith, c .before .before .before .before .before .before .before .before .pre .0 .fewSlots)
+
+add-b : tie.Need-add-b Inv-loop μ-loop
+add-b c =
+    omega (arith, c .before .before .before .before .before .before .before .before .pre .0 .fewSlots)
+
+fold-at-requires : tie.Need-fold-at-requires Inv-loop μ-loop
+fold-at-requires c κs =
+    let p = c .before .before .before .before .before .before .before .before .before .pre .0 in let f = c .before .before .before .loop .inv in (
+      record {
+        fewSlots = p .fewSlots;
+        fewColours = p .fewColours;
+        fewBudgets = p .splits .few;
+        aLow = omega (arith, f .above);
+        caLow = f .colour;
+        bLow = omega arith;
+        cbLow = omega (arith, p .coloured (c .before .before .before .loop .i));
+      },
+      (f .long, p .splits, p .within),
+    )
+
+choose-requires : tie.Need-choose-requires Inv-loop μ-loop
+choose-requires c κs = search needs
+
+choose-requires-2 : tie.Need-choose-requires-2 Inv-loop μ-loop
+choose-requires-2 c κs = search needs
+
+add-i : tie.Need-add-i Inv-loop μ-loop
+add-i c =
+    search needs
+
+loop-less : tie.Need-loop-less Inv-loop μ-loop
+loop-less c = search needs
+
+loop-again : tie.Need-loop-again Inv-loop μ-loop
+loop-again c =
+    let l = c .before .before .before .before .before .before .before .before .loop in
+    folding-more _ _ _ _ _ _ _ _ _ _ _ _ _ _ _ (l .inv) (c .before .before .before .before .before .before .before .loop-test .taken) (omega (arith, c .before .before .before .before .before .before .before .before .before .before .before .before .before .before .pre .0 .coloured (l .i)))
+    (c .before .before .before .before .fold-at .ensures) (c .before .choose .ensures) (c .choose2 .ensures)
+
+cast-end : tie.Need-cast-end Inv-loop μ-loop
+cast-end c =
+    omega (arith, c .before .before .before .before .before .before .before .pre .0 .fewSlots)
+
+add-end : tie.Need-add-end Inv-loop μ-loop
+add-end c =
+    omega (arith, c .before .before .before .before .before .before .before .pre .0 .fewSlots)
+
+row-of-requires : tie.Need-row-of-requires Inv-loop μ-loop
+row-of-requires c κs =
+    last-strip _ _ _ _ _ _ _ _ _ _ _ _ (c .before .before .before .before .before .before .before .pre .0) (c .before .loop .inv)
+
+add-row : tie.Need-add-row Inv-loop μ-loop
+add-row c =
+    let p = c .before .before .before .before .before .before .before .before .pre .0 in
+    omega (arith, c .row-of .ensures, row-inside _ _ _ _ _ _ _ (last-strip _ _ _ _ _ _ _ _ _ _ _ _ p (c .before .before .loop .inv)), p .within)
+
+join-row-requires : tie.Need-join-row-requires Inv-loop μ-loop
+join-row-requires c κs =
+    let p = c .before .before .before .before .before .before .before .before .before .pre .0 in let f = c .before .before .before .loop .inv in
+    (rw (f .long) (p .splits), omega (arith, c .before .row-of .ensures, row-inside _ _ _ _ _ _ _ (last-strip _ _ _ _ _ _ _ _ _ _ _ _ p f), p .within, f .long))
+
+same-length : tie.Need-same-length Inv-loop μ-loop
+same-length c =
+    let f = c .before .before .before .before .before .before .before .loop .inv in
+    c .before .before .before .join-row .kept .1 .1 .0 ∙ f .long ∙ sym (c .before .before .before .before .before .before .before .before .before .before .before .before .before .pre .1 .0)
+
+returns : tie.Need-returns Inv-loop μ-loop
+returns c =
+    let e = rw (c .before .before .before .before .before .row-of .ensures) at (c .before .before .before .join-row .ensures) in
+    ap (λ (l : List ℕ). getD l (c .before .before .before .before .before .before .before .before .before .before .before .before .before .args .v) 0) (e ∙ (folding-all _ _ _ _ _ _ _ _ _ _ _ _ (c .before .before .before .before .before .before .before .loop .inv) (c .before .before .before .before .before .before .loop-test .left)))
+
+mul-result : tie.Need-mul-result Inv-loop μ-loop
+mul-result c = search needs
+
+slice-read-result : tie.Need-slice-read-result Inv-loop μ-loop
+slice-read-result c = search needs
+
+pub fold-rows-spec : {M : Type 1} → statement M
+fold-rows-spec =
+    tie.close
+    (tie.spec
+    Inv-loop
+    μ-loop
+    loop-holds
+    mul-e
+    shared-slice-read-e
+    cast-b
+    add-b
+    fold-at-requires
+    choose-requires
+    choose-requires-2
+    add-i
+    loop-less
+    loop-again
+    cast-end
+    add-end
+    row-of-requires
+    add-row
+    join-row-requires
+    mul-result
+    slice-read-result
+    same-length
+    returns)

@@ -1,0 +1,58 @@
+-- REST, as code folds it: the strips of the open labels take their shares one after the other, by rising slot. The table's
+-- entries are words of the work area, and lists say which shares may be taken from each budget. Definitions.
+use mathlib.Core.Bool.{cond}
+use mathlib.Core.List.{List}
+use Prim.Native.Nat.{ℕ, zero, suc, _+_, _*_, _≤_, _<_}
+use lib.Dec.{eqb}
+use lib.ListN.{length, getD}
+use Rattle.search.specs.Share.{just}
+use Rattle.search.specs.Sums.{listing}
+use Rattle.optimum.specs.OneSided.{topWord}
+use Rattle.rows.specs.Budgets.{Within, shareBy}
+use Rattle.rows.specs.Rows as rows
+use Rattle.rows.specs.Rows.{rowsOf}
+
+-- where the entries of a strip begin in its level: m slots, C colours, R budgets
+abbrev pub rowOf : (m C R a ca b cb : ℕ) → ℕ
+rowOf m C R a ca b cb = rows.rowOf m C (record { a = a; ca = ca; b = b; cb = cb; d = 0 }) * R
+
+-- the words of a level
+abbrev pub levelSize : (m C R : ℕ) → ℕ
+levelSize m C R = rowsOf m C * R
+
+-- the numbers are a sheet's, and a strip's ends and colours are in range
+pub record StripIn (m C R a ca b cb : ℕ) : Type 0 where
+  pub fewSlots : m ≤ 48
+  pub fewColours : C ≤ 8
+  pub fewBudgets : R ≤ 64
+  pub aLow : a ≤ m + 1
+  pub caLow : ca ≤ C
+  pub bLow : b ≤ m + 1
+  pub cbLow : cb ≤ C
+
+-- a level stands in the work area from the word `base` on, what may be taken from each budget is listed, and the labels' colours are the sheet's
+pub record LevelIn (parts counts work : List ℕ) (base C R : ℕ) (labels : List ℕ) : Type 0 where
+  pub fewSlots : length labels ≤ 48
+  pub fewColours : C ≤ 8
+  pub splits : Within R parts counts
+  pub within : base + levelSize (length labels) C R ≤ length work
+  pub coloured : (i : ℕ) → getD labels i 0 < C + 1
+
+-- one strip more, whose row begins at the word `row`, takes its share of each budget
+abbrev pub shareRow : (parts counts acc work : List ℕ) → (row v : ℕ) → ℕ
+shareRow parts counts acc work row v = shareBy parts counts (λ w. getD acc w 0) (λ w. getD work (row + w) 0) v
+
+unfoldable pub joinRow : (parts counts acc work : List ℕ) → (row : ℕ) → List ℕ
+joinRow parts counts acc work row = listing (shareRow parts counts acc work row) 0 (length acc)
+
+module _ (parts counts work : List ℕ) (base m C R : ℕ) where
+  -- all strips of the open labels L, from slot i on; r slots are left, and a is the last label passed, of colour ca
+  unfoldable pub foldRows : (r i a ca : ℕ) → (labels acc : List ℕ) → List ℕ
+  foldRows zero i a ca L acc = joinRow parts counts acc work (base + rowOf m C R a ca (suc i) 0)
+  foldRows (suc r) i a ca L acc =
+      cond (eqb (getD L i 0) 0) (foldRows r (suc i) a ca L acc)
+      (foldRows r (suc i) (suc i) (getD L i 0) L (joinRow parts counts acc work (base + rowOf m C R a ca (suc i) (getD L i 0))))
+
+  -- REST at the budget v, of the level that begins at the word `base`
+  unfoldable pub restRows : (labels : List ℕ) → (v : ℕ) → ℕ
+  restRows L v = getD (foldRows m 0 0 0 L (listing (just topWord 0 0) 0 R)) v 0

@@ -1,0 +1,113 @@
+// Budgets: what may be taken from each, listed once so that no loop over budgets divides, and the least cost of sharing one.
+ghost use mathlib.Core.Path.{_≡_};
+ghost use mathlib.Core.Bool.{cond};
+ghost use Prim.Native.Nat.{ℕ, _+_, _-_, _*_, _<_, _≤_, min};
+ghost use lib.ListN.{length, getD};
+ghost use Rattle.search.specs.Radix.{below};
+ghost use Rattle.masks.specs.Masks.{Divides};
+ghost use Rattle.rows.specs.Budgets.{Listed, Others, Splits, Within, shareBy, leftBy};
+
+fn counted(n: u8, one_more: bool) -> u8
+    requires { ⌜ n < 64 ⌝ }
+    ensures { λ r. ⌜ r ≡ cond «one_more» (n + 1) n ⌝ }
+{
+    if one_more {
+        return n + 1;
+    }
+    n
+}
+
+// Lists what may be taken from v, from place 64 v on; returns how many there are.
+fn list_below(radices: &[u32], v: usize, parts: &mut [u8]) -> u8
+    requires { ⌜ Divides (now radices) ⌝ }
+    requires { ⌜ (v < 64) × (length (now parts) ≡ 4096) ⌝ }
+    ensures { λ r. ⌜ Listed (now (radices .entry)) v (v + 1) r (λ i. getD (now (parts .exit)) (v * 64 + i) 0) ⌝ }
+    ensures { λ r. ⌜ Others (now (parts .entry)) (now (parts .exit)) (v * 64) 64 ⌝ }
+{
+    let base = v * 64;
+    let mut mask = masks::mask_below(radices, v as u32);
+    let mut count: u8 = 0;
+    let mut w: u8 = 0;
+    while (w as usize) <= v {
+        parts[base + count as usize] = w;
+        count = counted(count, mask % 2 == 1);
+        mask = mask / 2;
+        w += 1;
+    }
+    count
+}
+
+// Lists, for each budget below P, what may be taken from it, and counts it.
+pub fn list_splits(radices: &[u32], budgets: usize, parts: &mut [u8], counts: &mut [u8])
+    requires { ⌜ Divides (now radices) ⌝ }
+    requires { ⌜ (budgets ≤ 64) × (length (now parts) ≡ 4096) × (length (now counts) ≡ 64) ⌝ }
+    ensures { λ _. ⌜ Splits (now (radices .entry)) budgets (now (parts .exit)) (now (counts .exit)) ⌝ }
+{
+    let mut v: usize = 0;
+    while v < budgets {
+        let n = list_below(radices, v, parts);
+        counts[v] = n;
+        v += 1;
+    }
+}
+
+fn lower(a: u64, b: u64) -> u64
+    ensures { λ r. ⌜ r ≡ min a b ⌝ }
+{
+    if b < a {
+        return b;
+    }
+    a
+}
+
+// The least cost of sharing u between the rows f and g, which start at two places of two areas.
+pub fn least_share(
+    parts: &[u8],
+    counts: &[u8],
+    budgets: usize,
+    f: &[u32],
+    from: usize,
+    g: &[u32],
+    at: usize,
+    u: usize,
+) -> u32
+    requires { ⌜ Within budgets (now parts) (now counts) ⌝ }
+    requires { ⌜ (u < budgets) × (from + budgets ≤ length (now f)) × (at + budgets ≤ length (now g)) ⌝ }
+    ensures { λ r. ⌜ r ≡ shareBy (now (parts .entry)) (now (counts .entry)) (λ w. getD (now (f .entry)) (from + w) 0) (λ w. getD (now (g .entry)) (at + w) 0) u ⌝ }
+{
+    let base = u * 64;
+    let end = at + u;
+    let n = counts[u] as usize;
+    let mut best: u64 = 4294967295;
+    let mut i: usize = 0;
+    while i < n {
+        let w = parts[base + i] as usize;
+        best = lower(best, (f[from + w] as u64) + (g[end - w] as u64));
+        i += 1;
+    }
+    best as u32
+}
+
+// What a draw leaves of the budget v; 255 if it may not be drawn.
+fn left_of(radices: &[u32], draw: u32, v: u8) -> u8
+    requires { ⌜ Divides (now radices) ⌝ }
+    ensures { λ r. ⌜ r ≡ leftBy (now (radices .entry)) draw v ⌝ }
+{
+    if masks::is_below(radices, draw, v as u32) {
+        return v - draw as u8;
+    }
+    255
+}
+
+// The same for each budget below P.
+pub fn list_left(radices: &[u32], draw: u32, budgets: usize, left: &mut [u8])
+    requires { ⌜ Divides (now radices) ⌝ }
+    requires { ⌜ (budgets ≤ 64) × (budgets ≤ length (now left)) ⌝ }
+    ensures { λ _. ⌜ ((v : ℕ) → v < budgets → getD (now (left .exit)) v 0 ≡ leftBy (now (radices .entry)) draw v) ⌝ }
+{
+    let mut v: usize = 0;
+    while v < budgets {
+        left[v] = left_of(radices, draw, v as u8);
+        v += 1;
+    }
+}
