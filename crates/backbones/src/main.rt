@@ -7,7 +7,7 @@ ghost use lib.ListN.{length};
 ghost use Rattle.sheet.specs.Sheet.{sheetIn};
 ghost use Rattle.lines.specs.Text.{written, pastOf};
 ghost use Rattle.lines.specs.Lines.{refusedLine, layoutText};
-ghost use Rattle.backbones.specs.Report.{programSheetText, programText, reportSize, reportArea};
+ghost use Rattle.lines.specs.Report.{programSheetText, programText, reportSize, reportArea};
 use input::is_unfit;
 use input::wide;
 use libc::STDIN_FILENO;

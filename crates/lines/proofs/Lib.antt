@@ -1,4 +1,5 @@
-pub mod Written
-pub mod Decimal
+mod Written
+mod Decimal
 mod Lines
-pub mod Words
+mod Words
+pub mod Report

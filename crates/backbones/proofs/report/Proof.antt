@@ -1,5 +1,5 @@
-use Rattle.backbones.specs.Report.{longest}
-use Rattle.backbones.proofs.Program.{reported}
+use Rattle.lines.specs.Report.{longest}
+use Rattle.lines.proofs.Report.{reported}
 use mathlib.Core.Path.{refl, _∙_}
 use lib.ListN.{length}
 use borrow.Author.Tests.{lt-ltb}

@@ -15,12 +15,12 @@ use Rattle.labelling.specs.Layout.{best, statedCount, statedLength}
 use Rattle.labelling.specs.Entry.{isNone, makeFault, makeAnswer}
 use Rattle.labelling.proofs.Maker.{fault-seven}
 use Rattle.input.specs.Input.{isUnfit}
 use Rattle.lines.specs.Text.{decimal, written, pastOf}
 use Rattle.lines.proofs.Decimal.{decimal-length}
 use Rattle.lines.proofs.Written.{written-front}
 use Rattle.lines.specs.Lines.{wordsIn, refusedLine, slotAt, siteLines, layoutText}
-use Rattle.backbones.specs.Report.{sheetText, programSheetText, programText, longest, reportSize, reportArea}
+use Rattle.lines.specs.Report.{sheetText, programSheetText, programText, longest, reportSize, reportArea}
 use Rattle.lines.proofs.Words.{words-fit}
 
 -- a refusal, or a layout
 pub text-refused : (f : ℕ) (t : List ℕ) → (f ≡ 0 → ⊥) → refusedLine f ≡ cond (eqb f 0) t (refusedLine f)
