@@ -67,13 +67,13 @@ fn report(input: &[u8], text: &mut [u8]) -> usize
     put_program(text, input)
 }
 
-// One byte more than the longest input that is served.
+// Reads an input, one byte more than the longest that is served, and writes the text for it.
 fn main() {
     let mut input = [0u8; 1025];
-    let mut text = [0u8; 1636];
+    let mut text = [0u8; LONGEST];
     let got = io::read_full(STDIN_FILENO, &mut input);
     let size = report(&input[..got], &mut text);
-    if size <= 1636 {
+    if size <= LONGEST {
         io::write_all(STDOUT_FILENO, &text[..size]);
     }
 }

@@ -25,7 +25,7 @@ use Rattle.arrays.specs.Arrays.{measuresOf, boundsOf, drawsList, xsOf, ysOf, co
 use Rattle.arrays.proofs.Instances.{ys-at, colours-at}
 use Rattle.arrays.proofs.Fields.{bounds-long}
 use Rattle.arrays.proofs.Ordered.{gathered-long, radix-pos}
-use Rattle.rows.proofs.Rows.{size}
+use Rattle.rows.proofs.Folding.{size}
 use Rattle.rows.specs.Rows.{levelSize}
 use Rattle.table.specs.Rows.{Given}
 use Rattle.rows.specs.Budgets.{Splits}

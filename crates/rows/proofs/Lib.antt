@@ -2,4 +2,4 @@ mod Holding
 pub mod Places
 pub mod Sharing
 mod Lists
-pub mod Rows
+pub mod Folding

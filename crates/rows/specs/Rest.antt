@@ -13,8 +13,8 @@ use Rattle.rows.specs.Rows as rows
 use Rattle.rows.specs.Rows.{rowsOf}
 
 -- where the entries of a strip begin in its level: m slots, C colours, R budgets
-abbrev pub rowOf : (m C R a ca b cb : ℕ) → ℕ
-rowOf m C R a ca b cb = rows.rowOf m C (record { a = a; ca = ca; b = b; cb = cb; d = 0 }) * R
+abbrev pub rowStart : (m C R a ca b cb : ℕ) → ℕ
+rowStart m C R a ca b cb = rows.rowOf m C (record { a = a; ca = ca; b = b; cb = cb; d = 0 }) * R
 
 -- the words of a level
 abbrev pub levelSize : (m C R : ℕ) → ℕ
@@ -48,10 +48,10 @@ joinRow parts counts acc work row = listing (shareRow parts counts acc work row)
 module _ (parts counts work : List ℕ) (base m C R : ℕ) where
   -- all strips of the open labels L, from slot i on; r slots are left, and a is the last label passed, of colour ca
   unfoldable pub foldRows : (r i a ca : ℕ) → (labels acc : List ℕ) → List ℕ
-  foldRows zero i a ca L acc = joinRow parts counts acc work (base + rowOf m C R a ca (suc i) 0)
+  foldRows zero i a ca L acc = joinRow parts counts acc work (base + rowStart m C R a ca (suc i) 0)
   foldRows (suc r) i a ca L acc =
       cond (eqb (getD L i 0) 0) (foldRows r (suc i) a ca L acc)
-      (foldRows r (suc i) (suc i) (getD L i 0) L (joinRow parts counts acc work (base + rowOf m C R a ca (suc i) (getD L i 0))))
+      (foldRows r (suc i) (suc i) (getD L i 0) L (joinRow parts counts acc work (base + rowStart m C R a ca (suc i) (getD L i 0))))
 
   -- REST at the budget v, of the level that begins at the word `base`
   unfoldable pub restRows : (labels : List ℕ) → (v : ℕ) → ℕ

@@ -5,7 +5,7 @@ ghost use Prim.Native.Nat.{_+_, _*_, _<_, _≤_};
 ghost use lib.Dec.{eqb};
 ghost use lib.ListN.{length, getD};
 ghost use Rattle.rows.specs.Budgets.{Within};
-ghost use Rattle.rows.specs.Rest.{rowOf, levelSize, StripIn, LevelIn, joinRow, foldRows, restRows};
+ghost use Rattle.rows.specs.Rest.{rowStart, levelSize, StripIn, LevelIn, joinRow, foldRows, restRows};
 use crate::Strip;
 use crate::budgets::least_share;
 use crate::row_place;
@@ -34,9 +34,9 @@ fn join_row(parts: &[u8], counts: &[u8], acc: &mut [u32], work: &[u32], row: usi
 }
 
 // Where the entries of a strip begin in its level, of m slots.
-fn row_of(q: Measures, m: usize, a: u32, ca: u32, b: u32, cb: u32) -> usize
+fn row_start(q: Measures, m: usize, a: u32, ca: u32, b: u32, cb: u32) -> usize
     requires { ⌜ StripIn m (q .colours) (q .budgets) a ca b cb ⌝ }
-    ensures { λ r. ⌜ r ≡ rowOf m (q .colours) (q .budgets) a ca b cb ⌝ }
+    ensures { λ r. ⌜ r ≡ rowStart m (q .colours) (q .budgets) a ca b cb ⌝ }
 {
     let strip = Strip {
         a: a,
@@ -63,12 +63,12 @@ fn fold_at(
 )
     requires { ⌜ StripIn m (q .colours) (q .budgets) a ca b cb ⌝ }
     requires { ⌜ (length (now acc) ≡ q .budgets) × Within (q .budgets) (now parts) (now counts) × (base + levelSize m (q .colours) (q .budgets) ≤ length (now work)) ⌝ }
-    ensures { λ _. ⌜ now (acc .exit) ≡ cond (eqb cb 0) (now (acc .entry)) (joinRow (now (parts .entry)) (now (counts .entry)) (now (acc .entry)) (now (work .entry)) (base + rowOf m (q .colours) (q .budgets) a ca b cb)) ⌝ }
+    ensures { λ _. ⌜ now (acc .exit) ≡ cond (eqb cb 0) (now (acc .entry)) (joinRow (now (parts .entry)) (now (counts .entry)) (now (acc .entry)) (now (work .entry)) (base + rowStart m (q .colours) (q .budgets) a ca b cb)) ⌝ }
 {
     if cb == 0 {
         return;
     }
-    let row = base + row_of(q, m, a, ca, b, cb);
+    let row = base + row_start(q, m, a, ca, b, cb);
     join_row(parts, counts, acc, work, row);
 }
 
@@ -101,7 +101,7 @@ fn fold_rows(
         i += 1;
     }
     let end = m as u32 + 1;
-    let row = base + row_of(q, m, a, ca, end, 0);
+    let row = base + row_start(q, m, a, ca, end, 0);
     join_row(parts, counts, acc, work, row);
     let at = v as usize;
     acc[at]

@@ -23,7 +23,7 @@ use Rattle.rows.specs.Rest.{LevelIn, levelSize, restRows}
 use Rattle.choice.specs.Choice.{labelled, keepsCost}
 use Rattle.strips.specs.Steps.{priceIn, budgetLeft}
 use Rattle.walk.specs.Walk.{Found, valueIn, WalkArrays, Standing, tiedFrom}
-use Rattle.rows.proofs.Rows.{size}
+use Rattle.rows.proofs.Folding.{size}
 use Rattle.walk.proofs.Value.{first-under, next-is}
 
 -- ---- the sites by their numbers

@@ -30,9 +30,9 @@ use Rattle.optimum.proofs.Reached.{reached-next, reached-rows}
 use Rattle.optimum.proofs.Pairs.{zeros}
 use Rattle.rows.specs.Budgets.{Splits}
 use Rattle.rows.proofs.Sharing.{share-by}
-use Rattle.rows.specs.Rest.{rowOf, levelSize, shareRow, joinRow, foldRows, restRows}
+use Rattle.rows.specs.Rest.{rowStart, levelSize, shareRow, joinRow, foldRows, restRows}
 use Rattle.walk.specs.Walk.{Found, valueIn}
-use Rattle.rows.proofs.Rows.{join-long}
+use Rattle.rows.proofs.Folding.{join-long}
 
 pub first-under : (n : ℕ) (t u : ℕ → Bool) → ((k : ℕ) → k < n → t k ≡ u k) → first n t ≡ first n u
 unfolding first
@@ -64,22 +64,22 @@ module _ (q : Measures) (hs bs rs ds : List ℕ) where
     pub level-cells : cells P C R ≡ levelSize (length hs) C R
     level-cells = ap (λ (z : ℕ). z * R) (omega arith)
 
-    cell-row : (a ca b cb u : ℕ) → cellOf P C R (record { a = a; ca = ca; b = b; cb = cb; d = getD unmarked a 0 }) u ≡ rowOf (length hs) C R a ca b cb + u
+    cell-row : (a ca b cb u : ℕ) → cellOf P C R (record { a = a; ca = ca; b = b; cb = cb; d = getD unmarked a 0 }) u ≡ rowStart (length hs) C R a ca b cb + u
     unfolding cellOf
     cell-row a ca b cb u =
         ap (λ (z : ℕ). z * R + u) (ap (λ (z : ℕ). (((a * (C + 1) + ca) * (length hs + 2) + b) * (C + 1) + cb) * 1 + z) (zeros (suc (length hs)) a) ∙ omega arith)
 
     module _ (right : Splits rs R parts counts) where
       join-same : (base : ℕ) (acc : List ℕ) (a ca b cb : ℕ) → length acc ≡ R
-          → joinRow parts counts acc work (base + rowOf (length hs) C R a ca b cb) ≡ joinCells P C R (drop base work) acc (record { a = a; ca = ca; b = b; cb = cb; d = getD unmarked a 0 })
+          → joinRow parts counts acc work (base + rowStart (length hs) C R a ca b cb) ≡ joinCells P C R (drop base work) acc (record { a = a; ca = ca; b = b; cb = cb; d = getD unmarked a 0 })
       unfolding joinRow joinCells conv
       join-same base acc a ca b cb h =
-          ap (listing (shareRow parts counts acc work (base + rowOf (length hs) C R a ca b cb)) 0) h
+          ap (listing (shareRow parts counts acc work (base + rowStart (length hs) C R a ca b cb)) 0) h
           ∙ listing-same _ _ 0 R (λ v z l.
-          share-by rs R parts counts right (λ w. getD acc w 0) (λ w. getD work (base + rowOf (length hs) C R a ca b cb + w) 0) v (omega arith)
+          share-by rs R parts counts right (λ w. getD acc w 0) (λ w. getD work (base + rowStart (length hs) C R a ca b cb + w) 0) v (omega arith)
           ∙ least-cong topWord (suc v) _ _ (λ w k. ap (λ (z : ℕ). cond (below rs w v) (plus topWord (getD acc w 0) z) topWord) (word v w)))
         where
-          word : (v w : ℕ) → getD work (base + rowOf (length hs) C R a ca b cb + (v - w)) 0
+          word : (v w : ℕ) → getD work (base + rowStart (length hs) C R a ca b cb + (v - w)) 0
               ≡ getD (drop base work) (cellOf P C R (record { a = a; ca = ca; b = b; cb = cb; d = getD unmarked a 0 }) (v - w)) 0
           word v w =
               ap (λ (z : ℕ). getD work z 0) (omega (arith, cell-row a ca b cb (v - w)))

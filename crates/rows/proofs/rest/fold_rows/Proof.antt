@@ -1,5 +1,5 @@
-use Rattle.rows.proofs.Rows.{last-strip}
-use Rattle.rows.proofs.Rows.{row-inside, Folding, folding-none, folding-more, folding-all}
+use Rattle.rows.proofs.Folding.{last-strip}
+use Rattle.rows.proofs.Folding.{row-inside, Folding, folding-none, folding-more, folding-all}
 use mathlib.Core.Path.{ap, sym, _∙_}
 use mathlib.Core.List.{List}
 use Prim.Native.Nat.{ℕ, _-_}
@@ -12,7 +12,7 @@ use Rattle.rows.proofs.rest.fold_rows.Reads as reads
 use Rattle.rows.proofs.rest.fold_rows.Lts as lts
 use Rattle.rows.proofs.rest.fold_at.Reads as fold-at-reads
 use Rattle.rows.proofs.rest.join_row.Reads as join-row-reads
-use Rattle.rows.proofs.rest.row_of.Reads as row-of-reads
+use Rattle.rows.proofs.rest.row_start.Reads as row-start-reads
 use Rattle.words.proofs.choose.Reads as choose-reads
 
 abbrev Inv-loop : tie.InvT-loop
@@ -81,19 +81,19 @@ add-end : tie.Need-add-end Inv-loop μ-loop
 add-end c =
     omega (arith, c .before .before .before .before .before .before .before .pre .0 .fewSlots)
 
-row-of-requires : tie.Need-row-of-requires Inv-loop μ-loop
-row-of-requires c κs =
+row-start-requires : tie.Need-row-start-requires Inv-loop μ-loop
+row-start-requires c κs =
     last-strip _ _ _ _ _ _ _ _ _ _ _ _ (c .before .before .before .before .before .before .before .pre .0) (c .before .loop .inv)
 
 add-row : tie.Need-add-row Inv-loop μ-loop
 add-row c =
     let p = c .before .before .before .before .before .before .before .before .pre .0 in
-    omega (arith, c .row-of .ensures, row-inside _ _ _ _ _ _ _ (last-strip _ _ _ _ _ _ _ _ _ _ _ _ p (c .before .before .loop .inv)), p .within)
+    omega (arith, c .row-start .ensures, row-inside _ _ _ _ _ _ _ (last-strip _ _ _ _ _ _ _ _ _ _ _ _ p (c .before .before .loop .inv)), p .within)
 
 join-row-requires : tie.Need-join-row-requires Inv-loop μ-loop
 join-row-requires c κs =
     let p = c .before .before .before .before .before .before .before .before .before .pre .0 in let f = c .before .before .before .loop .inv in
-    (rw (f .long) (p .splits), omega (arith, c .before .row-of .ensures, row-inside _ _ _ _ _ _ _ (last-strip _ _ _ _ _ _ _ _ _ _ _ _ p f), p .within, f .long))
+    (rw (f .long) (p .splits), omega (arith, c .before .row-start .ensures, row-inside _ _ _ _ _ _ _ (last-strip _ _ _ _ _ _ _ _ _ _ _ _ p f), p .within, f .long))
 
 same-length : tie.Need-same-length Inv-loop μ-loop
 same-length c =
@@ -102,7 +102,7 @@ same-length c =
 
 returns : tie.Need-returns Inv-loop μ-loop
 returns c =
-    let e = rw (c .before .before .before .before .before .row-of .ensures) at (c .before .before .before .join-row .ensures) in
+    let e = rw (c .before .before .before .before .before .row-start .ensures) at (c .before .before .before .join-row .ensures) in
     ap (λ (l : List ℕ). getD l (c .before .before .before .before .before .before .before .before .before .before .before .before .before .args .v) 0) (e ∙ (folding-all _ _ _ _ _ _ _ _ _ _ _ _ (c .before .before .before .before .before .before .before .loop .inv) (c .before .before .before .before .before .before .loop-test .left)))
 
 mul-result : tie.Need-mul-result Inv-loop μ-loop
@@ -130,7 +130,7 @@ fold-rows-spec =
     loop-again
     cast-end
     add-end
-    row-of-requires
+    row-start-requires
     add-row
     join-row-requires
     mul-result

@@ -1,4 +1,4 @@
-use Rattle.rows.proofs.Rows.{Joined, joined-none, joined-more, joined-all}
+use Rattle.rows.proofs.Folding.{Joined, joined-none, joined-more, joined-all}
 use mathlib.Core.Path.{_≡_}
 use Prim.Native.Nat.{_-_}
 use native.Mathlib.Omega.{arith}

@@ -1,7 +1,7 @@
 use mathlib.Core.Path.{refl}
 use native.Mathlib.Omega.{arith}
 use borrow.Author.Needs.{needs}
-use Rattle.rows.proofs.Rows.{size}
+use Rattle.rows.proofs.Folding.{size}
 use Rattle.rows.proofs.rest.level_size.Statement.{statement}
 use Rattle.rows.proofs.rest.level_size.Tie as tie
 

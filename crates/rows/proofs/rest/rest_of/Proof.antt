@@ -1,5 +1,5 @@
 use Rattle.rows.specs.Rest.{restRows, foldRows}
-use Rattle.rows.proofs.Rows.{start-is, start-long}
+use Rattle.rows.proofs.Folding.{start-is, start-long}
 use mathlib.Core.Path.{ap, sym, _∙_}
 use mathlib.Core.List.{List}
 use Prim.Native.Nat.{ℕ, _-_}

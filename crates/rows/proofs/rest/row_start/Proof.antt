@@ -1,6 +1,6 @@
-use Rattle.rows.proofs.Rows.{lies}
-use Rattle.rows.proofs.rest.row_of.Statement.{statement}
-use Rattle.rows.proofs.rest.row_of.Tie as tie
+use Rattle.rows.proofs.Folding.{lies}
+use Rattle.rows.proofs.rest.row_start.Statement.{statement}
+use Rattle.rows.proofs.rest.row_start.Tie as tie
 
 row-place-requires : tie.Need-row-place-requires
 row-place-requires c κs =
@@ -10,6 +10,6 @@ row-place-requires c κs =
 returns : tie.Need-returns
 returns c = c .row-place .ensures
 
-pub row-of-spec : {M : Type 1} → statement M
-row-of-spec =
+pub row-start-spec : {M : Type 1} → statement M
+row-start-spec =
     tie.close (tie.spec row-place-requires returns)

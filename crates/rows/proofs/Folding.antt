@@ -20,7 +20,7 @@ use native.Mathlib.Nat.{mul-le-mul}
 use Rattle.rows.specs.Rows.{Lies}
 use Rattle.rows.proofs.Places.{row-fits, rows-few}
 use Rattle.rows.specs.Budgets.{Within, partAt, shareBy}
-use Rattle.rows.specs.Rest.{shareRow, rowOf, levelSize, StripIn, LevelIn, joinRow, foldRows}
+use Rattle.rows.specs.Rest.{shareRow, rowStart, levelSize, StripIn, LevelIn, joinRow, foldRows}
 
 -- ---- a row joined from the highest budget down
 
@@ -69,7 +69,7 @@ pub lies : (m C R a ca b cb : ℕ) → StripIn m C R a ca b cb → Lies m C (rec
 lies m C R a ca b cb i =
     record { aLow = omega (arith, i .aLow); caLow = omega (arith, i .caLow); bLow = omega (arith, i .bLow); cbLow = omega (arith, i .cbLow); dLow = refl }
 
-pub row-inside : (m C R a ca b cb : ℕ) → StripIn m C R a ca b cb → rowOf m C R a ca b cb + R ≤ levelSize m C R
+pub row-inside : (m C R a ca b cb : ℕ) → StripIn m C R a ca b cb → rowStart m C R a ca b cb + R ≤ levelSize m C R
 row-inside m C R a ca b cb i = row-fits m C R _ (lies m C R a ca b cb i)
 
 -- a level has few words
@@ -92,7 +92,7 @@ folding-none parts counts work base C R L start h =
 
 pub folding-more : (parts counts work : List ℕ) (base C R : ℕ) (L start acc : List ℕ) (a ca i : ℕ) (next : List ℕ) (a′ ca′ : ℕ)
     → Folding parts counts work base C R L start acc a ca i → i < length L → getD L i 0 ≤ C
-    → next ≡ cond (eqb (getD L i 0) 0) acc (joinRow parts counts acc work (base + rowOf (length L) C R a ca (i + 1) (getD L i 0)))
+    → next ≡ cond (eqb (getD L i 0) 0) acc (joinRow parts counts acc work (base + rowStart (length L) C R a ca (i + 1) (getD L i 0)))
     → a′ ≡ cond (eqb (getD L i 0) 0) a (i + 1) → ca′ ≡ cond (eqb (getD L i 0) 0) ca (getD L i 0)
     → Folding parts counts work base C R L start next a′ ca′ (i + 1)
 folding-more parts counts work base C R L start acc a ca i next a′ ca′ f l c en ea ec = rw (en, ea, ec) (go (eqb (getD L i 0) 0) refl)
@@ -100,14 +100,14 @@ folding-more parts counts work base C R L start acc a ca i next a′ ca′ f l c
     step : foldRows parts counts work base (length L) C R (length L - i) i a ca L acc ≡ foldRows parts counts work base (length L) C R (suc (length L - (i + 1))) i a ca L acc
     step = ap (λ (r : ℕ). foldRows parts counts work base (length L) C R r i a ca L acc) (omega arith)
 
-    go : (b : Bool) → eqb (getD L i 0) 0 ≡ b → Folding parts counts work base C R L start (cond b acc (joinRow parts counts acc work (base + rowOf (length L) C R a ca (i + 1) (getD L i 0)))) (cond b a (i + 1)) (cond b ca (getD L i 0)) (i + 1)
+    go : (b : Bool) → eqb (getD L i 0) 0 ≡ b → Folding parts counts work base C R L start (cond b acc (joinRow parts counts acc work (base + rowStart (length L) C R a ca (i + 1) (getD L i 0)))) (cond b a (i + 1)) (cond b ca (getD L i 0)) (i + 1)
     go true e =
         record { long = f .long; passed = omega arith; above = omega (arith, f .above); colour = f .colour; same = f .same ∙ step ∙ (unfold foldRows in rw (e, add-one i)) }
     go false e =
         record { long = join-long parts counts acc work _ ∙ f .long; passed = omega arith; above = omega arith; colour = c; same = f .same ∙ step ∙ (unfold foldRows in rw (e, add-one i)) }
 
 pub folding-all : (parts counts work : List ℕ) (base C R : ℕ) (L start acc : List ℕ) (a ca i : ℕ) → Folding parts counts work base C R L start acc a ca i → length L ≤ i
-    → joinRow parts counts acc work (base + rowOf (length L) C R a ca (length L + 1) 0) ≡ foldRows parts counts work base (length L) C R (length L) 0 0 0 L start
+    → joinRow parts counts acc work (base + rowStart (length L) C R a ca (length L + 1) 0) ≡ foldRows parts counts work base (length L) C R (length L) 0 0 0 L start
 unfolding foldRows
 folding-all parts counts work base C R L start acc a ca i f h =
     let e : i ≡ length L = omega (arith, f .passed) in
