@@ -11,11 +11,19 @@ ghost use Rattle.lines.specs.Lines.{wordsIn, refusedLine, layoutLine, si
 use crate::text::put_byte;
 use crate::text::put_bytes;
 use crate::text::put_decimal;
-use input::word_at;
+use input::word_of;
 use words::byte_field;
 use words::get;
 use words::kind_of;
 use words::monus;
+
+// The word of the four bytes from a place on.
+fn word_at(bytes: &[u8], i: usize) -> u32
+    requires { ⌜ i + 4 ≤ length (now bytes) ⌝ }
+    ensures { λ r. ⌜ r ≡ getD (now (bytes .entry)) i 0 + 256 * getD (now (bytes .entry)) (i + 1) 0 + 65536 * getD (now (bytes .entry)) (i + 2) 0 + 16777216 * getD (now (bytes .entry)) (i + 3) 0 ⌝ }
+{
+    word_of(bytes[i], bytes[i + 1], bytes[i + 2], bytes[i + 3])
+}
 
 fn put_word(words: &mut [u32], at: usize, word: u32) -> usize
     ensures { λ r. ⌜ r ≡ pastOf (now (words .entry)) at (word ∷ []) ⌝ }
