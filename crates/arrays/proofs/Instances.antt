@@ -7,19 +7,13 @@ use native.Mathlib.Omega.{arith}
 use lib.Dec.{eqb}
 use lib.ListN.{length, getD}
 use Rattle.lists.proofs.Tests.{by-order}
-use Rattle.sheet.specs.Sheet.{Site, Colour, Sheet}
+use Rattle.sheet.specs.Sheet.{Colour, Sheet}
 use Rattle.search.proofs.Sums.{listing-first, listing-past}
 use Rattle.labelling.specs.Layout.{noColour, siteShare}
-use Rattle.labelling.proofs.Members.{noSite}
 use Rattle.optimum.specs.Slots.{farEnough, sheetSlots}
 use Rattle.optimum.specs.OneSided.{leadOf, mayOpen, tipClear, turnOf, heldOf, radicesOf, drawsOf, wordOf, topWord, instanceOf, pointsAt}
+use Rattle.decoding.proofs.Places.{bounds-at, xs-at, ys-at, colours-at}
 use Rattle.arrays.specs.Arrays.{measuresOf, boundsOf, drawsList, xsOf, ysOf, coloursOf, gathered, instanceBy, pointsBy}
-
-pub bounds-at : (ks : List Colour) (c : ℕ) → getD (boundsOf ks) c 255 ≡ (getD ks c noColour) .bound
-unfolding boundsOf
-bounds-at [] c = refl
-bounds-at (k ∷ ks) zero = refl
-bounds-at (k ∷ ks) (suc c) = bounds-at ks c
 
 past : (ks : List Colour) (c : ℕ) → length ks ≤ c → (getD ks c noColour) .bound ≡ 255
 past [] c h = refl
@@ -50,24 +44,6 @@ instance-by s = λ i. record {
 }
 
 -- THE SITES BY RISING RANK, from one array of each number
-pub xs-at : (ss : List Site) (i : ℕ) → getD (xsOf ss) i 0 ≡ (getD ss i noSite) .x
-unfolding xsOf
-xs-at [] i = refl
-xs-at (s ∷ ss) zero = refl
-xs-at (s ∷ ss) (suc i) = xs-at ss i
-
-pub ys-at : (ss : List Site) (i : ℕ) → getD (ysOf ss) i 0 ≡ (getD ss i noSite) .y
-unfolding ysOf
-ys-at [] i = refl
-ys-at (s ∷ ss) zero = refl
-ys-at (s ∷ ss) (suc i) = ys-at ss i
-
-pub colours-at : (ss : List Site) (i : ℕ) → getD (coloursOf ss) i 0 ≡ (getD ss i noSite) .colour
-unfolding coloursOf
-colours-at [] i = refl
-colours-at (s ∷ ss) zero = refl
-colours-at (s ∷ ss) (suc i) = colours-at ss i
-
 pub points-by : (s : Sheet) (is : List ℕ) → pointsBy (gathered (xsOf (s .sites)) is) (gathered (ysOf (s .sites)) is) (gathered (coloursOf (s .sites)) is) ≡ pointsAt s is
 unfolding pointsBy gathered pointsAt
 points-by s [] = refl

@@ -1,5 +1,3 @@
 pub mod Instances
-pub mod Fields
 pub mod Ordered
-pub mod Whole
 pub mod Standing

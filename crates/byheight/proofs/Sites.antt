@@ -13,7 +13,7 @@ use Rattle.optimum.specs.Slots.{farFrom}
 use Rattle.optimum.specs.UsedSlots.{may, draw, strip, price, next, final, labels, State, below, T, value}
 use Rattle.arrays.specs.declared.Measures.{Measures}
 use Rattle.arrays.specs.Arrays.{padded, gathered}
-use Rattle.arrays.proofs.Whole.{whole, front}
+use Rattle.decoding.proofs.Whole.{whole, front}
 use Rattle.arrays.proofs.Ordered.{gathered-long}
 use Rattle.tiefits.specs.declared.Label.{Label}
 use Rattle.stripcosts.specs.Costs.{upperAt, lowerAt, siteOf, stripOf}

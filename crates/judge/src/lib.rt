@@ -1,10 +1,20 @@
 // The judge: a refusal, or the least broken rule of a stored sheet.
 ghost use mathlib.Core.Path.{_≡_};
+ghost use mathlib.Core.Bool.{true};
+ghost use Rattle.sheet.specs.Sheet.{sheetIn, sheetFault};
+ghost use Rattle.labelling.specs.Layout.{isLayout, brokenBy};
 ghost use Rattle.judge.specs.Judge.{judgePost, partsPost};
+use counts::count_kind;
+use decoding::bounds_of;
+use decoding::colours_of;
+use decoding::head_of;
+use decoding::heights_of;
+use decoding::xs_of;
+use decoding::ys_of;
 use faults::sheet_fault;
+use refusals::body_of;
 use refusals::layouts::is_layout;
 use refusals::layouts::layout_start;
-use rules::head_of;
 use rules::rulings::broken_by;
 
 // refusal: 1 to 7 or 11, 0 for none. rule: the least broken one, 0 for none and beside a refusal.
@@ -12,6 +22,31 @@ use rules::rulings::broken_by;
 pub struct Verdict {
     pub refusal: u8,
     pub rule: u8,
+}
+
+// The least broken rule of a layout of an accepted sheet, or 0: the sheet is decoded once and judged on its arrays and the ties' words.
+fn rule_of(sheet: &[u32], layout: &[u32]) -> u8
+    requires { ⌜ sheetFault (now sheet) ≡ 0 ⌝ }
+    requires { ⌜ isLayout (sheetIn (now sheet)) (now layout) ≡ true ⌝ }
+    ensures { λ r. ⌜ r ≡ brokenBy (sheetIn (now (sheet .entry))) (now (layout .entry)) ⌝ }
+{
+    let heights = heights_of(sheet);
+    let bounds = bounds_of(sheet);
+    let xs = xs_of(sheet);
+    let ys = ys_of(sheet);
+    let colours = colours_of(sheet);
+    let kinds = count_kind(body_of(sheet), 3);
+    let stated = layout[0];
+    broken_by(
+        head_of(sheet),
+        stated,
+        &heights,
+        &bounds[..kinds],
+        &xs,
+        &ys,
+        &colours,
+        &layout[1..],
+    )
 }
 
 // The verdict on a sheet and the words from the first of kind 8 on.
@@ -32,7 +67,7 @@ fn judge_parts(sheet: &[u32], layout: &[u32]) -> Verdict
             rule: 0,
         };
     }
-    let rule = broken_by(head_of(sheet), sheet, layout);
+    let rule = rule_of(sheet, layout);
     Verdict {
         refusal: 0,
         rule: rule,

@@ -22,8 +22,8 @@ use Rattle.optimality.proofs.OneSidedAnswer.{work-cells}
 use Rattle.arrays.specs.declared.Measures.{Measures}
 use Rattle.search.proofs.Sums.{length-listing}
 use Rattle.arrays.specs.Arrays.{measuresOf, boundsOf, drawsList, xsOf, ysOf, coloursOf, gathered, instanceBy, pointsBy}
-use Rattle.arrays.proofs.Instances.{ys-at, colours-at}
-use Rattle.arrays.proofs.Fields.{bounds-long}
+use Rattle.decoding.proofs.Places.{ys-at, colours-at}
+use Rattle.decoding.proofs.Fields.{bounds-long}
 use Rattle.arrays.proofs.Ordered.{gathered-long, radix-pos}
 use Rattle.rows.proofs.Folding.{size}
 use Rattle.rows.specs.Rows.{levelSize}

@@ -12,9 +12,10 @@ use Rattle.sheet.proofs.Accepted.{sound}
 use Rattle.optimum.specs.OneSided.{order}
 use Rattle.optimum.specs.Budgets.{radicesOf}
 use Rattle.optimality.proofs.Order.{ordered}
-use Rattle.arrays.specs.Arrays.{padded, boundsOf, drawsList, xsOf, ysOf, coloursOf, gathered, orderBy, radicesBy, drawsBy, productBy, collected}
-use Rattle.arrays.proofs.Whole.{front}
-use Rattle.arrays.proofs.Fields.{bounds-long, xs-long, ys-long, colours-long, bounds-are}
+use Rattle.arrays.specs.Arrays.{padded, boundsOf, drawsList, xsOf, ysOf, coloursOf, gathered, orderBy, radicesBy, drawsBy, productBy}
+use Rattle.decoding.specs.Decoding.{collected}
+use Rattle.decoding.proofs.Whole.{front}
+use Rattle.decoding.proofs.Fields.{bounds-long, xs-long, ys-long, colours-long, bounds-are}
 use Rattle.arrays.proofs.Ordered.{order-is, gathered-long, radices-are, radices-long, draws-are, draws-long, product-are}
 
 -- an array's front part, where its length is known

@@ -1,141 +1,164 @@
--- What the loops find of an accepted sheet and its layout is what the rules ask: document 01's rules 1 to 6, one by one.
--- Assumes nothing.
-use mathlib.Core.Path.{_≡_, refl, sym, ap, ap₂, _∙_}
-use mathlib.Core.Bool.{Bool, true, false, _&&_, _||_, not, cond}
+-- What the loops find is what the rules ask: document 01's rules 1 to 6, one by one. Assumes nothing but that the arrays hold the
+-- sheet's numbers and that the ties are one for each site, to slots of the sheet.
+use mathlib.Core.Path.{_≡_, refl, sym, ap, ap₂, _∙_, fun-ext}
+use mathlib.Core.Bool.{Bool, true, false, _&&_, not, cond}
 use mathlib.Core.List.{List, [], _∷_}
-use Prim.Native.Nat.{ℕ, zero, suc, _+_, _-_, _<_}
+use Prim.Native.Nat.{ℕ, zero, suc, _+_, _-_, min}
 use native.Mathlib.Omega.{arith}
-use lib.Dec.{eqb, ltb}
-use lib.ListN.{length, getD, drop}
-use borrow.Author.Tests.{eq-eqb, eqb-true, ltb-true, lt-ltb}
-use Rattle.lists.proofs.Tests.{by-test, and-l, and-r, and-i, is-false, same-test, clash, not-f}
-use Rattle.sheet.specs.Sheet.{all, Sheet, coloursIn, sheetIn, sheetFault}
-use Rattle.sheet.proofs.Accepted.{sound}
-use Rattle.labelling.specs.Layout.{siteAt, Tied, tied, tiesIn, heightOf, usedOf, leastX, leftEnd, colourKept, coloursKept, slotsOf, boundsKept, gapKept, gapsKept, missesAll, clearsAll, countOf, siteShare, lengthOf, isLayout}
+use lib.Dec.{eqb}
+use lib.ListN.{length, getD}
+use Rattle.lists.proofs.Tests.{by-test}
+use Rattle.sheet.specs.Sheet.{all, insideBy, Site, Sheet, Colour}
+use Rattle.labelling.specs.Layout.{noSite, siteAt, Tied, tieAt, tiedOf, tied, heightOf, usedOf, leastX, leftEnd, colourKept, coloursKept, slotsOf, boundsKept, gapKept, gapsKept, missesAll, clearsAll, countOf, siteShare, lengthOf, statedCount, statedLength, brokenBy, layoutTies}
 use Rattle.labelling.specs.Pairs.{missesPair, clearsPair}
-use Rattle.labelling.specs.Counted.{allBefore, sumBefore, isTaken, isFirst, anySite, ofColour}
-use Rattle.labelling.proofs.Counted.{all-before, before-all, taken-at, at-taken, count-counted, colour-counted, backbones-counted, drops-counted}
+use Rattle.labelling.specs.Counted.{allBefore, sumBefore, isFirst, anySite}
+use Rattle.labelling.proofs.Counted.{tied-is, count-counted, colour-counted, backbones-counted, drops-counted}
 use Rattle.labelling.proofs.Pairs.{rule-four-pairs, rule-five-pairs}
-use Rattle.labelling.proofs.Members.{noTied, length-tied, tied-at}
+use Rattle.labelling.proofs.Best.{below}
 use Rattle.labelling.proofs.Rules.{least-min}
+use Rattle.decoding.specs.Decoding.{Decoded, headBy, boundsOf}
 use Rattle.words.specs.declared.tied.TiedSite.{TiedSite}
-use Rattle.words.specs.declared.tied.Head.{Head}
-use Rattle.rules.specs.declared.pairs.Test.the-variants.{Colours, Gaps, Misses, Clears, First, FirstIn}
+use Rattle.rules.specs.declared.pairs.Test.{Test}
+use Rattle.rules.specs.declared.pairs.Test.the-variants.{Colours, Gaps, Misses, Clears}
+use Rattle.rules.specs.declared.Among.the-variants.{All, Of}
 use Rattle.rules.specs.Pairs.{passes}
-use Rattle.rules.specs.Words.{oneIf, isColour, headOf, tiedIn, passesAll, pairsPass, passOne, passing, boundKept, boundsFrom, labelsIn, leastIn, leftIn, lengthAt, lengthIn}
-use Rattle.rules.proofs.Numbered.{noTiedSite, seenAt, long, low, colours-after, count-seen, seen-at, all-seen, sum-seen, sum-same, pairs-seen}
+use Rattle.rules.specs.Model.{tiedAt, pairsPass, countOn, boundKept, boundsOn, leastBefore, leftOn, lengthOn, firstBroken, brokenOn}
 
--- the first of the sites that pass to have its slot: no other that passes and has it comes before
-first-is : (p : ℕ → Bool) (js : List ℕ) (n i : ℕ) → i < n →
-    allBefore (λ j. p i && (not (p j) || not (ltb (j + 1) (i + 1) && eqb (getD js i 0) (getD js j 0)))) n ≡ isFirst p js i
-first-is p js n i l =
-    same-test (allBefore asked n) (isFirst p js i)
-    (λ a. let q : p i ≡ true = and-l (p i) _ (all-before asked n a i l) in
-    and-i q (rw (is-false (isTaken p js (getD js i 0) i) (λ t.
-    let (j, m, r, e) = taken-at p js (getD js i 0) i t in
-    let x = and-r (p i) _ (all-before asked n a j (omega arith)) in
-    clash x (rw (r, lt-ltb (j + 1) (i + 1) (omega arith), eq-eqb (getD js i 0) (getD js j 0) (sym e)) refl))) refl))
-    (λ f. before-all asked n (λ j m. and-i (and-l (p i) _ f)
-    (by-test (p j) (λ r. rw r (none (ltb (j + 1) (i + 1)) (eqb (getD js i 0) (getD js j 0)) (λ x y.
-    clash (at-taken p js (getD js i 0) i j (omega (arith, ltb-true (j + 1) (i + 1) x)) r (sym (eqb-true (getD js i 0) (getD js j 0) y)))
-    (not-f (isTaken p js (getD js i 0) i) (and-r (p i) _ f))))) (λ r. rw r refl))))
+-- THE FRONT of a test of all, and of the least
+all-front : (f : ℕ → Bool) (n : ℕ) → allBefore f (suc n) ≡ (f 0 && allBefore (λ i. f (suc i)) n)
+unfolding allBefore
+all-front f zero = swap (f 0)
   where
-    asked : ℕ → Bool
-    asked j = p i && (not (p j) || not (ltb (j + 1) (i + 1) && eqb (getD js i 0) (getD js j 0)))
+    swap : (b : Bool) → (true && b) ≡ (b && true)
+    swap true = refl
+    swap false = refl
+all-front f (suc n) = ap (λ (b : Bool). b && f (suc n)) (all-front f n) ∙ assoc (f 0) (allBefore (λ i. f (suc i)) n) (f (suc n))
+  where
+    assoc : (a b c : Bool) → (a && b && c) ≡ (a && (b && c))
+    assoc true b c = refl
+    assoc false b c = refl
 
-    none : (x y : Bool) → (x ≡ true → y ≡ true → true ≡ false) → not (x && y) ≡ true
-    none true true f = sym (f refl refl)
-    none true false f = refl
-    none false y f = refl
+least-front : (k w : ℕ) (f g : ℕ → ℕ) (n : ℕ) →
+    leastBefore k w f g (suc n) ≡ cond (eqb (f 0) k) (min (g 0) (leastBefore k w (λ i. f (suc i)) (λ i. g (suc i)) n)) (leastBefore k w (λ i. f (suc i)) (λ i. g (suc i)) n)
+unfolding leastBefore
+least-front k w f g zero = by-test (eqb (f 0) k) (λ e. rw e (omega arith)) (λ e. rw e refl)
+least-front k w f g (suc n) =
+    rw (least-front k w f g n)
+    (by-test (eqb (f 0) k)
+    (λ e. rw e (by-test (eqb (f (suc n)) k) (λ q. rw q (omega arith)) (λ q. rw q refl)))
+    (λ e. rw e refl))
 
--- the least x, on the tied sites and on the sites with their ties
-least-same : (k w : ℕ) (ts : List TiedSite) (us : List Tied) → length ts ≡ length us →
-    ((i : ℕ) → i < length ts → ((getD ts i noTiedSite) .slot ≡ (getD us i noTied) .slot) × ((getD ts i noTiedSite) .x ≡ (getD us i noTied) .site .x)) →
-    leastIn k w ts ≡ leastX k w us
-unfolding leastIn leastX
-least-same k w [] [] e f = refl
-least-same k w [] (u ∷ us) e f = absurd (omega arith)
-least-same k w (t ∷ ts) [] e f = absurd (omega arith)
-least-same k w (t ∷ ts) (u ∷ us) e f =
-    let r = least-same k w ts us (omega arith) (λ i l. f (suc i) (omega arith)) in
-    let z = f 0 (omega arith) in
-    rw (z .0, z .1, r) (ap (λ (m : ℕ). cond (eqb (u .slot) k) m (leastX k w us)) (sym (least-min (u .site .x) (leastX k w us))))
+least-is : (k w : ℕ) (ss : List Site) (js : List ℕ) → length js ≡ length ss →
+    leastBefore k w (λ i. getD js i 0) (λ i. (getD ss i noSite) .x) (length ss) ≡ leastX k w (tiedOf ss js)
+unfolding leastX tiedOf
+least-is k w [] js l = unfold leastBefore in refl
+least-is k w (s ∷ ss) [] l = absurd (omega arith)
+least-is k w (s ∷ ss) (j ∷ js) l =
+    least-front k w (λ i. getD (j ∷ js) i 0) (λ i. (getD (s ∷ ss) i noSite) .x) (length ss) ∙
+    rw (least-is k w ss js (omega arith)) (ap (λ (m : ℕ). cond (eqb j k) m (leastX k w (tiedOf ss js))) (sym (least-min (s .x) (leastX k w (tiedOf ss js)))))
 
 -- colour by colour
-bounds-are : (s : Sheet) (js : List ℕ) (f : ℕ → ℕ) → ((c : ℕ) → f c ≡ length (usedOf s (slotsOf c (tied s js)))) → (c : ℕ) (ws : List ℕ) →
-    boundsFrom f c ws ≡ boundsKept s js c (coloursIn ws)
-unfolding boundsFrom boundsKept coloursIn
-bounds-are s js f e c [] = refl
-bounds-are s js f e c (w ∷ ws) =
-    by-test (isColour w)
-    (λ q. rw (q, e c) (ap (λ (b : Bool). boundKept (length (usedOf s (slotsOf c (tied s js)))) w && b) (ap (λ (z : ℕ). boundsFrom f z ws) (omega arith) ∙ bounds-are s js f e (suc c) ws)))
-    λ q. rw q (ap (λ (z : ℕ). boundsFrom f z ws) (omega arith) ∙ bounds-are s js f e c ws)
+bounds-are : (s : Sheet) (js : List ℕ) (f : ℕ → ℕ) (c : ℕ) (ks : List Colour) → ((i : ℕ) → f i ≡ length (usedOf s (slotsOf (c + i) (tied s js)))) →
+    allBefore (λ i. boundKept (f i) (getD (boundsOf ks) i 0)) (length ks) ≡ boundsKept s js c ks
+unfolding boundsKept boundsOf
+bounds-are s js f c [] e = unfold allBefore in refl
+bounds-are s js f c (k ∷ ks) e =
+    let z : c + 0 ≡ c = omega arith in
+    let h : f 0 ≡ length (usedOf s (slotsOf c (tied s js))) = e 0 ∙ ap (λ (n : ℕ). length (usedOf s (slotsOf n (tied s js)))) z in
+    all-front (λ i. boundKept (f i) (getD (boundsOf (k ∷ ks)) i 0)) (length ks) ∙
+    ap₂ (λ (n : ℕ) (b : Bool). boundKept n (k .bound) && b) h
+    (bounds-are s js (λ i. f (suc i)) (suc c) ks (λ i. let q : c + suc i ≡ suc c + i = omega arith in e (suc i) ∙ ap (λ (n : ℕ). length (usedOf s (slotsOf n (tied s js)))) q))
+
+bounds-long : (ks : List Colour) → length (boundsOf ks) ≡ length ks
+unfolding boundsOf
+bounds-long [] = refl
+bounds-long (k ∷ ks) = ap suc (bounds-long ks)
 
 sum-plus : (f g : ℕ → ℕ) (n : ℕ) → sumBefore (λ i. f i + g i) n ≡ sumBefore f n + sumBefore g n
 unfolding sumBefore
 sum-plus f g zero = refl
 sum-plus f g (suc n) = omega (arith, sum-plus f g n)
 
-module _ (ss ls : List ℕ) (ok : sheetFault ss ≡ 0) (form : isLayout (sheetIn ss) ls ≡ true) where
-  abbrev s : Sheet
-  s = sheetIn ss
+-- the first of six tests
+chain : (a b c d e f : Bool) →
+    cond (not (eqb (cond (not a) 1 (cond (not b) 2 (cond (not c) 3 (cond (not d) 4 (cond (not e) 5 0))))) 0))
+    (cond (not a) 1 (cond (not b) 2 (cond (not c) 3 (cond (not d) 4 (cond (not e) 5 0))))) (cond f 0 6) ≡ firstBroken a b c d e f
+chain false b c d e f = refl
+chain true false c d e f = refl
+chain true true false d e f = refl
+chain true true true false e f = refl
+chain true true true true false f = refl
+chain true true true true true false = refl
+chain true true true true true true = refl
 
-  abbrev js : List ℕ
-  js = tiesIn (drop 1 ls)
+-- THE TIED SITE of a number, by the sheet
+abbrev seenAt : Sheet → (ties : List ℕ) → ℕ → TiedSite
+seenAt s js i =
+    record { x = (siteAt s i) .x; y = (siteAt s i) .y; colour = (siteAt s i) .colour; slot = getD js i 0; height = heightOf s (getD js i 0) }
 
-  abbrev h : Head
-  h = headOf ss
+module _ (s : Sheet) (hs xs ys cs : List ℕ) (d : Decoded s hs xs ys cs) (js : List ℕ) (long : length js ≡ length (s .sites)) where
+  abbrev n : ℕ
+  n = length (s .sites)
 
-  abbrev ts : List TiedSite
-  ts = tiedIn (headOf ss) ss ls
+  abbrev ts : ℕ → TiedSite
+  ts = tiedAt hs xs ys cs js
 
-  pub rule-one : pairsPass Colours h ts ≡ coloursKept (tied s js)
-  rule-one = pairs-seen ss ls ok form Colours colourKept (λ i j. refl)
+  site-is : (i : ℕ) → tiedAt hs xs ys cs js i ≡ seenAt s js i
+  site-is i = λ p. record { x = d .xs i p; y = d .ys i p; colour = d .colours i p; slot = getD js i 0; height = d .heights (getD js i 0) p }
 
-  pub rule-three : pairsPass Gaps h ts ≡ gapsKept s (tied s js)
-  rule-three = pairs-seen ss ls ok form Gaps (gapKept s) (λ i j. refl)
+  -- a test of every two
+  pairs-are : (k : Test) (r : Tied → Tied → Bool) → ((i j : ℕ) → passes k (headBy s) (seenAt s js i) (seenAt s js j) ≡ r (tieAt s js i) (tieAt s js j)) →
+      pairsPass k (headBy s) ts n ≡ all (λ t. all (r t) (tied s js)) (tied s js)
+  pairs-are k r e =
+      ap (λ (f : ℕ → TiedSite). pairsPass k (headBy s) f n) (fun-ext site-is) ∙
+      ap (λ (g : ℕ → Bool). allBefore g n) (fun-ext λ i. ap (λ (g : ℕ → Bool). allBefore g n) (fun-ext (e i)) ∙ sym (tied-is s js long (r (tieAt s js i)))) ∙
+      sym (tied-is s js long (λ t. all (r t) (tied s js)))
 
-  pub rule-four : pairsPass Misses h ts ≡ all (missesAll s js) (tied s js)
-  rule-four =
-      pairs-seen ss ls ok form Misses (missesPair s) (λ i j. refl) ∙
-      sym (rule-four-pairs s js (long ss ls ok form) (sound ss ok .inside) (low ss ls ok form))
+  rule-one : pairsPass Colours (headBy s) ts n ≡ coloursKept (tied s js)
+  rule-one = pairs-are Colours colourKept (λ i j. refl)
 
-  pub rule-five : pairsPass Clears h ts ≡ all (clearsAll s js) (tied s js)
-  rule-five =
-      pairs-seen ss ls ok form Clears (clearsPair s) (λ i j. refl) ∙
-      sym (rule-five-pairs s js (long ss ls ok form) (sound ss ok .inside) (low ss ls ok form))
+  rule-three : pairsPass Gaps (headBy s) ts n ≡ gapsKept s (tied s js)
+  rule-three = pairs-are Gaps (gapKept s) (λ i j. refl)
 
-  -- a label is counted at its first site
-  pub colour-labels : (c : ℕ) → labelsIn h ts c ≡ length (usedOf s (slotsOf c (tied s js)))
-  colour-labels c =
-      sum-seen ss ls ok form (passOne (FirstIn c) h ts) ∙
-      sum-same _ (λ i. cond (isFirst (ofColour s c) js i) 1 0) (length (s .sites))
-      (λ i l. ap oneIf (all-seen ss ls ok form (passes (FirstIn c) h (seenAt s js i)) ∙ first-is (ofColour s c) js (length (s .sites)) i l)) ∙
-      sym (colour-counted s js (long ss ls ok form) (low ss ls ok form) c)
-
-  pub rule-two : boundsFrom (labelsIn h ts) 0 (drop (h .body) ss) ≡ boundsKept s js 0 (s .colours)
-  rule-two = bounds-are s js (labelsIn h ts) colour-labels 0 (drop (h .body) ss) ∙ ap (boundsKept s js 0) (colours-after ss)
-
-  first-seen : (i : ℕ) → i < length (s .sites) → passesAll First h ts (seenAt s js i) ≡ isFirst anySite js i
-  first-seen i l = all-seen ss ls ok form (passes First h (seenAt s js i)) ∙ first-is anySite js (length (s .sites)) i l
-
-  pub labels-counted : passing First h ts ≡ countOf s js
-  labels-counted =
-      sum-seen ss ls ok form (passOne First h ts) ∙
-      sum-same _ (λ i. cond (isFirst anySite js i) 1 0) (length (s .sites)) (λ i l. ap oneIf (first-seen i l)) ∙
-      sym (count-counted s js (long ss ls ok form) (low ss ls ok form))
-
-  left-is : (k : ℕ) → leftIn h ts k ≡ leftEnd s js k
+  left-is : (k : ℕ) → leftOn (headBy s) xs js n k ≡ leftEnd s js k
   left-is k =
       ap (λ (z : ℕ). cond (s .isTwoSided) 0 z)
-      (least-same k (s .width) ts (tied s js) (count-seen ss ls ok form ∙ sym (length-tied (s .sites) js (long ss ls ok form)))
-      (λ i l. let e = seen-at ss ls ok form i (omega (arith, count-seen ss ls ok form)) in
-      rw (e, tied-at (s .sites) js i (long ss ls ok form)) (refl, refl)))
+      (ap (λ (g : ℕ → ℕ). leastBefore k (s .width) (λ i. getD js i 0) g n) (fun-ext (d .xs)) ∙ least-is k (s .width) (s .sites) js long)
 
-  pub length-counted : lengthIn s h ts ≡ lengthOf s js
-  length-counted =
-      sum-seen ss ls ok form (lengthAt s h ts) ∙
-      sum-same _ (λ i. cond (isFirst anySite js i) (s .width - leftEnd s js (getD js i 0)) 0 + siteShare s (heightOf s (getD js i 0)) ((siteAt s i) .y)) (length (s .sites))
-      (λ i l. rw (first-seen i l, left-is (getD js i 0)) refl) ∙
-      sum-plus _ _ (length (s .sites)) ∙
-      ap₂ _+_ (sym (backbones-counted s js (long ss ls ok form) (low ss ls ok form))) (sym (drops-counted s js (long ss ls ok form)))
+  module _ (low : below (length (s .slots)) js ≡ true) where
+    colour-labels : (c : ℕ) → countOn (Of c) cs js n ≡ length (usedOf s (slotsOf c (tied s js)))
+    colour-labels c =
+        ap (λ (p : ℕ → Bool). sumBefore (λ i. cond (isFirst p js i) 1 0) n) (fun-ext λ i. ap (λ (z : ℕ). eqb z c) (d .colours i)) ∙
+        sym (colour-counted s js long low c)
+
+    rule-two : boundsOn (boundsOf (s .colours)) cs js n ≡ boundsKept s js 0 (s .colours)
+    rule-two =
+        ap (allBefore (λ c. boundKept (countOn (Of c) cs js n) (getD (boundsOf (s .colours)) c 0))) (bounds-long (s .colours)) ∙
+        bounds-are s js (λ c. countOn (Of c) cs js n) 0 (s .colours) (λ i. let z : i ≡ 0 + i = omega arith in colour-labels i ∙ ap (λ (c : ℕ). length (usedOf s (slotsOf c (tied s js)))) z)
+
+    labels-are : countOn All cs js n ≡ countOf s js
+    labels-are = sym (count-counted s js long low)
+
+    length-is : lengthOn (headBy s) hs xs ys cs js n ≡ lengthOf s js
+    unfolding siteShare
+    length-is =
+        ap (λ (f : ℕ → ℕ). sumBefore f n)
+        (fun-ext λ i. ap₂ _+_ (ap (λ (z : ℕ). cond (isFirst anySite js i) (s .width - z) 0) (left-is (getD js i 0)))
+        (ap₂ (siteShare s) (d .heights (getD js i 0)) (d .ys i))) ∙
+        sum-plus _ _ n ∙
+        ap₂ _+_ (sym (backbones-counted s js long low)) (sym (drops-counted s js long))
+
+    module _ (inside : all (insideBy (s .width)) (s .sites) ≡ true) where
+      rule-four : pairsPass Misses (headBy s) ts n ≡ all (missesAll s js) (tied s js)
+      rule-four = pairs-are Misses (missesPair s) (λ i j. refl) ∙ sym (rule-four-pairs s js long inside low)
+
+      rule-five : pairsPass Clears (headBy s) ts n ≡ all (clearsAll s js) (tied s js)
+      rule-five = pairs-are Clears (clearsPair s) (λ i j. refl) ∙ sym (rule-five-pairs s js long inside low)
+
+      -- ALL SIX, of a layout with these ties
+      pub broken-is : (ls : List ℕ) → js ≡ layoutTies ls → brokenOn (headBy s) (getD ls 0 0) hs (boundsOf (s .colours)) xs ys cs js n ≡ brokenBy s ls
+      broken-is ls e =
+          rw (rule-one, rule-two, rule-three, rule-four, rule-five, labels-are, length-is, e)
+          (sym (chain (coloursKept (tied s (layoutTies ls))) (boundsKept s (layoutTies ls) 0 (s .colours)) (gapsKept s (tied s (layoutTies ls)))
+          (all (missesAll s (layoutTies ls)) (tied s (layoutTies ls))) (all (clearsAll s (layoutTies ls)) (tied s (layoutTies ls)))
+          (eqb (statedCount ls) (countOf s (layoutTies ls)) && eqb (statedLength ls) (lengthOf s (layoutTies ls)))))

@@ -1,33 +1,33 @@
-// Rules 1 to 6 on the words of a stored sheet, by loops over pairs of tied sites. No list of slots or labels is kept.
+// Rules 1 to 6 on the decoded numbers of a sheet and the words of a layout's ties, by loops over the sites and their pairs.
+// No list of slots or labels is kept.
 pub mod pairs;
 pub mod rulings;
 
 ghost use mathlib.Core.Path.{_≡_};
-ghost use Prim.Native.Nat.{_+_, _-_, _<_, _≤_};
-ghost use lib.ListN.{length, getD, drop};
-ghost use Rattle.sheet.specs.Sheet.{sheetIn, bodyOf};
-ghost use Rattle.rules.specs.Words.{oneIf, headOf, slotsRun, heightIn, placeAt, Next, tiedAt, tiedIn, passesAll, pairsPass, passing, boundKept, boundsFrom, labelsIn, leftIn, lengthAt, lengthIn};
+ghost use Prim.Native.Nat.{_<_, _≤_};
+ghost use lib.ListN.{length, getD};
+ghost use Rattle.labelling.specs.Layout.{tiesIn};
+ghost use Rattle.labelling.specs.Counted.{isTaken, isFirst};
+ghost use Rattle.rules.specs.declared.Among as Among;
+ghost use Rattle.rules.specs.Model.{Fits, Low, oneIf, amongBy, tiedAt, passesAll, pairsPass, countOn, boundKept, boundsOn, leftOn, lengthAt, lengthOn};
 use crate::pairs::Test;
 use crate::pairs::pass;
 use drops::share_of;
+use words::both;
 use words::byte_field;
 use words::choose;
-use words::gap_field;
-use words::high_field;
-use words::kind_of;
+use words::get;
+use words::is_not;
 use words::lesser;
-use words::low_field;
 use words::monus;
 use words::same;
-use words::side_bit;
 use words::tied::Head;
 use words::tied::TiedSite;
 
-// Where a loop over the sites is: the place of the next one's word, the colours passed, and the place of its tie in the layout.
-pub struct Place {
-    pub at: usize,
-    pub colours: usize,
-    pub tie: usize,
+// The sites that are counted: all, or a colour's.
+pub enum Among {
+    All,
+    Of(usize),
 }
 
 fn one_if(b: bool) -> usize
@@ -39,217 +39,228 @@ fn one_if(b: bool) -> usize
     0
 }
 
-// The word at a place, 0 outside.
-fn word_at(s: &[u32], i: usize) -> u32
-    ensures { λ r. ⌜ r ≡ getD (now (s .entry)) i 0 ⌝ }
+fn wide(w: u32) -> usize
+    ensures { λ r. ⌜ r ≡ w ⌝ }
 {
-    if i < s.len() {
-        return s[i];
-    }
-    0
+    w as usize
 }
 
-// The place of the first word after the slots.
-fn slots_end(sheet: &[u32]) -> usize
-    ensures { λ r. ⌜ r ≡ 1 + slotsRun (bodyOf (now (sheet .entry))) ⌝ }
+// The slot of a site, from its tie's word.
+fn slot_at(ties: &[u32], i: usize) -> u32
+    requires { ⌜ i < length (now ties) ⌝ }
+    ensures { λ r. ⌜ r ≡ getD (tiesIn (now (ties .entry))) i 0 ⌝ }
 {
-    let mut i: usize = 1;
-    while i < sheet.len() {
-        if kind_of(sheet[i]) != 2 {
-            return i;
-        }
-        i += 1;
-    }
-    i
+    byte_field(ties[i])
 }
 
-pub fn head_of(sheet: &[u32]) -> Head
-    ensures { λ r. ⌜ r ≡ headOf (now (sheet .entry)) ⌝ }
+// A site with its tie.
+fn tied_at(
+    heights: &[u32],
+    xs: &[u32],
+    ys: &[u32],
+    colours: &[u32],
+    ties: &[u32],
+    i: usize,
+) -> TiedSite
+    requires { ⌜ Fits (now xs) (now ys) (now colours) (now ties) ⌝ }
+    requires { ⌜ i < length (now ties) ⌝ }
+    ensures { λ r. ⌜ r ≡ tiedAt (now (heights .entry)) (now (xs .entry)) (now (ys .entry)) (now (colours .entry)) (tiesIn (now (ties .entry))) i ⌝ }
 {
-    let w = word_at(sheet, 0);
-    let body = slots_end(sheet);
-    Head {
-        twosided: same(side_bit(w), 1),
-        gap: gap_field(w),
-        width: low_field(w),
-        body: body,
-    }
-}
-
-fn height_at(sheet: &[u32], slot: u32) -> u32
-    requires { ⌜ slot < 256 ⌝ }
-    ensures { λ r. ⌜ r ≡ heightIn (now (sheet .entry)) slot ⌝ }
-{
-    let i = slot as usize + 1;
-    low_field(word_at(sheet, i))
-}
-
-// The number before, 0 of 0.
-fn previous(n: usize) -> usize
-    ensures { λ r. ⌜ r ≡ n - 1 ⌝ }
-{
-    if n == 0 {
-        return 0;
-    }
-    n - 1
-}
-
-// The next site from a place on, or the end.
-fn site_from(sheet: &[u32], at: usize, colours: usize, tie: usize) -> Place
-    requires { ⌜ colours ≤ at ⌝ }
-    ensures { λ r. ⌜ Next (now (sheet .entry)) (placeAt at colours tie) r ⌝ }
-{
-    let mut c = colours;
-    let mut i = at;
-    while i < sheet.len() {
-        let k = kind_of(sheet[i]);
-        if k == 4 {
-            return Place {
-                at: i,
-                colours: c,
-                tie: tie,
-            };
-        }
-        c += one_if(same(k, 3));
-        i += 1;
-    }
-    Place {
-        at: i,
-        colours: c,
-        tie: tie,
-    }
-}
-
-// The tied site at a place.
-fn tied_at(sheet: &[u32], layout: &[u32], p: Place) -> TiedSite
-    ensures { λ r. ⌜ r ≡ tiedAt (now (sheet .entry)) (now (layout .entry)) p (getD (now (sheet .entry)) (p .at) 0) ⌝ }
-{
-    let w = word_at(sheet, p.at);
-    let slot = byte_field(word_at(layout, p.tie));
-    let height = height_at(sheet, slot);
+    let slot = slot_at(ties, i);
+    let height = get(heights, slot);
     TiedSite {
-        number: p.tie,
-        x: high_field(w),
-        y: low_field(w),
-        colour: previous(p.colours),
+        x: xs[i],
+        y: ys[i],
+        colour: colours[i],
         slot: slot,
         height: height,
     }
 }
 
 // Whether a tied site passes a test beside every tied site.
-fn all_pass(test: Test, h: Head, t: TiedSite, sheet: &[u32], layout: &[u32]) -> bool
-    ensures { λ r. ⌜ r ≡ passesAll test h (tiedIn h (now (sheet .entry)) (now (layout .entry))) t ⌝ }
+fn all_pass(
+    test: Test,
+    h: Head,
+    t: TiedSite,
+    heights: &[u32],
+    xs: &[u32],
+    ys: &[u32],
+    colours: &[u32],
+    ties: &[u32],
+) -> bool
+    requires { ⌜ Fits (now xs) (now ys) (now colours) (now ties) ⌝ }
+    ensures { λ r. ⌜ r ≡ passesAll test h (tiedAt (now (heights .entry)) (now (xs .entry)) (now (ys .entry)) (now (colours .entry)) (tiesIn (now (ties .entry)))) (length (now (ties .entry))) t ⌝ }
 {
-    let mut p = site_from(sheet, h.body, 0, 1);
-    while p.at < sheet.len() {
-        if !pass(test, h, t, tied_at(sheet, layout, p)) {
+    let mut j: usize = 0;
+    while j < ties.len() {
+        if !pass(test, h, t, tied_at(heights, xs, ys, colours, ties, j)) {
             return false;
         }
-        p = site_from(sheet, p.at + 1, p.colours, p.tie + 1);
+        j += 1;
     }
     true
 }
 
 // Whether every two tied sites pass a test.
-pub fn pairs_pass(test: Test, h: Head, sheet: &[u32], layout: &[u32]) -> bool
-    ensures { λ r. ⌜ r ≡ pairsPass test h (tiedIn h (now (sheet .entry)) (now (layout .entry))) ⌝ }
+pub fn pairs_pass(
+    test: Test,
+    h: Head,
+    heights: &[u32],
+    xs: &[u32],
+    ys: &[u32],
+    colours: &[u32],
+    ties: &[u32],
+) -> bool
+    requires { ⌜ Fits (now xs) (now ys) (now colours) (now ties) ⌝ }
+    ensures { λ r. ⌜ r ≡ pairsPass test h (tiedAt (now (heights .entry)) (now (xs .entry)) (now (ys .entry)) (now (colours .entry)) (tiesIn (now (ties .entry)))) (length (now (ties .entry))) ⌝ }
 {
-    let mut p = site_from(sheet, h.body, 0, 1);
-    while p.at < sheet.len() {
-        if !all_pass(test, h, tied_at(sheet, layout, p), sheet, layout) {
+    let mut i: usize = 0;
+    while i < ties.len() {
+        let t = tied_at(heights, xs, ys, colours, ties, i);
+        if !all_pass(test, h, t, heights, xs, ys, colours, ties) {
             return false;
         }
-        p = site_from(sheet, p.at + 1, p.colours, p.tie + 1);
+        i += 1;
     }
     true
 }
 
-// How many tied sites pass a test beside every tied site.
-pub fn passing_sites(test: Test, h: Head, sheet: &[u32], layout: &[u32]) -> usize
-    ensures { λ r. ⌜ r ≡ passing test h (tiedIn h (now (sheet .entry)) (now (layout .entry))) ⌝ }
+fn is_among(a: Among, colours: &[u32], i: usize) -> bool
+    requires { ⌜ i < length (now colours) ⌝ }
+    ensures { λ r. ⌜ r ≡ amongBy a (now (colours .entry)) i ⌝ }
+{
+    match a {
+        Among::All => true,
+        Among::Of(c) => wide(colours[i]) == c,
+    }
+}
+
+// Whether a site before i, of those that are counted, has a slot.
+fn is_taken(a: Among, colours: &[u32], ties: &[u32], slot: u32, i: usize) -> bool
+    requires { ⌜ (i ≤ length (now colours)) × (i ≤ length (now ties)) ⌝ }
+    ensures { λ r. ⌜ r ≡ isTaken (amongBy a (now (colours .entry))) (tiesIn (now (ties .entry))) slot i ⌝ }
+{
+    let mut j: usize = 0;
+    while j < i {
+        if both(is_among(a, colours, j), same(slot_at(ties, j), slot)) {
+            return true;
+        }
+        j += 1;
+    }
+    false
+}
+
+// Whether a site is counted and the first of those to have its slot.
+fn is_first(a: Among, colours: &[u32], ties: &[u32], i: usize) -> bool
+    requires { ⌜ (i < length (now colours)) × (i < length (now ties)) ⌝ }
+    ensures { λ r. ⌜ r ≡ isFirst (amongBy a (now (colours .entry))) (tiesIn (now (ties .entry))) i ⌝ }
+{
+    both(
+        is_among(a, colours, i),
+        is_not(is_taken(a, colours, ties, slot_at(ties, i), i)),
+    )
+}
+
+// How many slots the sites that are counted have: each is counted at the first of them that has it.
+pub fn labels_of(a: Among, colours: &[u32], ties: &[u32]) -> usize
+    requires { ⌜ length (now ties) ≤ length (now colours) ⌝ }
+    ensures { λ r. ⌜ r ≡ countOn a (now (colours .entry)) (tiesIn (now (ties .entry))) (length (now (ties .entry))) ⌝ }
 {
     let mut n: usize = 0;
-    let mut p = site_from(sheet, h.body, 0, 1);
-    while p.at < sheet.len() {
-        n += one_if(all_pass(test, h, tied_at(sheet, layout, p), sheet, layout));
-        p = site_from(sheet, p.at + 1, p.colours, p.tie + 1);
+    let mut i: usize = 0;
+    while i < ties.len() {
+        n += one_if(is_first(a, colours, ties, i));
+        i += 1;
     }
     n
 }
 
-// Whether the colour in a word has no more labels than its bound.
-fn bound_kept(h: Head, sheet: &[u32], layout: &[u32], colour: usize, w: u32) -> bool
-    ensures { λ r. ⌜ r ≡ boundKept (labelsIn h (tiedIn h (now (sheet .entry)) (now (layout .entry))) colour) w ⌝ }
+// Whether a colour has no more labels than its bound.
+fn bound_kept(c: usize, bound: u32, colours: &[u32], ties: &[u32]) -> bool
+    requires { ⌜ length (now ties) ≤ length (now colours) ⌝ }
+    ensures { λ r. ⌜ r ≡ boundKept (countOn (Among.Of c) (now (colours .entry)) (tiesIn (now (ties .entry))) (length (now (ties .entry)))) bound ⌝ }
 {
-    let bound = byte_field(w);
     if bound == 255 {
         return true;
     }
     let most = bound as usize;
-    passing_sites(Test::FirstIn(colour), h, sheet, layout) <= most
+    labels_of(Among::Of(c), colours, ties) <= most
 }
 
 // Whether no colour has more labels than its bound.
-pub fn bounds_pass(h: Head, sheet: &[u32], layout: &[u32]) -> bool
-    ensures { λ r. ⌜ r ≡ boundsFrom (labelsIn h (tiedIn h (now (sheet .entry)) (now (layout .entry)))) 0 (drop (h .body) (now (sheet .entry))) ⌝ }
+pub fn bounds_pass(bounds: &[u32], colours: &[u32], ties: &[u32]) -> bool
+    requires { ⌜ length (now ties) ≤ length (now colours) ⌝ }
+    ensures { λ r. ⌜ r ≡ boundsOn (now (bounds .entry)) (now (colours .entry)) (tiesIn (now (ties .entry))) (length (now (ties .entry))) ⌝ }
 {
-    let mut colours: usize = 0;
-    let mut i = h.body;
-    while i < sheet.len() {
-        let w = sheet[i];
-        i += 1;
-        if kind_of(w) != 3 {
-            continue;
-        }
-        if !bound_kept(h, sheet, layout, colours, w) {
+    let mut c: usize = 0;
+    while c < bounds.len() {
+        if !bound_kept(c, bounds[c], colours, ties) {
             return false;
         }
-        colours += 1;
+        c += 1;
     }
     true
 }
 
 // The left end of a slot's label.
-fn left_end(h: Head, slot: u32, sheet: &[u32], layout: &[u32]) -> u32
-    ensures { λ r. ⌜ r ≡ leftIn h (tiedIn h (now (sheet .entry)) (now (layout .entry))) slot ⌝ }
+fn left_end(h: Head, slot: u32, xs: &[u32], ties: &[u32]) -> u32
+    requires { ⌜ length (now ties) ≤ length (now xs) ⌝ }
+    ensures { λ r. ⌜ r ≡ leftOn h (now (xs .entry)) (tiesIn (now (ties .entry))) (length (now (ties .entry))) slot ⌝ }
 {
     if h.twosided {
         return 0;
     }
     let mut low = h.width;
-    let mut p = site_from(sheet, h.body, 0, 1);
-    while p.at < sheet.len() {
-        let t = tied_at(sheet, layout, p);
-        low = choose(same(t.slot, slot), lesser(low, t.x), low);
-        p = site_from(sheet, p.at + 1, p.colours, p.tie + 1);
+    let mut i: usize = 0;
+    while i < ties.len() {
+        low = choose(same(slot_at(ties, i), slot), lesser(low, xs[i]), low);
+        i += 1;
     }
     low
 }
 
-// What a tied site adds to the length.
-fn site_length(h: Head, t: TiedSite, sheet: &[u32], layout: &[u32]) -> u32
-    requires { ⌜ (h .width < 16384) × (t .height < 16384) × (t .y < 16384) ⌝ }
-    ensures { λ r. ⌜ r ≡ lengthAt (sheetIn (now (sheet .entry))) h (tiedIn h (now (sheet .entry)) (now (layout .entry))) t ⌝ }
+// What a site adds to the length: its label's backbone if it is the first of its label, and its own share.
+fn site_length(
+    h: Head,
+    heights: &[u32],
+    xs: &[u32],
+    ys: &[u32],
+    colours: &[u32],
+    ties: &[u32],
+    i: usize,
+) -> u32
+    requires { ⌜ Fits (now xs) (now ys) (now colours) (now ties) ⌝ }
+    requires { ⌜ Low h (now heights) (now ys) ⌝ }
+    requires { ⌜ i < length (now ties) ⌝ }
+    ensures { λ r. ⌜ r ≡ lengthAt h (now (heights .entry)) (now (xs .entry)) (now (ys .entry)) (now (colours .entry)) (tiesIn (now (ties .entry))) (length (now (ties .entry))) i ⌝ }
 {
-    let share = share_of(t.height, t.y);
-    if !all_pass(Test::First, h, t, sheet, layout) {
+    let slot = slot_at(ties, i);
+    let share = share_of(get(heights, slot), ys[i]);
+    if !is_first(Among::All, colours, ties, i) {
         return share;
     }
-    let backbone = monus(h.width, left_end(h, t.slot, sheet, layout));
+    let backbone = monus(h.width, left_end(h, slot, xs, ties));
     backbone + share
 }
 
-// The length of the layout. So few words that the sum fits.
-pub fn total_length(h: Head, sheet: &[u32], layout: &[u32]) -> u32
-    requires { ⌜ (h .width < 16384) × (length (now sheet) ≤ 65536) ⌝ }
-    ensures { λ r. ⌜ r ≡ lengthIn (sheetIn (now (sheet .entry))) h (tiedIn h (now (sheet .entry)) (now (layout .entry))) ⌝ }
+// The length of the layout. So few sites that the sum fits.
+pub fn total_length(
+    h: Head,
+    heights: &[u32],
+    xs: &[u32],
+    ys: &[u32],
+    colours: &[u32],
+    ties: &[u32],
+) -> u32
+    requires { ⌜ Fits (now xs) (now ys) (now colours) (now ties) ⌝ }
+    requires { ⌜ Low h (now heights) (now ys) ⌝ }
+    ensures { λ r. ⌜ r ≡ lengthOn h (now (heights .entry)) (now (xs .entry)) (now (ys .entry)) (now (colours .entry)) (tiesIn (now (ties .entry))) (length (now (ties .entry))) ⌝ }
 {
     let mut n: u32 = 0;
-    let mut p = site_from(sheet, h.body, 0, 1);
-    while p.at < sheet.len() {
-        n += site_length(h, tied_at(sheet, layout, p), sheet, layout);
-        p = site_from(sheet, p.at + 1, p.colours, p.tie + 1);
+    let mut i: usize = 0;
+    while i < ties.len() {
+        n += site_length(h, heights, xs, ys, colours, ties, i);
+        i += 1;
     }
     n
 }

@@ -26,8 +26,8 @@ use Rattle.optimality.proofs.TwoSidedAnswer.{steady}
 use Rattle.optimality.proofs.TwoSidedCall.{leastOf, two-sided-call, two-sided-none}
 use Rattle.arrays.specs.declared.Measures.{Measures}
 use Rattle.arrays.specs.Arrays.{boundsOf, xsOf, ysOf, coloursOf, radicesBy, drawsBy, radixBy, measuresOf, padded, productBy}
-use Rattle.arrays.proofs.Instances.{bounds-at, xs-at, ys-at, colours-at}
-use Rattle.arrays.proofs.Whole.{front}
+use Rattle.decoding.proofs.Places.{bounds-at, xs-at, ys-at, colours-at}
+use Rattle.decoding.proofs.Whole.{front}
 use Rattle.arrays.proofs.Ordered.{radices-long, draws-long, product-positive, product-are}
 use Rattle.optimum.specs.CostWord.{topWord}
 use Rattle.stripcosts.specs.Table.{unitOf, labelCost, instanceBy, tableBy, capsIn, Fits, tableWords, RightTo}

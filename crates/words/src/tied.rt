@@ -3,22 +3,20 @@ ghost use mathlib.Core.Path.{_≡_};
 ghost use Rattle.words.specs.Starts.{startOf};
 use crate::choose;
 
-// A site with its number (from 1, the place of its tie in the layout), its colour, its slot and the slot's height.
+// A site with its colour, its slot and the slot's height.
 pub struct TiedSite {
-    pub number: usize,
     pub x: u32,
     pub y: u32,
-    pub colour: usize,
+    pub colour: u32,
     pub slot: u32,
     pub height: u32,
 }
 
-// What the head says, and the place of the first word after the slots.
+// What the head says.
 pub struct Head {
     pub twosided: bool,
     pub gap: u32,
     pub width: u32,
-    pub body: usize,
 }
 
 // The left end of u's label if u alone is on it. Some site of a label has its left end, so pairs are enough.

@@ -39,25 +39,17 @@ returns-2 c =
     let l : isLayout (sheetIn (a .sheet .now)) (a .layout .now) ≡ false = sym (c .before .is-layout .ensures) ∙ not-true _ (c .if2 .taken) in
     rw (eq-eqb (sheetFault (a .sheet .now)) 0 f, l) refl
 
-head-of-requires : tie.Need-head-of-requires
-head-of-requires c κs = search needs
-
-broken-by-requires : tie.Need-broken-by-requires
-broken-by-requires c κs =
-    let a = c .before .before .before .before .before .before .before .args in
-    record {
-      accepted = omega (arith, c .before .before .before .before .sheet-fault .ensures, c .before .before .before .if1 .left);
-      formed = sym (c .before .before .is-layout .ensures) ∙ not-false _ (c .before .if2 .left);
-      head = c .head-of .ensures;
-    }
+rule-of-requires : tie.Need-rule-of-requires
+rule-of-requires c κs =
+    (omega (arith, c .before .before .before .sheet-fault .ensures, c .before .before .if1 .left), sym (c .before .is-layout .ensures) ∙ not-false _ (c .if2 .left))
 
 returns-3 : tie.Need-returns-3
 unfolding unrefused
 returns-3 c =
-    let a = c .before .before .before .before .before .before .before .before .args in
-    let f : sheetFault (a .sheet .now) ≡ 0 = omega (arith, c .before .before .before .before .before .sheet-fault .ensures, c .before .before .before .before .if1 .left) in
-    let l : isLayout (sheetIn (a .sheet .now)) (a .layout .now) ≡ true = sym (c .before .before .before .is-layout .ensures) ∙ not-false _ (c .before .before .if2 .left) in
-    rw (eq-eqb (sheetFault (a .sheet .now)) 0 f, l) (ap unrefused (c .broken-by .ensures))
+    let a = c .before .before .before .before .before .before .before .args in
+    let f : sheetFault (a .sheet .now) ≡ 0 = omega (arith, c .before .before .before .before .sheet-fault .ensures, c .before .before .before .if1 .left) in
+    let l : isLayout (sheetIn (a .sheet .now)) (a .layout .now) ≡ true = sym (c .before .before .is-layout .ensures) ∙ not-false _ (c .before .if2 .left) in
+    rw (eq-eqb (sheetFault (a .sheet .now)) 0 f, l) (ap unrefused (c .rule-of .ensures))
 
 pub judge-parts-spec : {M : Type 1} → statement M
 judge-parts-spec =
@@ -68,6 +60,5 @@ judge-parts-spec =
     returns
     is-layout-requires
     returns-2
-    head-of-requires
-    broken-by-requires
+    rule-of-requires
     returns-3)

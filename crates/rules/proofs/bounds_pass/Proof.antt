@@ -1,64 +1,56 @@
-use Prim.Native.Nat.{_-_}
-use lib.ListN.{length}
-use mathlib.Core.Path.{refl, sym, _∙_}
+use mathlib.Core.Bool.{true}
 use borrow.Author.Tests.{not-true, not-false}
-use Rattle.rules.specs.Words.{tiedIn, labelsIn}
-use Rattle.rules.proofs.Steps.{Bounded, bounded-other, bounded-stop, bounded-more, bounded-all}
+use Rattle.labelling.specs.Layout.{tiesIn}
+use Rattle.labelling.specs.Counted.{allBefore}
+use Rattle.rules.specs.declared.Among.the-variants.{Of}
+use Rattle.rules.specs.Model.{countOn, boundKept}
+use Rattle.rules.proofs.Loops.{all-none, all-more, all-stop, all-end}
+use mathlib.Core.Path.{_≡_}
+use Prim.Native.Nat.{_-_, _≤_}
 use native.Mathlib.Omega.{arith}
+use lib.ListN.{length, getD}
 use borrow.Author.Needs.{needs}
 use Rattle.rules.proofs.bounds_pass.Statement.{statement}
 use Rattle.rules.proofs.bounds_pass.Tie as tie
 
 abbrev Inv-loop : tie.InvT-loop
-Inv-loop h sheet layout colours₀ i₀ colours i = Bounded (labelsIn h (tiedIn h sheet layout)) sheet (h .body) colours i
+Inv-loop bounds colours ties c₀ c = (c ≤ length bounds) × (allBefore (λ k. boundKept (countOn (Of k) colours (tiesIn ties) (length ties)) (getD bounds k 0)) c ≡ true)
 
 abbrev μ-loop : tie.MeasureT-loop
-μ-loop h sheet layout colours₀ i₀ colours i = length sheet - i
+μ-loop bounds colours ties c₀ c = length bounds - c
 
 loop-holds : tie.Need-loop-holds Inv-loop μ-loop
 loop-holds c =
-    record { low = omega arith; same = refl }
+    (omega arith, all-none _)
 
-mul-w : tie.Need-mul-w Inv-loop μ-loop
-mul-w c = search needs
+mul-bound-kept : tie.Need-mul-bound-kept Inv-loop μ-loop
+mul-bound-kept c = search needs
 
-shared-slice-read-w : tie.Need-shared-slice-read-w Inv-loop μ-loop
-shared-slice-read-w c = search needs
+shared-slice-read-bound-kept : tie.Need-shared-slice-read-bound-kept Inv-loop μ-loop
+shared-slice-read-bound-kept c = search needs
 
-add-i : tie.Need-add-i Inv-loop μ-loop
-add-i c = search needs
+bound-kept-requires : tie.Need-bound-kept-requires Inv-loop μ-loop
+bound-kept-requires c κs =
+    c .before .before .before .before .before .before .pre
 
-kind-of-requires : tie.Need-kind-of-requires Inv-loop μ-loop
-kind-of-requires c κs = search needs
+returns : tie.Need-returns Inv-loop μ-loop
+returns c =
+    all-stop _ _ (c .before .before .before .before .loop .c) (c .before .before .before .loop-test .taken) (c .before .bound-kept .ensures) (not-true _ (c .if1 .taken))
+
+add-c : tie.Need-add-c Inv-loop μ-loop
+add-c c = search needs
 
 loop-less : tie.Need-loop-less Inv-loop μ-loop
 loop-less c = search needs
 
 loop-again : tie.Need-loop-again Inv-loop μ-loop
 loop-again c =
-    bounded-other _ (c .before .before .before .before .loop .inv) (c .before .before .before .loop-test .taken) (λ e. omega (arith, e, c .before .kind-of .ensures, c .if1 .taken))
-
-bound-kept-requires : tie.Need-bound-kept-requires Inv-loop μ-loop
-bound-kept-requires c κs = search needs
-
-returns : tie.Need-returns Inv-loop μ-loop
-returns c =
-    bounded-stop _ (c .before .before .before .before .before .before .loop .inv) (c .before .before .before .before .before .loop-test .taken) (omega (arith, c .before .before .before .kind-of .ensures, c .before .before .if1 .left)) (sym (c .before .bound-kept .ensures) ∙ not-true _ (c .if2 .taken))
-
-add-colours : tie.Need-add-colours Inv-loop μ-loop
-add-colours c =
-    omega (arith, c .before .before .before .before .before .before .loop .inv .low, c .before .before .before .before .before .loop-test .taken)
-
-loop-less-2 : tie.Need-loop-less-2 Inv-loop μ-loop
-loop-less-2 c = search needs
-
-loop-again-2 : tie.Need-loop-again-2 Inv-loop μ-loop
-loop-again-2 c =
-    bounded-more _ (c .before .before .before .before .before .before .loop .inv) (c .before .before .before .before .before .loop-test .taken) (omega (arith, c .before .before .before .kind-of .ensures, c .before .before .if1 .left)) (sym (c .before .bound-kept .ensures) ∙ not-false _ (c .if2 .left))
+    let l = c .before .before .before .before .loop in
+    (omega (arith, c .before .before .before .loop-test .taken), all-more _ (l .c) (c .before .bound-kept .ensures) (not-false _ (c .if1 .left)) (l .inv .1))
 
 returns-2 : tie.Need-returns-2 Inv-loop μ-loop
 returns-2 c =
-    bounded-all _ (c .before .loop .inv) (c .loop-test .left)
+    all-end _ _ (c .before .loop .c) (c .before .loop .inv .0) (c .loop-test .left) (c .before .loop .inv .1)
 
 pub bounds-pass-spec : {M : Type 1} → statement M
 bounds-pass-spec =
@@ -67,15 +59,11 @@ bounds-pass-spec =
     Inv-loop
     μ-loop
     loop-holds
-    mul-w
-    shared-slice-read-w
-    add-i
-    kind-of-requires
-    loop-less
-    loop-again
+    mul-bound-kept
+    shared-slice-read-bound-kept
     bound-kept-requires
     returns
-    add-colours
-    loop-less-2
-    loop-again-2
+    add-c
+    loop-less
+    loop-again
     returns-2)

@@ -1,44 +1,46 @@
 use mathlib.Core.Path.{refl}
 use borrow.Author.Needs.{needs}
-use native.Mathlib.Omega.{arith}
 use Rattle.rules.proofs.tied_at.Statement.{statement}
 use Rattle.rules.proofs.tied_at.Tie as tie
 
-word-at-requires : tie.Need-word-at-requires
-word-at-requires c κs = search needs
+slot-at-requires : tie.Need-slot-at-requires
+slot-at-requires c κs = search needs
 
-word-at-requires-2 : tie.Need-word-at-requires-2
-word-at-requires-2 c κs = search needs
+get-requires : tie.Need-get-requires
+get-requires c κs = search needs
 
-byte-field-requires : tie.Need-byte-field-requires
-byte-field-requires c κs = search needs
+mul-t9 : tie.Need-mul-t9
+mul-t9 c = search needs
 
-height-at-requires : tie.Need-height-at-requires
-height-at-requires c κs =
-    omega (arith, c .byte-field .ensures)
+shared-slice-read-t11 : tie.Need-shared-slice-read-t11
+shared-slice-read-t11 c = search needs
 
-high-field-requires : tie.Need-high-field-requires
-high-field-requires c κs = search needs
+mul-t12 : tie.Need-mul-t12
+mul-t12 c = search needs
 
-low-field-requires : tie.Need-low-field-requires
-low-field-requires c κs = search needs
+shared-slice-read-t14 : tie.Need-shared-slice-read-t14
+shared-slice-read-t14 c = search needs
 
-previous-requires : tie.Need-previous-requires
-previous-requires c κs = search needs
+mul-t15 : tie.Need-mul-t15
+mul-t15 c = search needs
+
+shared-slice-read-t17 : tie.Need-shared-slice-read-t17
+shared-slice-read-t17 c = search needs
 
 returns : tie.Need-returns
 returns c =
-    rw (c .previous .ensures, c .before .low-field .ensures, c .before .before .high-field .ensures, c .before .before .before .height-at .ensures, c .before .before .before .before .byte-field .ensures, c .before .before .before .before .before .word-at2 .ensures, c .before .before .before .before .before .before .word-at .ensures) refl
+    rw (c .before .before .before .get .ensures, c .before .before .before .before .slot-at .ensures) refl
 
 pub tied-at-spec : {M : Type 1} → statement M
 tied-at-spec =
     tie.close
     (tie.spec
-    word-at-requires
-    word-at-requires-2
-    byte-field-requires
-    height-at-requires
-    high-field-requires
-    low-field-requires
-    previous-requires
+    slot-at-requires
+    get-requires
+    mul-t9
+    shared-slice-read-t11
+    mul-t12
+    shared-slice-read-t14
+    mul-t15
+    shared-slice-read-t17
     returns)

@@ -1,61 +1,51 @@
-use Prim.Native.Nat.{_-_}
-use lib.ListN.{length}
-use Rattle.sheet.specs.Sheet.{sheetIn}
-use Rattle.rules.specs.Words.{tiedAt, tiedIn, lengthAt}
-use Rattle.rules.proofs.Steps.{Summed, summed-none, term-le, summed-more, summed-all, length-le}
+use Rattle.labelling.specs.Layout.{tiesIn}
+use Rattle.labelling.specs.Counted.{sumBefore}
+use Rattle.rules.specs.Model.{lengthAt}
+use Rattle.rules.proofs.Loops.{sum-none, sum-more, sum-end, sum-le, length-le}
+use mathlib.Core.Path.{_≡_}
+use Prim.Native.Nat.{_-_, _≤_}
 use native.Mathlib.Omega.{arith}
+use lib.ListN.{length}
 use borrow.Author.Needs.{needs}
 use Rattle.rules.proofs.total_length.Statement.{statement}
 use Rattle.rules.proofs.total_length.Tie as tie
 
 abbrev Inv-loop : tie.InvT-loop
-Inv-loop h sheet layout n₀ p₀ n p = Summed (lengthAt (sheetIn sheet) h (tiedIn h sheet layout)) 32766 sheet layout (h .body) n p
+Inv-loop h heights xs ys colours ties n₀ i₀ n i = (i ≤ length ties) × (n ≡ sumBefore (lengthAt h heights xs ys colours (tiesIn ties) (length ties)) i)
 
 abbrev μ-loop : tie.MeasureT-loop
-μ-loop h sheet layout n₀ p₀ n p = length sheet - p .at
-
-site-from-requires : tie.Need-site-from-requires Inv-loop μ-loop
-site-from-requires c κs = search needs
+μ-loop h heights xs ys colours ties n₀ i₀ n i = length ties - i
 
 loop-holds : tie.Need-loop-holds Inv-loop μ-loop
 loop-holds c =
-    let a = c .before .before .before .args in
-    summed-none _ _ _ _ _ (λ q w. length-le (sheetIn (a .sheet .now)) (a .h) (tiedIn (a .h) (a .sheet .now) (a .layout .now)) (tiedAt (a .sheet .now) (a .layout .now) q w) (c .before .before .before .pre .0) (omega arith) (omega arith)) (c .site-from .ensures)
-
-tied-at-requires : tie.Need-tied-at-requires Inv-loop μ-loop
-tied-at-requires c κs = search needs
+    (omega arith, sum-none _)
 
 site-length-requires : tie.Need-site-length-requires Inv-loop μ-loop
 site-length-requires c κs =
-    rw (c .tied-at .ensures) (c .before .before .before .before .before .before .before .pre .0, omega arith, omega arith)
+    (c .before .before .before .before .before .before .before .pre .0, (c .before .before .before .before .before .before .before .pre .1, c .loop-test .taken))
 
 add-n : tie.Need-add-n Inv-loop μ-loop
 add-n c =
-    let l = c .before .before .before .before .loop in
-    omega (arith, l .inv .low, c .before .before .if1 .taken, c .before .before .before .before .before .before .before .before .pre .1, c .site-length .ensures, term-le _ _ _ _ _ (l .inv) (c .before .tied-at .ensures))
+    let a = c .before .before .before .before .before .before .before .before .args in
+    let l = c .before .before .loop in
+    let f = length-le (a .h) (a .heights .now) (a .xs .now) (a .ys .now) (a .colours .now) (tiesIn (a .ties .now)) (length (a .ties .now)) (c .before .before .before .before .before .before .before .before .pre .1) in
+    omega (arith, l .inv .1, c .before .loop-test .taken, c .before .before .before .before .before .before .before .before .pre .0 .few, c .site-length .ensures, f (l .i), sum-le _ 32766 f (l .i))
 
-add-site-from : tie.Need-add-site-from Inv-loop μ-loop
-add-site-from c = search needs
-
-add-site-from-2 : tie.Need-add-site-from-2 Inv-loop μ-loop
-add-site-from-2 c =
-    omega (arith, c .before .before .before .before .before .before .loop .inv .spot .ties, c .before .before .before .before .if1 .taken)
-
-site-from-requires-2 : tie.Need-site-from-requires-2 Inv-loop μ-loop
-site-from-requires-2 c κs =
-    omega (arith, c .before .before .before .before .before .before .loop .inv .spot .colours)
+add-i : tie.Need-add-i Inv-loop μ-loop
+add-i c = search needs
 
 loop-less : tie.Need-loop-less Inv-loop μ-loop
-loop-less c =
-    omega (arith, c .site-from2 .ensures .later, c .before .before .before .before .before .if1 .taken)
+loop-less c = search needs
 
 loop-again : tie.Need-loop-again Inv-loop μ-loop
 loop-again c =
-    rw (c .before .before .before .site-length .ensures) (summed-more _ _ _ _ _ (c .before .before .before .before .before .before .before .loop .inv) (c .before .before .before .before .before .if1 .taken) (c .before .before .before .before .tied-at .ensures) (c .site-from2 .ensures))
+    let l = c .before .before .loop in
+    (omega (arith, c .before .loop-test .taken), sum-more _ (l .i) (l .n) _ (l .inv .1) (c .site-length .ensures))
 
 returns : tie.Need-returns Inv-loop μ-loop
 returns c =
-    summed-all _ _ _ _ _ (c .before .before .loop .inv) (c .if1 .left)
+    let l = c .before .loop in
+    sum-end _ _ (l .i) (l .n) (l .inv .0) (c .loop-test .left) (l .inv .1)
 
 pub total-length-spec : {M : Type 1} → statement M
 total-length-spec =
@@ -63,14 +53,10 @@ total-length-spec =
     (tie.spec
     Inv-loop
     μ-loop
-    site-from-requires
     loop-holds
-    tied-at-requires
     site-length-requires
     add-n
-    add-site-from
-    add-site-from-2
-    site-from-requires-2
+    add-i
     loop-less
     loop-again
     returns)

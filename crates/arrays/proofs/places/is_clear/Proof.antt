@@ -1,14 +1,9 @@
 use Rattle.arrays.proofs.Standing.{clear-edge, clear-bottom, clear-label}
 use mathlib.Core.Path.{sym, _∙_}
-use Prim.Native.Nat.{_-_}
 use native.Mathlib.Omega.{arith}
 use borrow.Author.Needs.{needs}
 use Rattle.arrays.proofs.places.is_clear.Statement.{statement}
 use Rattle.arrays.proofs.places.is_clear.Tie as tie
-use Rattle.arrays.proofs.places.is_clear.Reads as reads
-use Rattle.arrays.proofs.places.is_clear.Lts as lts
-use Rattle.arrays.proofs.places.is_clear_at.Reads as is-clear-at-reads
-use Rattle.words.proofs.get.Reads as get-reads
 
 returns : tie.Need-returns
 returns c =

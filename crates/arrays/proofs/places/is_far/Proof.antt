@@ -1,15 +1,9 @@
 use Rattle.arrays.proofs.Standing.{far-edge, far-bottom, far-label}
 use mathlib.Core.Path.{sym, _∙_}
-use Prim.Native.Nat.{_-_}
 use native.Mathlib.Omega.{arith}
 use borrow.Author.Needs.{needs}
 use Rattle.arrays.proofs.places.is_far.Statement.{statement}
 use Rattle.arrays.proofs.places.is_far.Tie as tie
-use Rattle.arrays.proofs.places.is_far.Reads as reads
-use Rattle.arrays.proofs.places.is_far.Lts as lts
-use Rattle.drops.proofs.apart_of.Reads as apart-of-reads
-use Rattle.words.proofs.at_most.Reads as at-most-reads
-use Rattle.words.proofs.get.Reads as get-reads
 
 returns : tie.Need-returns
 returns c =

@@ -1,14 +1,9 @@
 use Rattle.arrays.proofs.Standing.{over-edge, over-label}
 use mathlib.Core.Path.{sym, _∙_}
-use Prim.Native.Nat.{_-_}
 use native.Mathlib.Omega.{arith}
 use borrow.Author.Needs.{needs}
 use Rattle.arrays.proofs.places.is_over.Statement.{statement}
 use Rattle.arrays.proofs.places.is_over.Tie as tie
-use Rattle.arrays.proofs.places.is_over.Reads as reads
-use Rattle.arrays.proofs.places.is_over.Lts as lts
-use Rattle.words.proofs.at_most.Reads as at-most-reads
-use Rattle.words.proofs.get.Reads as get-reads
 
 returns : tie.Need-returns
 returns c =

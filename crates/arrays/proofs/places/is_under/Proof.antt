@@ -1,14 +1,9 @@
 use Rattle.arrays.proofs.Standing.{under-edge, under-bottom, under-label}
 use mathlib.Core.Path.{sym, _∙_}
-use Prim.Native.Nat.{_-_}
 use native.Mathlib.Omega.{arith}
 use borrow.Author.Needs.{needs}
 use Rattle.arrays.proofs.places.is_under.Statement.{statement}
 use Rattle.arrays.proofs.places.is_under.Tie as tie
-use Rattle.arrays.proofs.places.is_under.Reads as reads
-use Rattle.arrays.proofs.places.is_under.Lts as lts
-use Rattle.words.proofs.get.Reads as get-reads
-use Rattle.words.proofs.less.Reads as less-reads
 
 returns : tie.Need-returns
 returns c =

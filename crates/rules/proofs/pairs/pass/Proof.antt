@@ -26,18 +26,6 @@ enum-told-4 c = search needs
 clears-pass-requires : tie.Need-clears-pass-requires
 clears-pass-requires c κs = search needs
 
-enum-told-5 : tie.Need-enum-told-5
-enum-told-5 c = search needs
-
-first-pass-requires : tie.Need-first-pass-requires
-first-pass-requires c κs = search needs
-
-enum-known-test : tie.Need-enum-known-test
-enum-known-test c = search needs
-
-first-in-pass-requires : tie.Need-first-in-pass-requires
-first-in-pass-requires c κs = search needs
-
 returns : tie.Need-returns
 returns c =
     rw (c .before .enum-told .given .1) (c .colours-pass .ensures)
@@ -54,14 +42,6 @@ returns-4 : tie.Need-returns-4
 returns-4 c =
     rw (c .before .enum-told4 .given .1) (c .clears-pass .ensures)
 
-returns-5 : tie.Need-returns-5
-returns-5 c =
-    rw (c .before .enum-told5 .given .1) (c .first-pass .ensures)
-
-returns-6 : tie.Need-returns-6
-returns-6 c =
-    rw (c .before .before .test .given .1) (c .first-in-pass .ensures)
-
 pub pass-spec : {M : Type 1} → statement M
 pass-spec =
     tie.close
@@ -74,13 +54,7 @@ pass-spec =
     misses-pass-requires
     enum-told-4
     clears-pass-requires
-    enum-told-5
-    first-pass-requires
-    enum-known-test
-    first-in-pass-requires
     returns
     returns-2
     returns-3
-    returns-4
-    returns-5
-    returns-6)
+    returns-4)
