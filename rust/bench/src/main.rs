@@ -6,7 +6,7 @@
 
 mod integer_program;
 mod machine;
-mod program;
+mod process;
 mod same_loops;
 mod sheets;
 mod timing;
@@ -144,7 +144,7 @@ fn print_judges(named: &[Named]) {
 /// The program's work area is the limit here, so these are the longest that a user of the program waits.
 fn print_program() {
     println!("\n## The program's largest sheets\n");
-    if !program::is_there() {
+    if !program::path().exists() {
         println!("The program is not built; `rt check backbones` makes it. Its times are left out.");
         return;
     }
@@ -153,7 +153,7 @@ fn print_program() {
     for Named { name, sheet } in sheets::largest_of_program() {
         let (_, library, plain) = race_makers_in(&sheet, WORK_WORDS);
         let times = format!("{} | {} | {}", show(library), show(plain), ratio(library, plain));
-        println!("| {name} {}| {times} | {} |", sizes(&sheet), show(program::time(&sheet)));
+        println!("| {name} {}| {times} | {} |", sizes(&sheet), show(process::time(&sheet)));
     }
 }
 

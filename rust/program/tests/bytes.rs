@@ -1,15 +1,13 @@
 //! The program on random bytes: it ends, it crashes on none, and it prints what a plain one prints.
 
-#[path = "../common/mod.rs"]
+#[path = "../../backbone/tests/common/mod.rs"]
 mod common;
-mod forked;
-mod started;
 
 use common::SHEET_A;
-use forked::ForkServer;
 use model::program::{prints, MOST_BYTES};
 use model::random::{any_list, damage, small_sheet, Random};
-use started::{with_runner, with_runners, Runner};
+use program::forked::{self, ForkServer};
+use program::started::{with_runner, with_runners, Runner};
 use std::path::Path;
 
 const INPUTS: usize = 200_000;
@@ -72,7 +70,7 @@ fn compare(server: &Path, runner: &Runner, inputs: usize, seed: u64) -> [usize; 
 
 #[test]
 fn random_bytes() {
-    let server = forked::build();
+    let server = forked::build(Path::new(env!("CARGO_TARGET_TMPDIR")));
     let share = INPUTS.div_ceil(SEEDS.len());
     let met = with_runners(SEEDS.len(), |index, runner| compare(&server, runner, share, SEEDS[index]));
     let times = |refusal: usize| met.iter().map(|met| met[refusal]).sum::<usize>();

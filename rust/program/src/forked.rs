@@ -1,19 +1,17 @@
 //! The program in processes that are forked from one that is loaded: a run takes a quarter of the time.
 
+use crate::{built, found};
 use std::io::{Read, Result, Write};
 use std::os::unix::process::ExitStatusExt;
 use std::path::{Path, PathBuf};
 use std::process::{Child, ChildStdin, ChildStdout, Command, ExitStatus, Stdio};
 
-/// Builds the fork server (fork_server.c) over the object file that the program was linked from.
-pub fn build() -> PathBuf {
-    let here = Path::new(env!("CARGO_MANIFEST_DIR"));
-    let object = here.join("../../target/obj/backbones.o");
-    assert!(object.exists(), "{} is missing: run `rt check backbones`", object.display());
-    let folder = Path::new(env!("CARGO_TARGET_TMPDIR"));
+/// Builds the fork server (fork_server.c) in a folder, over the object file that the program was linked from.
+pub fn build(folder: &Path) -> PathBuf {
+    let object = found(built("obj/backbones.o"));
     let (renamed, server) = (folder.join("program.o"), folder.join("fork_server"));
     succeed(Command::new("objcopy").arg("--redefine-sym=main=program").args([&object, &renamed]));
-    let source = here.join("tests/program/fork_server.c");
+    let source = Path::new(env!("CARGO_MANIFEST_DIR")).join("src/fork_server.c");
     let warnings = ["-std=c11", "-D_POSIX_C_SOURCE=200809L", "-Wall", "-Wextra", "-Wpedantic", "-Werror"];
     succeed(Command::new("gcc").args(warnings).args(["-O2", "-static", "-o"]).args([&server, &source, &renamed]));
     server

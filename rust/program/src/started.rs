@@ -1,5 +1,6 @@
-//! The program as the system starts it, at `target/bin/backbones` or where `BACKBONE_PROGRAM` says.
+//! The program as the system starts it.
 
+use crate::{found, path};
 use std::io::{pipe, Read, Write};
 use std::panic::resume_unwind;
 use std::path::PathBuf;
@@ -13,13 +14,6 @@ use std::time::{Duration, Instant};
 const PATIENCE: Duration = Duration::from_secs(20);
 /// Any pipe holds this many bytes.
 const PIPE: usize = 4096;
-
-fn path() -> PathBuf {
-    let path = std::env::var_os("BACKBONE_PROGRAM")
-        .map_or_else(|| PathBuf::from(env!("CARGO_MANIFEST_DIR")).join("../../target/bin/backbones"), PathBuf::from);
-    assert!(path.exists(), "{} is missing: run `rt check backbones`", path.display());
-    path
-}
 
 /// Runs the program on one input after the other.
 pub struct Runner {
@@ -80,7 +74,7 @@ impl Runner {
 
 /// Acts on a runner in each of some threads; one thread more ends runs that hang.
 pub fn with_runners<T: Send>(threads: usize, act: impl Fn(usize, &Runner) -> T + Sync) -> Vec<T> {
-    let runner = |_| Runner { path: path(), running: Mutex::new(None) };
+    let runner = |_| Runner { path: found(path()), running: Mutex::new(None) };
     let (runners, done) = ((0..threads).map(runner).collect::<Vec<_>>(), AtomicBool::new(false));
     let act = &act;
     thread::scope(|scope| {
