@@ -70,12 +70,17 @@ impl Budgets {
         budgets
     }
 
+    /// The ways to share a budget among two; none are listed without [`Budgets::with_shares`].
+    #[inline]
+    pub fn shares(&self, budget: usize) -> &[(u8, u8)] {
+        &self.shares[self.starts[budget] as usize..self.starts[budget + 1] as usize]
+    }
+
     /// The least cost of two rows within one budget, over all ways to share it.
     #[inline]
     pub fn least_share(&self, budget: usize, upper: &Row, lower: &Row) -> u32 {
-        let shares = self.starts[budget] as usize..self.starts[budget + 1] as usize;
         let mut least = NONE;
-        for (part, rest) in &self.shares[shares] {
+        for (part, rest) in self.shares(budget) {
             let upper = upper[*part as usize % MOST];
             least = least.min(upper.saturating_add(lower[*rest as usize % MOST]));
         }

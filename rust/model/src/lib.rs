@@ -5,17 +5,23 @@
 //! - [`sheet`]: a sheet, its words, the reader's refusals;
 //! - [`rules`]: the rules of a lawful layout, and the judge;
 //! - [`search`]: the best layout by trying every layout;
+//! - [`ranked`]: the best and the second best, by a search that leaves a branch early;
 //! - [`maker`]: the best layout by a table and a walk, in the caller's areas;
 //! - [`program`]: what the program prints;
-//! - [`random`]: random sheets, and damage to them.
+//! - [`random`]: random sheets, and damage to them;
+//! - [`depth`]: how many cuts are nested in a layout;
+//! - [`rounding`]: a rival that rounds at each cut.
 
 mod budgets;
 mod costs;
+pub mod depth;
 pub mod maker;
 mod one_sided;
 mod places;
 pub mod program;
 pub mod random;
+pub mod ranked;
+pub mod rounding;
 pub mod rules;
 pub mod search;
 pub mod sheet;
