@@ -23,11 +23,14 @@
 //! ```
 //!
 //! [`read`], [`make`] and [`judge`] are the library's own operations, on lists of words. [`Sheet`] builds such
-//! lists, [`Layout`] takes answers apart, [`Word`] names the fields of one word.
+//! lists, [`Layout`] takes answers apart, [`Word`] names the fields of one word. [`labels`] are a layout's used slots,
+//! [`faults`] the places at which it breaks a rule.
 //!
 //! One unit of length is an eighth of a printer's point. x counts from the left edge, heights downwards from the
 //! top.
 
+mod fault;
+mod label;
 mod layout;
 mod library;
 mod numbered;
@@ -36,6 +39,8 @@ mod rule;
 mod sheet;
 mod word;
 
+pub use fault::{faults, Fault};
+pub use label::{labels, true_numbers, Label};
 pub use layout::{split_stored, Layout};
 pub use library::{judge, lay_out, make, read, ColourSizes, Sizes};
 pub use refusal::Refusal;

@@ -1,9 +1,8 @@
 //! The page: where a sheet's units fall on it, and the text around the drawing.
 
-use crate::faults::Fault;
 use crate::parts;
-use crate::plan::{true_numbers, Plan};
-use backbone::{Aim, Layout, Side};
+use crate::plan::Plan;
+use backbone::{Aim, Fault, Layout, Side};
 use std::fmt::Write;
 
 const DRAWING_WIDTH: f64 = 600.0;
@@ -116,11 +115,12 @@ fn heading(panel: &Panel) -> String {
     let aim = if sheet.aim == Aim::Shortest { "shortest" } else { "fewest" };
     let (first, fill) = match &panel.plan.layout {
         None => ("no layout obeys rules 1 to 5".to_string(), RED),
-        Some(layout) if panel.plan.faults.contains(&Fault::Numbers) => {
-            let (labels, length) = true_numbers(sheet, &panel.plan.labels);
-            (format!("{}; in truth {labels} and {length}", stated(layout)), RED)
-        }
-        Some(layout) => (stated(layout), "#222222"),
+        Some(layout) => match panel.plan.faults.first() {
+            Some(Fault::FalseNumbers { found: (labels, length), .. }) => {
+                (format!("{}; in truth {labels} and {length}", stated(layout)), RED)
+            }
+            _ => (stated(layout), "#222222"),
+        },
     };
     let first = panel.title.clone().unwrap_or(first);
     let rest = format!("{side}, {aim}, gap {}, width {}", sheet.gap(), sheet.width());

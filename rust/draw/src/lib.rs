@@ -12,7 +12,6 @@
 //! ```
 
 pub mod examples;
-mod faults;
 mod frame;
 mod parts;
 mod plan;

@@ -1,8 +1,8 @@
 //! The parts of a layout: slots, backbones and drops, labels, sites, and the marks of a broken rule.
 
-use crate::faults::Fault;
 use crate::frame::{paint, text, Scale, LABEL_COLUMN, RED};
-use crate::plan::{Label, Plan};
+use crate::plan::Plan;
+use backbone::{Fault, Label};
 use std::fmt::Write;
 
 const LABEL_HEIGHT: f64 = 18.0;
@@ -67,7 +67,9 @@ pub fn labels(plan: &Plan, scale: &Scale) -> String {
             left - 10.0
         );
         svg.push_str(&label_box(label, left, middle));
-        if plan.faults.contains(&Fault::Label { slot: label.slot }) {
+        let is_above =
+            |fault: &Fault| matches!(fault, Fault::TooManyLabels { slots, .. } if slots.contains(&label.slot));
+        if plan.faults.iter().any(is_above) {
             svg.push_str(&red_box(left, middle));
         }
     }
@@ -138,19 +140,20 @@ fn mark(fault: &Fault, plan: &Plan, scale: &Scale) -> String {
         let site = plan.sheet.sites()[site];
         (scale.x(site.x), scale.y(site.y))
     };
+    let height = |slot: usize| scale.y(plan.sheet.slots()[slot]);
     match fault {
-        Fault::Site(site) => ring(point(*site), 11.0),
-        Fault::Near { site, height } => {
+        Fault::MixedColours { sites, .. } => sites.iter().map(|site| ring(point(*site), 11.0)).collect(),
+        Fault::NearSite { site, slot, .. } => {
             let (x, y) = point(*site);
-            ring((x, y), 11.0) + &bracket(x + 17.0, y, scale.y(*height))
+            ring((x, y), 11.0) + &bracket(x + 17.0, y, height(*slot))
         }
-        Fault::Close { upper, lower } => bracket(scale.right - 14.0, scale.y(*upper), scale.y(*lower)),
-        Fault::Crossing { x, height } => {
-            let (x, y) = (scale.x(*x), scale.y(*height));
+        Fault::CloseBackbones { upper, lower, .. } => bracket(scale.right - 14.0, height(*upper), height(*lower)),
+        Fault::Crossing { x, slot, .. } => {
+            let (x, y) = (scale.x(*x), height(*slot));
             line((x - 7.0, y - 7.0), (x + 7.0, y + 7.0), RED, 2.6)
                 + &line((x - 7.0, y + 7.0), (x + 7.0, y - 7.0), RED, 2.6)
         }
-        Fault::Label { .. } | Fault::Numbers => String::new(),
+        Fault::TooManyLabels { .. } | Fault::FalseNumbers { .. } => String::new(),
     }
 }
 

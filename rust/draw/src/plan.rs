@@ -1,19 +1,6 @@
 //! What is drawn: a sheet, its layout if there is one, its labels, and the judge's verdict.
 
-use crate::faults::{faults, Fault};
-use backbone::{judge, lay_out, split_stored, Layout, Refusal, Rule, Sheet, Side};
-
-/// A used slot.
-#[derive(Clone, Debug, PartialEq, Eq)]
-pub struct Label {
-    pub slot: usize,
-    pub height: u32,
-    pub left_end: u32,
-    /// The colour of its first site.
-    pub colour: usize,
-    /// Its sites, in sheet order.
-    pub sites: Vec<usize>,
-}
+use backbone::{faults, judge, labels, lay_out, split_stored, Fault, Label, Layout, Refusal, Rule, Sheet};
 
 pub struct Plan {
     pub sheet: Sheet,
@@ -47,31 +34,7 @@ impl Plan {
         let stored = [sheet.words(), layout.words()].concat();
         let broken = judge(&stored).expect("a layout of an accepted sheet");
         let labels = labels(&sheet, &layout);
-        let faults = broken.map_or_else(Vec::new, |rule| faults(&sheet, &layout, &labels, rule));
+        let faults = broken.map_or_else(Vec::new, |rule| faults(&sheet, &layout, rule));
         Plan { sheet, layout: Some(layout), labels, broken, faults }
     }
-}
-
-/// The count and the length that rule 6 asks for.
-pub fn true_numbers(sheet: &Sheet, labels: &[Label]) -> (u32, u32) {
-    let length = |label: &Label| {
-        let drops = label.sites.iter().map(|site| sheet.sites()[*site].y.abs_diff(label.height));
-        sheet.width() - label.left_end + drops.sum::<u32>()
-    };
-    (labels.len() as u32, labels.iter().map(length).sum())
-}
-
-/// The used slots, from the top downwards.
-pub fn labels(sheet: &Sheet, layout: &Layout) -> Vec<Label> {
-    let mut labels = Vec::new();
-    for (slot, height) in sheet.slots().iter().enumerate() {
-        let tied = |site: &usize| usize::from(layout.slots[*site]) == slot;
-        let sites: Vec<usize> = (0..sheet.sites().len()).filter(tied).collect();
-        let Some(first) = sites.first() else { continue };
-        let colour = sheet.sites()[*first].colour;
-        let least_x = sites.iter().map(|site| sheet.sites()[*site].x).min().unwrap_or(0);
-        let left_end = if sheet.side == Side::Two { 0 } else { least_x };
-        labels.push(Label { slot, height: *height, left_end, colour, sites });
-    }
-    labels
 }

@@ -1,8 +1,7 @@
 //! What goes wrong when lengths are rounded at each cut: a layout maker for one-sided, unbounded sheets that keeps
 //! them in tenths of a point. It is here to be drawn beside the exact one, and for nothing else.
 
-use crate::plan::{labels, true_numbers};
-use backbone::{Aim, Layout, Sheet, Side, Site};
+use backbone::{labels, true_numbers, Aim, Layout, Sheet, Side, Site};
 use std::collections::HashMap;
 
 /// A length in fortieths of a point: an eighth is 5 of them, a tenth 4.
@@ -40,7 +39,7 @@ pub fn lay_out(sheet: &Sheet) -> Option<Layout> {
     for (site, slot) in &rest.ties {
         layout.slots[*site] = *slot as u8;
     }
-    (layout.labels, layout.length) = true_numbers(sheet, &labels(sheet, &layout));
+    (layout.labels, layout.length) = true_numbers(&labels(sheet, &layout));
     Some(layout)
 }
 

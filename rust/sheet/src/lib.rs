@@ -13,6 +13,10 @@
 //! A word may also be written as a number, `0x20000005`; words that have no name are shown so. Blank lines and
 //! what follows a `#` are left out. Every list of words is shown as a text that encodes to the same list.
 
+mod names;
+
+pub use names::Names;
+
 use backbone::{Aim, FormError, Side, Word};
 use std::fmt;
 
