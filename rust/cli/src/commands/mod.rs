@@ -1,0 +1,6 @@
+//! The subcommands, one module each.
+
+pub mod check;
+pub mod convert;
+pub mod draw;
+pub mod lay_out;
