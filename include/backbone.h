@@ -1,8 +1,8 @@
-/* Backbone labelling of parts sheets: the C interface of the static library libcabi.a.
+/* Backbone labelling of parts sheets: the C interface of the proved library, libbackbone.
  *
  * A sheet, a layout and a stored sheet are lists of 32-bit words. No function keeps a pointer, allocates or
- * touches anything but the areas that it is given. Areas must not overlap, and no pointer may be null, not even
- * that of an area without words. */
+ * touches anything but the areas that it is given. Areas must not overlap and are aligned as uint32_t is.
+ * A pointer may be null where its length is 0. */
 #ifndef BACKBONE_H
 #define BACKBONE_H
 

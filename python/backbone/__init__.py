@@ -1,0 +1,31 @@
+"""Backbone labelling of parts sheets, over the proved shared library.
+
+A sheet, a layout and a stored sheet are lists of 32-bit words. `read`, `make` and `judge` are the library's operations;
+`head`, `slot`, `colour` and `site` make the words of a sheet. A refusal is raised as `Refused`.
+
+>>> from backbone import colour, head, make, site, slot
+>>> sheet = [head(gap=2, width=8), slot(2), slot(5), slot(8)]
+>>> sheet += [colour(), site(2, 4), site(6, 6), colour(bound=1), site(4, 5)]
+>>> make(sheet)
+Layout(labels=2, length=19, slots=(0, 0, 2))
+"""
+
+from .library import judge, make, read
+from .results import ColourSizes, Layout, Refusal, Refused, Rule, Sizes
+from .words import colour, head, site, slot
+
+__all__ = [
+    "ColourSizes",
+    "Layout",
+    "Refusal",
+    "Refused",
+    "Rule",
+    "Sizes",
+    "colour",
+    "head",
+    "judge",
+    "make",
+    "read",
+    "site",
+    "slot",
+]

@@ -1,0 +1,145 @@
+"""The library's operations on lists of words, by ctypes. All that touches memory stands here."""
+
+from __future__ import annotations
+
+import ctypes
+import os
+from array import array
+from functools import lru_cache
+from pathlib import Path
+from typing import Any, Iterable, Optional, Union
+
+from .results import ColourSizes, Layout, Refusal, Refused, Rule, Sizes
+
+MOST_COLOURS = 8
+MOST_SITES = 32
+_NAME = "libbackbone.so.0"
+
+Words = Union[bytes, Iterable[int]]
+"""A list of words: numbers from 0 to 2^32 - 1, or bytes with the lowest of each word first."""
+
+_Array = ctypes.Array
+"""Words that the library may be given."""
+
+Area = Any
+"""A buffer of unsigned 32-bit words that can be written to: array("I"), a ctypes or a NumPy array, a memoryview."""
+
+
+class _Colour(ctypes.Structure):
+    _fields_ = [("bound", ctypes.c_uint8), ("sites", ctypes.c_uint8)]
+
+
+class _Sizes(ctypes.Structure):
+    _fields_ = [
+        ("refusal", ctypes.c_uint8),
+        ("n", ctypes.c_uint8),
+        ("m", ctypes.c_uint8),
+        ("c", ctypes.c_uint8),
+        ("p", ctypes.c_uint8),
+        ("work", ctypes.c_uint32),
+        ("colours", _Colour * MOST_COLOURS),
+    ]
+
+
+class _Verdict(ctypes.Structure):
+    _fields_ = [("refusal", ctypes.c_uint8), ("rule", ctypes.c_uint8)]
+
+
+def _path() -> str:
+    """The library in the folder that BACKBONE_LIBRARY names, or in that of ./install, or where the system has it."""
+    named = os.environ.get("BACKBONE_LIBRARY")
+    if named:
+        return str(Path(named) / _NAME)
+    # ./install puts this file at PREFIX/share/backbone/python/backbone/library.py
+    above = Path(__file__).resolve().parents
+    installed = above[min(4, len(above) - 1)] / "lib" / _NAME
+    return str(installed) if installed.exists() else _NAME
+
+
+@lru_cache(maxsize=None)
+def _library() -> ctypes.CDLL:
+    try:
+        library = ctypes.CDLL(_path())
+    except OSError as error:
+        hint = "./install PREFIX makes it, and BACKBONE_LIBRARY names the folder that has it"
+        raise ImportError(f"the proved library can't be loaded: {error} ({hint})") from error
+    words, count = ctypes.POINTER(ctypes.c_uint32), ctypes.c_size_t
+    library.backbone_read.argtypes, library.backbone_read.restype = [words, count], _Sizes
+    library.backbone_judge.argtypes, library.backbone_judge.restype = [words, count], _Verdict
+    library.backbone_make.argtypes = [words, count, words, count, words, count]
+    library.backbone_make.restype = ctypes.c_uint32
+    return library
+
+
+def _own(count: int) -> _Array:
+    """An area of zeros."""
+    return (ctypes.c_uint32 * count)()
+
+
+def _copied(words: Words) -> _Array:
+    """A copy of the words, which no caller can change. A number that is no word is an OverflowError or a TypeError."""
+    own = array("I", words)
+    return (ctypes.c_uint32 * len(own)).from_buffer(own)
+
+
+def _lent(name: str, area: Area) -> _Array:
+    """The caller's own words."""
+    view = memoryview(area)
+    if view.format not in ("I", "<I", "=I", "@I") or view.readonly or not view.c_contiguous:
+        raise TypeError(f"the {name} area is no buffer of unsigned 32-bit words that can be written to")
+    if view.nbytes == 0:
+        return _own(0)
+    words = (ctypes.c_uint32 * (view.nbytes // 4)).from_buffer(view)
+    if ctypes.addressof(words) % 4 != 0:
+        raise ValueError(f"the {name} area is not aligned to its words")
+    return words
+
+
+def _overlap(one: _Array, other: _Array) -> bool:
+    first, second = ctypes.addressof(one), ctypes.addressof(other)
+    return first < second + ctypes.sizeof(other) and second < first + ctypes.sizeof(one)
+
+
+def _refuse(number: int) -> None:
+    if number != 0:
+        raise Refused(Refusal(number))
+
+
+def _read(words: _Array) -> Sizes:
+    raw = _library().backbone_read(words, len(words))
+    _refuse(raw.refusal)
+    colours = tuple(ColourSizes(colour.bound, colour.sites) for colour in raw.colours)
+    return Sizes(raw.n, raw.m, raw.c, raw.p, raw.work, colours)
+
+
+def read(sheet: Words) -> Sizes:
+    """Reads a sheet; refusals 1 to 7."""
+    return _read(_copied(sheet))
+
+
+def judge(stored: Words) -> Optional[Rule]:
+    """Judges a stored sheet, which is a sheet followed by a layout; refusals 1 to 7 and 11.
+
+    Gives the least broken rule, or None if the layout is lawful.
+    """
+    words = _copied(stored)
+    verdict = _library().backbone_judge(words, len(words))
+    _refuse(verdict.refusal)
+    return Rule(verdict.rule) if verdict.rule else None
+
+
+def make(sheet: Words, work: Optional[Area] = None, answer: Optional[Area] = None) -> Layout:
+    """Lays out a sheet: its best layout; refusals 1 to 10.
+
+    An area that is not given is allocated here, as long as needed: a MemoryError where that can't be had. In areas of
+    the caller, the layout's words are the first of `answer`, and the needed words of `work` are zero afterwards; what
+    stood there plays no part.
+    """
+    words = _copied(sheet)
+    work_words = _own(_read(words).work_words) if work is None else _lent("work", work)
+    answer_words = _own(MOST_SITES + 1) if answer is None else _lent("answer", answer)
+    if _overlap(work_words, answer_words):
+        raise ValueError("the areas overlap")
+    number = _library().backbone_make(words, len(words), work_words, len(work_words), answer_words, len(answer_words))
+    _refuse(number)
+    return Layout.from_words(answer_words[: _read(words).answer_words])

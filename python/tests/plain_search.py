@@ -1,0 +1,117 @@
+"""The rules of a lawful layout, and the best layout of a tiny sheet by a search over all of them.
+
+Written from the rules alone; nothing of the module under test is used.
+"""
+
+from __future__ import annotations
+
+from itertools import combinations, product
+from typing import List, NamedTuple, Optional, Tuple
+
+Ties = Tuple[int, ...]
+UNBOUNDED = 255
+
+
+class Site(NamedTuple):
+    x: int
+    y: int
+    colour: int
+
+
+class Sheet(NamedTuple):
+    two_sided: bool
+    shortest: bool
+    gap: int
+    width: int
+    slots: Tuple[int, ...]
+    bounds: Tuple[int, ...]
+    sites: Tuple[Site, ...]
+
+    def words(self) -> List[int]:
+        words = [1 << 28 | self.two_sided << 27 | self.shortest << 26 | self.gap << 14 | self.width]
+        words += [2 << 28 | height for height in self.slots]
+        for colour, bound in enumerate(self.bounds):
+            words.append(3 << 28 | bound)
+            words += [4 << 28 | site.x << 14 | site.y for site in self.sites if site.colour == colour]
+        return words
+
+
+def left_end(sheet: Sheet, ties: Ties, slot: int) -> int:
+    if sheet.two_sided:
+        return 0
+    return min(site.x for site, own in zip(sheet.sites, ties) if own == slot)
+
+
+def shares_colour(sheet: Sheet, ties: Ties) -> bool:
+    """Rule 1."""
+    tied = list(zip(sheet.sites, ties))
+    return all(one.colour == other.colour for (one, a), (other, b) in combinations(tied, 2) if a == b)
+
+
+def keeps_bounds(sheet: Sheet, ties: Ties) -> bool:
+    """Rule 2."""
+    used = {(site.colour, slot) for site, slot in zip(sheet.sites, ties)}
+    counts = [sum(1 for own, _ in used if own == colour) for colour in range(len(sheet.bounds))]
+    return all(count <= bound or bound == UNBOUNDED for count, bound in zip(counts, sheet.bounds))
+
+
+def keeps_apart(sheet: Sheet, ties: Ties) -> bool:
+    """Rule 3."""
+    heights = [sheet.slots[slot] for slot in set(ties)]
+    return all(abs(one - other) >= sheet.gap for one, other in combinations(heights, 2))
+
+
+def crosses_none(sheet: Sheet, ties: Ties) -> bool:
+    """Rule 4."""
+    for site, own in zip(sheet.sites, ties):
+        top, bottom = sorted((site.y, sheet.slots[own]))
+        for slot in set(ties) - {own}:
+            if left_end(sheet, ties, slot) <= site.x <= sheet.width and top <= sheet.slots[slot] <= bottom:
+                return False
+    return True
+
+
+def clears_sites(sheet: Sheet, ties: Ties) -> bool:
+    """Rule 5."""
+    for slot in set(ties):
+        left = left_end(sheet, ties, slot)
+        others = (site for site, own in zip(sheet.sites, ties) if own != slot and site.x >= left)
+        if any(abs(sheet.slots[slot] - site.y) < sheet.gap for site in others):
+            return False
+    return True
+
+
+def count_and_length(sheet: Sheet, ties: Ties) -> Tuple[int, int]:
+    """The true numbers of rule 6."""
+    used = set(ties)
+    backbones = sum(sheet.width - left_end(sheet, ties, slot) for slot in used)
+    drops = sum(abs(sheet.slots[slot] - site.y) for site, slot in zip(sheet.sites, ties))
+    return len(used), backbones + drops
+
+
+RULES = (shares_colour, keeps_bounds, keeps_apart, crosses_none, clears_sites)
+
+
+def broken_rule(sheet: Sheet, ties: Ties, stated: Tuple[int, int]) -> Optional[int]:
+    """The number of the least broken rule."""
+    for number, rule in enumerate(RULES, start=1):
+        if not rule(sheet, ties):
+            return number
+    return None if stated == count_and_length(sheet, ties) else 6
+
+
+def best(sheet: Sheet) -> Optional[Tuple[int, int, Ties]]:
+    """The count, the length and the ties of the best layout, if there is one."""
+    by_x = sorted(range(len(sheet.sites)), key=lambda site: sheet.sites[site].x)
+
+    def order(ties: Ties) -> Tuple[int, ...]:
+        count, length = count_and_length(sheet, ties)
+        cost = (length, count) if sheet.shortest else (count, length)
+        return cost + tuple(ties[site] for site in by_x)
+
+    every = product(range(len(sheet.slots)), repeat=len(sheet.sites))
+    lawful = [ties for ties in every if all(rule(sheet, ties) for rule in RULES)]
+    if not lawful:
+        return None
+    first = min(lawful, key=order)
+    return (*count_and_length(sheet, first), first)

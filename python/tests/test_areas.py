@@ -1,0 +1,84 @@
+"""Areas of the caller: dirty ones, short ones, and what is no area."""
+
+import ctypes
+import unittest
+from array import array
+
+from backbone import Layout, Refusal, Refused, make, read
+
+from .test_drawn import REST, SHEET_A
+
+WORK, ANSWER, SPARE = 900, 4, 3
+DIRT = 0xDEADBEEF
+BEST = Layout(2, 19, (0, 0, 2))
+
+
+def dirty(count):
+    return array("I", [DIRT] * count)
+
+
+class Areas(unittest.TestCase):
+    def assert_refused(self, refusal, sheet, work, answer):
+        with self.assertRaises(Refused) as raised:
+            make(sheet, work, answer)
+        self.assertIs(raised.exception.refusal, refusal)
+
+    def test_layout_in_dirty_areas(self):
+        for spare in (0, SPARE):
+            work, answer = dirty(WORK + spare), dirty(ANSWER + spare)
+            self.assertEqual(make(SHEET_A, work, answer), BEST)
+            self.assertEqual(work, array("I", [0] * WORK) + dirty(spare))
+            self.assertEqual(answer, array("I", BEST.words()) + dirty(spare))
+
+    def test_no_layout_in_dirty_areas(self):
+        work, answer = dirty(WORK + SPARE), dirty(ANSWER)
+        self.assert_refused(Refusal.NO_LAYOUT, [0x10010008] + REST, work, answer)
+        self.assertEqual(work, array("I", [0] * WORK) + dirty(SPARE))
+        self.assertEqual(answer, dirty(ANSWER))
+
+    def test_short_areas_are_left(self):
+        for refusal, work_words, answer_words in (
+            (Refusal.WORK_TOO_SHORT, WORK - 1, ANSWER),
+            (Refusal.WORK_TOO_SHORT, 0, 0),
+            (Refusal.ANSWER_TOO_SHORT, WORK, ANSWER - 1),
+            (Refusal.ANSWER_TOO_SHORT, WORK, 0),
+        ):
+            work, answer = dirty(work_words), dirty(answer_words)
+            self.assert_refused(refusal, SHEET_A, work, answer)
+            self.assertEqual((work, answer), (dirty(work_words), dirty(answer_words)))
+
+    def test_one_area_given(self):
+        self.assertEqual(make(SHEET_A, work=dirty(WORK)), BEST)
+        self.assertEqual(make(SHEET_A, answer=dirty(ANSWER)), BEST)
+
+    def test_other_buffers(self):
+        self.assertEqual(make(SHEET_A, work=(ctypes.c_uint32 * WORK)()), BEST)
+        whole = dirty(WORK + 2 * SPARE)
+        self.assertEqual(make(SHEET_A, work=memoryview(whole)[SPARE:-SPARE]), BEST)
+        self.assertEqual(whole, dirty(SPARE) + array("I", [0] * WORK) + dirty(SPARE))
+
+    def test_what_is_no_area(self):
+        for area in ([0] * WORK, bytes(4 * WORK), array("B", [0] * WORK), array("Q", [0] * WORK), "words"):
+            with self.subTest(area=type(area)), self.assertRaises(TypeError):
+                make(SHEET_A, work=area)
+        every_other = memoryview(array("I", [0] * 2 * WORK))[::2]
+        self.assertRaises(TypeError, make, SHEET_A, work=every_other)
+
+    def test_areas_that_overlap_or_are_not_aligned(self):
+        whole = array("I", [0] * (WORK + ANSWER))
+        view = memoryview(whole)
+        self.assertRaises(ValueError, make, SHEET_A, view[:WORK], view[WORK - 1 :])
+        self.assertEqual(make(SHEET_A, view[:WORK], view[WORK:]), BEST)
+        odd = memoryview(bytearray(4 * WORK + 8))[1 : 4 * WORK + 1].cast("I")
+        self.assertRaises(ValueError, make, SHEET_A, odd)
+
+    def test_words_of_any_list(self):
+        as_bytes = b"".join(word.to_bytes(4, "little") for word in SHEET_A)
+        for sheet in (tuple(SHEET_A), iter(SHEET_A), array("I", SHEET_A), as_bytes, bytearray(as_bytes)):
+            self.assertEqual(make(sheet), BEST)
+        for words, error in (([-1], OverflowError), ([2**32], OverflowError), (["1"], TypeError), (b"123", ValueError)):
+            self.assertRaises(error, read, words)
+
+
+if __name__ == "__main__":
+    unittest.main()

@@ -1,0 +1,75 @@
+"""The format's drawn examples: sheet A, its heads, and the judge on its layouts."""
+
+import unittest
+
+from backbone import Layout, Refusal, Refused, Rule, judge, make, read
+
+HEAD = 0x10008008
+REST = [0x20000002, 0x20000005, 0x20000008, 0x300000FF, 0x40008004, 0x40018006, 0x300000FF, 0x40010005]
+SHEET_A = [HEAD] + REST
+
+
+class Drawn(unittest.TestCase):
+    def assert_refused(self, refusal, call, *arguments, **named):
+        with self.assertRaises(Refused) as raised:
+            call(*arguments, **named)
+        self.assertIs(raised.exception.refusal, refusal)
+
+    def test_sizes_of_a(self):
+        sizes = read(SHEET_A)
+        self.assertEqual((sizes.sites, sizes.slots, sizes.colours, sizes.budgets), (3, 3, 2, 1))
+        self.assertEqual((sizes.work_words, sizes.answer_words), (900, 4))
+        self.assertEqual(sizes.each_colour, ((255, 2), (255, 1)) + ((0, 0),) * 6)
+
+    def test_a_and_its_heads(self):
+        drawn = {
+            0x10008008: (2, 19, (0, 0, 2)),
+            0x14008008: (3, 18, (0, 1, 2)),
+            0x18008008: (2, 25, (0, 0, 2)),
+            0x1000C008: (2, 19, (2, 2, 0)),
+        }
+        for head, layout in drawn.items():
+            with self.subTest(head=hex(head)):
+                self.assertEqual(make([head] + REST), layout)
+        self.assertEqual(make(SHEET_A).words()[0], 0x80400013)
+
+    def test_no_layout(self):
+        self.assert_refused(Refusal.NO_LAYOUT, make, [0x10010008] + REST)
+        no_labels = SHEET_A[:7] + [0x30000000, 0x40010005]
+        self.assert_refused(Refusal.NO_LAYOUT, make, no_labels)
+
+    def test_head_alone(self):
+        self.assertEqual(make([HEAD]), Layout(0, 0, ()))
+
+    def test_judge_on_a(self):
+        verdicts = {
+            (2, 19, (0, 0, 2)): None,
+            (2, 19, (2, 2, 0)): None,
+            (2, 18, (2, 2, 0)): Rule.TRUE_NUMBERS,
+            (2, 19, (0, 0, 1)): Rule.NO_CROSSING,
+            (1, 19, (0, 0, 0)): Rule.SHARED_SLOT_SHARED_COLOUR,
+        }
+        for layout, verdict in verdicts.items():
+            with self.subTest(layout=layout):
+                self.assertEqual(judge(SHEET_A + list(Layout(*layout).words())), verdict)
+
+    def test_edges(self):
+        one = [HEAD, 0x20000002, 0x300000FF]
+        self.assertEqual(read(one + [4 << 28 | 8 << 14]).sites, 1)
+        self.assert_refused(Refusal.SITE_BEYOND_WIDTH, read, one + [4 << 28 | 9 << 14])
+        self.assertEqual(read([HEAD, 0x30000007, 0x30000007]).budgets, 64)
+        self.assert_refused(Refusal.TOO_MANY_BUDGETS, read, [HEAD, 0x30000007, 0x30000008])
+
+    def test_refusals_of_lists(self):
+        self.assert_refused(Refusal.NO_HEAD, read, [])
+        self.assert_refused(Refusal.NO_HEAD, judge, [])
+        self.assert_refused(Refusal.NO_HEAD, make, [])
+        self.assert_refused(Refusal.BAD_WORD, read, [HEAD, HEAD])
+        self.assert_refused(Refusal.TOO_MANY, read, [HEAD] + [0x300000FF] * 9)
+        self.assert_refused(Refusal.SLOTS_NOT_RISING, read, [HEAD, 0x20000002, 0x20000002])
+        self.assert_refused(Refusal.EQUAL_X, read, [HEAD, 0x300000FF, 0x40008004, 0x40008005])
+        self.assert_refused(Refusal.BAD_LAYOUT, judge, SHEET_A)
+
+
+if __name__ == "__main__":
+    unittest.main()

@@ -1,0 +1,54 @@
+"""Random tiny sheets: the maker beside a search over all layouts, the judge beside the rules."""
+
+import unittest
+from collections import Counter
+from itertools import product
+from random import Random
+
+from backbone import Layout, Refusal, Refused, judge, make
+
+from .plain_search import UNBOUNDED, Sheet, Site, best, broken_rule, count_and_length
+
+SHEETS = 6000
+STORED = 20000
+
+
+def tiny_sheet(random):
+    """At most 4 slots, 3 colours and 5 sites, near each other, so that every rule matters."""
+    width = random.randint(5, 12)
+    slots = tuple(sorted(random.sample(range(12), random.randint(1, 4))))
+    bounds = tuple(random.choice((UNBOUNDED, UNBOUNDED, 0, 1, 1, 2)) for _ in range(random.randint(1, 3)))
+    xs = random.sample(range(width + 1), random.randint(0, 5))
+    sites = sorted((Site(x, random.randint(0, 12), random.randrange(len(bounds))) for x in xs), key=lambda site: site.colour)
+    return Sheet(random.random() < 0.4, random.random() < 0.5, random.randint(1, 3), width, slots, bounds, tuple(sites))
+
+
+class Search(unittest.TestCase):
+    def test_maker(self):
+        random, met = Random(16), Counter()
+        for _ in range(SHEETS):
+            sheet = tiny_sheet(random)
+            try:
+                made = tuple(make(sheet.words()))
+            except Refused as refused:
+                self.assertIs(refused.refusal, Refusal.NO_LAYOUT, sheet)
+                made = None
+            self.assertEqual(made, best(sheet), sheet)
+            met[sheet.two_sided, made is None] += 1
+        self.assertGreater(min(met[kind] for kind in product((False, True), repeat=2)), SHEETS // 50, met)
+
+    def test_judge(self):
+        random, met = Random(17), Counter()
+        for _ in range(STORED):
+            sheet = tiny_sheet(random)
+            ties = tuple(random.randrange(len(sheet.slots)) for _ in sheet.sites)
+            count, length = count_and_length(sheet, ties)
+            stated = (count, length + random.choice((0, 0, 0, 1)))
+            verdict = judge(sheet.words() + list(Layout(*stated, ties).words()))
+            self.assertEqual(verdict, broken_rule(sheet, ties, stated), (sheet, ties))
+            met[verdict] += 1
+        self.assertGreater(min(met[verdict] for verdict in (None, 1, 2, 3, 4, 5, 6)), STORED // 300, met)
+
+
+if __name__ == "__main__":
+    unittest.main()

@@ -1,0 +1,101 @@
+/* The areas of the C interface: null pointers, lengths on both sides of what is needed, and every word of the areas
+ * afterwards. Prints what does not hold, and ends with 1 if anything does not. */
+#include "backbone.h"
+
+#include <stdio.h>
+#include <stdlib.h>
+#include <string.h>
+
+enum { WORDS = 9, WORK = 900, ANSWER = 4, SPARE = 3, DIRT = 0x5A };
+
+/* Sheet A of the format's drawn examples: 900 work words, 4 answer words. */
+static const uint32_t sheet[WORDS] = {0x10008008, 0x20000002, 0x20000005, 0x20000008, 0x300000FF,
+                                      0x40008004, 0x40018006, 0x300000FF, 0x40010005};
+static const uint32_t best[ANSWER] = {0x80400013, 0x90000000, 0x90000000, 0x90000002};
+
+static int failures = 0;
+
+static void expect(int holds, const char *what) {
+    if (!holds) {
+        fprintf(stderr, "does not hold: %s\n", what);
+        failures++;
+    }
+}
+
+/* An area of its own on the heap, so that a tool that looks for accesses past its end finds them. */
+static uint32_t *dirty(size_t words) {
+    uint32_t *area = malloc(words * sizeof *area);
+    if (area == NULL && words > 0) {
+        fputs("no memory\n", stderr);
+        exit(3);
+    }
+    if (words > 0) {
+        memset(area, DIRT, words * sizeof *area);
+    }
+    return area;
+}
+
+static int all_are(const uint32_t *area, size_t from, size_t to, uint32_t word) {
+    while (from < to && area[from] == word) {
+        from++;
+    }
+    return from == to;
+}
+
+static int is_dirty(const uint32_t *area, size_t from, size_t to) {
+    return all_are(area, from, to, DIRT * 0x01010101u);
+}
+
+static void null_lists(void) {
+    expect(backbone_read(NULL, 0).refusal == BACKBONE_NO_HEAD, "the reader refuses a null list with 1");
+    expect(backbone_judge(NULL, 0).refusal == BACKBONE_NO_HEAD, "the judge refuses a null list with 1");
+    expect(backbone_make(NULL, 0, NULL, 0, NULL, 0) == BACKBONE_NO_HEAD, "the maker refuses a null list with 1");
+}
+
+/* What malloc gives for no words is null or not; both serve. */
+static void no_words(void) {
+    uint32_t *none = dirty(0);
+    expect(backbone_read(none, 0).refusal == BACKBONE_NO_HEAD, "the reader refuses a list of no words with 1");
+    expect(backbone_make(sheet, WORDS, none, 0, NULL, 0) == BACKBONE_WORK_TOO_SHORT, "8 with a work area of no words");
+    free(none);
+}
+
+static void null_areas(void) {
+    uint32_t *work = dirty(WORK), *answer = dirty(ANSWER);
+    expect(backbone_make(sheet, WORDS, NULL, 0, answer, ANSWER) == BACKBONE_WORK_TOO_SHORT, "8 with a null work area");
+    expect(is_dirty(answer, 0, ANSWER), "8 with a null work area leaves the answer area");
+    expect(backbone_make(sheet, WORDS, work, WORK, NULL, 0) == BACKBONE_ANSWER_TOO_SHORT, "9 with a null answer area");
+    expect(is_dirty(work, 0, WORK), "9 with a null answer area leaves the work area");
+    expect(backbone_make(sheet, WORDS, NULL, 0, NULL, 0) == BACKBONE_WORK_TOO_SHORT, "8 comes before 9");
+    free(work);
+    free(answer);
+}
+
+static void short_areas(void) {
+    uint32_t *work = dirty(WORK), *answer = dirty(ANSWER);
+    expect(backbone_make(sheet, WORDS, work, WORK - 1, answer, ANSWER) == BACKBONE_WORK_TOO_SHORT, "899 work words give 8");
+    expect(backbone_make(sheet, WORDS, work, WORK, answer, ANSWER - 1) == BACKBONE_ANSWER_TOO_SHORT, "3 answer words give 9");
+    expect(is_dirty(work, 0, WORK) && is_dirty(answer, 0, ANSWER), "8 and 9 leave both areas");
+    free(work);
+    free(answer);
+}
+
+static void areas_with_spare(size_t spare) {
+    uint32_t *work = dirty(WORK + spare), *answer = dirty(ANSWER + spare);
+    expect(backbone_make(sheet, WORDS, work, WORK + spare, answer, ANSWER + spare) == BACKBONE_ACCEPTED, "a layout");
+    expect(memcmp(answer, best, sizeof best) == 0, "the best layout of sheet A");
+    expect(all_are(work, 0, WORK, 0), "the needed work words are zero");
+    expect(is_dirty(work, WORK, WORK + spare) && is_dirty(answer, ANSWER, ANSWER + spare), "what is spare is left");
+    free(work);
+    free(answer);
+}
+
+int main(void) {
+    null_lists();
+    no_words();
+    null_areas();
+    short_areas();
+    areas_with_spare(0);
+    areas_with_spare(SPARE);
+    return failures == 0 ? 0 : 1;
+}
