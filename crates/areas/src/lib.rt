@@ -1,4 +1,6 @@
 // The work area after a call: what both halves do last.
+pub mod room;
+
 ghost use mathlib.Core.Path.{_≡_};
 ghost use mathlib.Core.List.{_++_};
 ghost use Prim.Native.Nat.{_≤_};

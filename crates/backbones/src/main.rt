@@ -5,16 +5,16 @@ ghost use Prim.Native.Nat.{_≤_};
 ghost use lib.Dec.{eqb};
 ghost use lib.ListN.{length};
 ghost use Rattle.sheet.specs.Sheet.{sheetIn};
-ghost use Rattle.lines.specs.Text.{written, pastOf};
-ghost use Rattle.lines.specs.Lines.{refusedLine, layoutText};
-ghost use Rattle.lines.specs.Report.{programSheetText, programText, reportSize, reportArea};
-use input::is_unfit;
-use input::wide;
+ghost use Rattle.report.specs.Text.{written, pastOf};
+ghost use Rattle.report.specs.Lines.{refusedLine, layoutText};
+ghost use Rattle.report.specs.Report.{programSheetText, programText, reportSize, reportArea};
+use report::input::is_unfit;
+use report::input::wide;
 use libc::STDIN_FILENO;
 use libc::STDOUT_FILENO;
-use lines::put_layout;
-use lines::put_refused;
-use lines::put_words;
+use report::put_layout;
+use report::put_refused;
+use report::put_words;
 use maker::make_layout;
 
 // Bytes that hold every text: a first line of at most 36 and 32 lines of at most 50.

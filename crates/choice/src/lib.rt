@@ -1,4 +1,7 @@
 // One step of the one-sided walk: the lowest slot that keeps the least cost.
+pub mod kept;
+pub mod ties;
+
 ghost use mathlib.Core.Path.{_≡_};
 ghost use Prim.Native.Nat.{_+_, _-_, _<_};
 ghost use lib.ListN.{length};
@@ -48,7 +51,7 @@ pub fn choose_slot(
     let mut k: u32 = 0;
     while k < m {
         let step = strips::step_of(q, heights, bounds, radices, draws, p, s, left.budget, k);
-        if kept::keeps_cost(
+        if crate::kept::keeps_cost(
             parts,
             counts,
             work,

@@ -1,4 +1,6 @@
 // A cost in one word, count and length by the aim: from both, and to a layout's first word.
+pub mod masks;
+
 ghost use mathlib.Core.Path.{_≡_};
 ghost use Prim.Native.Nat.{_<_};
 ghost use Rattle.costs.specs.Costs.{wordBy, headWord};

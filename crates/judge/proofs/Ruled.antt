@@ -19,8 +19,8 @@ use Rattle.decoding.proofs.Fields.{bounds-long, xs-long, ys-long, colours-long}
 use Rattle.decoding.proofs.Whole.{front}
 use Rattle.decoding.proofs.Places.{padded-at, padded-long, ys-at, decoded}
 use Rattle.words.specs.declared.tied.Head.{Head}
-use Rattle.rules.specs.Model.{Fits, Low, brokenOn}
-use Rattle.rules.proofs.Kept.{broken-is}
+use Rattle.judge.specs.Model.{Fits, Low, brokenOn}
+use Rattle.judge.proofs.stored.Kept.{broken-is}
 
 y-low : (ss : List Site) (i : ℕ) → all lowY ss ≡ true → (getD ss i noSite) .y < 16384
 unfolding all

@@ -1,1 +1,3 @@
 pub mod Judge
+pub mod Pairs
+pub mod Model

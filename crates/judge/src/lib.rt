@@ -1,21 +1,23 @@
 // The judge: a refusal, or the least broken rule of a stored sheet.
+pub mod stored;
+
 ghost use mathlib.Core.Path.{_≡_};
 ghost use mathlib.Core.Bool.{true};
 ghost use Rattle.sheet.specs.Sheet.{sheetIn, sheetFault};
 ghost use Rattle.labelling.specs.Layout.{isLayout, brokenBy};
 ghost use Rattle.judge.specs.Judge.{judgePost, partsPost};
-use counts::count_kind;
+use refusals::counts::count_kind;
 use decoding::bounds_of;
 use decoding::colours_of;
 use decoding::head_of;
 use decoding::heights_of;
 use decoding::xs_of;
 use decoding::ys_of;
-use faults::sheet_fault;
-use refusals::body_of;
-use refusals::layouts::is_layout;
-use refusals::layouts::layout_start;
-use rules::rulings::broken_by;
+use reader::faults::sheet_fault;
+use reader::scans::body_of;
+use reader::scans::layouts::is_layout;
+use reader::scans::layouts::layout_start;
+use crate::stored::rulings::broken_by;
 
 // refusal: 1 to 7 or 11, 0 for none. rule: the least broken one, 0 for none and beside a refusal.
 #[repr(C)]

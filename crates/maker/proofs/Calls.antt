@@ -14,8 +14,8 @@ use Rattle.labelling.specs.Promise.{areWords, takesSheet}
 use Rattle.labelling.proofs.Maker.{Result, Serves, refused-sheet, refused-work, refused-out}
 use Rattle.labelling.proofs.Kept.{areas-kept}
 use Rattle.labelling.proofs.Loosened.{work-less, fault-loose, area-loose, work-zeroed, takes-loose}
-use Rattle.room.specs.Room.{roomFault}
-use Rattle.room.proofs.Room.{room-sheet, room-work, room-out, room-enough, by-room, room}
+use Rattle.areas.specs.Room.{roomFault}
+use Rattle.areas.proofs.room.Room.{room-sheet, room-work, room-out, room-enough, by-room, room}
 use Rattle.reader.specs.declared.Sizes.{Sizes}
 use Rattle.reader.specs.Read.{readPost}
 use Rattle.reader.proofs.Reading.{reading, refusal-is}

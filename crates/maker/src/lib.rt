@@ -5,7 +5,7 @@ ghost use lib.ListN.{length};
 ghost use Rattle.sheet.specs.Sheet.{sheetIn, productOf, workFor};
 ghost use Rattle.labelling.specs.Entry.{makeFault, makeAnswer, makeWork, zeroed};
 ghost use Rattle.labelling.specs.Promise.{takesSheet};
-use room::room_fault;
+use areas::room::room_fault;
 
 // Zeros the words from a place up to another.
 fn clear_from(work: &mut [u32], from: usize, to: usize)
@@ -50,7 +50,7 @@ fn lay_loosened(sheet: &[u32], needed: usize, work: &mut [u32], out: &mut [u32])
     ensures { λ _. ⌜ now (work .exit) ≡ makeWork (now (sheet .entry)) (now (work .entry)) (now (out .entry)) ⌝ }
     ensures { λ _. ⌜ now (out .exit) ≡ makeAnswer (now (sheet .entry)) (now (work .entry)) (now (out .entry)) ⌝ }
 {
-    let words = loosen::loosen(sheet);
+    let words = reader::loosen::loosen(sheet);
     let loose = &words[..sheet.len()];
     let sizes = reader::read_sheet(loose);
     let slots = sizes.m as usize;

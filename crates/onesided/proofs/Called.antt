@@ -15,17 +15,17 @@ use Rattle.labelling.specs.Promise.{takesSheet}
 use Rattle.labelling.proofs.Maker.{cleared}
 use Rattle.optimum.specs.OneSided.{topWord, instanceOf, order, pointsAt, writeTies}
 use Rattle.optimum.specs.CostWord.{countIn, lengthIn}
-use Rattle.optimality.proofs.Order.{ordered}
-use Rattle.optimality.proofs.OneSidedBest.{points-long}
-use Rattle.optimality.proofs.OneSidedAnswer.{firstCell, slotsWalked, cell-value, slots-walked, work-cells, call-unmade}
-use Rattle.optimality.proofs.Write.{call-written}
+use Rattle.optimum.proofs.optimality.Order.{ordered}
+use Rattle.optimum.proofs.optimality.OneSidedBest.{points-long}
+use Rattle.optimum.proofs.optimality.OneSidedAnswer.{firstCell, slotsWalked, cell-value, slots-walked, work-cells, call-unmade}
+use Rattle.optimum.proofs.optimality.Write.{call-written}
 use Rattle.arrays.specs.declared.Measures.{Measures}
 use Rattle.arrays.specs.Arrays.{measuresOf, boundsOf, drawsList, xsOf, ysOf, coloursOf, gathered, instanceBy, pointsBy}
 use Rattle.arrays.proofs.Instances.{instance-by, points-by}
 use Rattle.optimum.specs.Budgets.{radicesOf}
 use Rattle.rows.specs.Rest.{levelSize}
 use Rattle.costs.specs.Costs.{headWord}
-use Rattle.answer.specs.Laid.{leastCost, laidFault, written, laidOut, wiped}
+use Rattle.walk.specs.Laid.{leastCost, laidFault, written, laidOut, wiped}
 
 -- the three equations of a call: what it returns, and both areas
 pub record Made (ws k o : List ℕ) (fault : ℕ) (work out : List ℕ) : Type 0 where

@@ -17,8 +17,8 @@ use Rattle.labelling.proofs.Words.{height-low}
 use Rattle.optimum.specs.OneSided.{order}
 use Rattle.optimum.specs.Budgets.{radicesOf}
 use Rattle.optimum.proofs.Full.{full-holds}
-use Rattle.optimality.proofs.Order.{ordered}
-use Rattle.optimality.proofs.OneSidedAnswer.{work-cells}
+use Rattle.optimum.proofs.optimality.Order.{ordered}
+use Rattle.optimum.proofs.optimality.OneSidedAnswer.{work-cells}
 use Rattle.arrays.specs.declared.Measures.{Measures}
 use Rattle.search.proofs.Sums.{length-listing}
 use Rattle.arrays.specs.Arrays.{measuresOf, boundsOf, drawsList, xsOf, ysOf, coloursOf, gathered, instanceBy, pointsBy}
@@ -31,7 +31,7 @@ use Rattle.table.specs.Rows.{Given}
 use Rattle.rows.specs.Budgets.{Splits}
 use Rattle.optimum.specs.Reached.{TableOf}
 use Rattle.walk.proofs.Tying.{points-long}
-use Rattle.answer.specs.Laid.{TableFilled, wiped}
+use Rattle.walk.specs.Laid.{TableFilled, wiped}
 use Rattle.onesided.specs.Ranked.{Ranked}
 
 gathered-get : (l os : List ℕ) (i : ℕ) → i < length os → getD (gathered l os) i 0 ≡ getD l (getD os i 0) 0

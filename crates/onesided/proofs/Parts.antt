@@ -11,7 +11,7 @@ use Rattle.sheet.specs.Sheet.{kindOf, Sheet, bodyOf, sheetIn, sheetFault}
 use Rattle.sheet.proofs.Accepted.{sound}
 use Rattle.optimum.specs.OneSided.{order}
 use Rattle.optimum.specs.Budgets.{radicesOf}
-use Rattle.optimality.proofs.Order.{ordered}
+use Rattle.optimum.proofs.optimality.Order.{ordered}
 use Rattle.arrays.specs.Arrays.{padded, boundsOf, drawsList, xsOf, ysOf, coloursOf, gathered, orderBy, radicesBy, drawsBy, productBy}
 use Rattle.decoding.specs.Decoding.{collected}
 use Rattle.decoding.proofs.Whole.{front}

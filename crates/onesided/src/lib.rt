@@ -7,7 +7,7 @@ ghost use Rattle.sheet.specs.Sheet.{sheetIn, productOf};
 ghost use Rattle.labelling.specs.Entry.{makeFault, makeAnswer, makeWork};
 ghost use Rattle.labelling.specs.Promise.{takesSheet};
 ghost use Rattle.table.specs.Rows.{Given};
-ghost use Rattle.answer.specs.Laid.{laidFault, laidOut, wiped};
+ghost use Rattle.walk.specs.Laid.{laidFault, laidOut, wiped};
 ghost use Rattle.onesided.specs.Ranked.{Ranked, RankedSites};
 use areas::clear;
 use arrays::Measures;
@@ -62,7 +62,7 @@ fn lay_ranked(
         ys,
         colours,
     );
-    let fault = answer::lay_least(
+    let fault = walk::answer::lay_least(
         parts,
         counts,
         q,

@@ -8,3 +8,6 @@ pub mod Reached
 pub mod UsedSlots
 pub mod Rows
 pub mod Steady
+pub mod TwoSided
+pub mod Optimum
+pub mod Examples

@@ -1,0 +1,2 @@
+pub mod optimality;
+pub mod examples;

@@ -2,14 +2,14 @@
 use crate::search::Found;
 use crate::search::NONE;
 use crate::search::search;
-use small_sheet::Sheet;
-use small_sheet::at;
-use small_sheet::last_of;
-use small_sheet::product;
-use small_sheet::recipe::drawn;
-use small_sheet::recipe::next;
-use small_sheet::recipe::work_words;
-use small_sheet::sum;
+use crate::small_sheet::Sheet;
+use crate::small_sheet::at;
+use crate::small_sheet::last_of;
+use crate::small_sheet::product;
+use crate::small_sheet::recipe::drawn;
+use crate::small_sheet::recipe::next;
+use crate::small_sheet::recipe::work_words;
+use crate::small_sheet::sum;
 
 // What an area holds before a call.
 fn old_word(i: u32, seed: u32) -> u32 {

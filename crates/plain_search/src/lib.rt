@@ -4,3 +4,4 @@ pub mod calls;
 pub mod met;
 pub mod rules;
 pub mod search;
+pub mod small_sheet;

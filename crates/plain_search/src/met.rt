@@ -1,11 +1,11 @@
 // What was met, counted.
 use crate::calls::Expected;
 use crate::rules::slots_of;
-use small_sheet::Sheet;
-use small_sheet::at;
-use small_sheet::joined;
-use small_sheet::set_of;
-use small_sheet::sum;
+use crate::small_sheet::Sheet;
+use crate::small_sheet::at;
+use crate::small_sheet::joined;
+use crate::small_sheet::set_of;
+use crate::small_sheet::sum;
 
 const TWO_SIDED: u32 = 1;
 

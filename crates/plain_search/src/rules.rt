@@ -1,10 +1,10 @@
 // The rules of a lawful layout, each as its sentence says. A layout here is a row: the slot of each site.
-use small_sheet::Sheet;
-use small_sheet::apart;
-use small_sheet::at;
-use small_sheet::joined;
-use small_sheet::lesser;
-use small_sheet::sum;
+use crate::small_sheet::Sheet;
+use crate::small_sheet::apart;
+use crate::small_sheet::at;
+use crate::small_sheet::joined;
+use crate::small_sheet::lesser;
+use crate::small_sheet::sum;
 
 // Right of every site: the left end of a slot that no site has.
 const NOWHERE: u32 = 256;

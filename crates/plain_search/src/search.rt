@@ -1,12 +1,12 @@
 // The best lawful layout of a sheet: all layouts are tried, in the order in which equals come.
 use crate::rules::is_lawful;
 use crate::rules::layout_size;
-use small_sheet::Sheet;
-use small_sheet::at;
-use small_sheet::last_of;
-use small_sheet::product;
-use small_sheet::sum;
-use small_sheet::with;
+use crate::small_sheet::Sheet;
+use crate::small_sheet::at;
+use crate::small_sheet::last_of;
+use crate::small_sheet::product;
+use crate::small_sheet::sum;
+use crate::small_sheet::with;
 
 // More than any layout's size.
 pub const NONE: u32 = 16777215;

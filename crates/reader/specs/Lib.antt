@@ -1,1 +1,3 @@
 pub mod Read
+pub mod Layouts
+pub mod Faults

@@ -1,16 +1,20 @@
 // The reader: the refusal of any list of words, or the sizes of the sheet in it.
+pub mod scans;
+pub mod faults;
+pub mod loosen;
+
 ghost use mathlib.Core.Path.{_≡_};
 ghost use Prim.Native.Nat.{_<_, _≤_};
 ghost use lib.ListN.{length, drop};
 ghost use Rattle.sheet.specs.Sheet.{coloursIn, sitesRun, sheetIn, sheetFault};
 ghost use Rattle.sheet.specs.Words.{countKind};
 ghost use Rattle.reader.specs.Read.{absent, eightOf, readOf, refusedOf, readPost};
-use counts::count_kind;
-use faults::sheet_fault;
-use products::product;
-use refusals::body_of;
-use sizes::bound_of;
-use sizes::work_for;
+use refusals::counts::count_kind;
+use crate::faults::sheet_fault;
+use refusals::products::product;
+use crate::scans::body_of;
+use refusals::sizes::bound_of;
+use refusals::sizes::work_for;
 use words::get;
 use words::kind_of;
 use words::same;

@@ -1,1 +1,5 @@
-pub mod Layouts
+pub mod Wordwise
+pub mod Stages
+pub mod Ranks
+pub mod Products
+pub mod Work

@@ -1,81 +1,56 @@
-// The tests behind refusals 2, 4, 5 and 6, each over any list of words. `body`: a sheet's words after its head.
-pub mod layouts;
+// The tests behind refusals 1, 4 and 5 on one word.
+pub mod stages;
+pub mod ranks;
+pub mod counts;
+pub mod products;
+pub mod sizes;
 
 ghost use mathlib.Core.Path.{_≡_};
-ghost use Rattle.sheet.specs.Sheet.{all, inOrder, slotsIn, sitesIn, bodyOf, insideBy, rising, ranksDiffer};
-use ranks::rank_new;
-use stages::stage_after;
-use wordwise::low_next;
-use wordwise::low_ok;
-use wordwise::width_ok;
+ghost use Rattle.sheet.specs.Sheet.{isHead};
+ghost use Rattle.refusals.specs.Wordwise.{lowOk, lowNext, widthOk};
+use words::both;
+use words::choose;
+use words::either;
+use words::gap_field;
+use words::high_field;
+use words::kind_of;
+use words::low_field;
 
-// The words after the head.
-pub fn body_of(sheet: &[u32]) -> &[u32]
-    ensures { λ r. ⌜ now r ≡ bodyOf (now (sheet .entry)) ⌝ }
+// Refusal 1.
+pub fn is_head(sheet: &[u32]) -> bool
+    ensures { λ r. ⌜ r ≡ isHead (now (sheet .entry)) ⌝ }
 {
     if sheet.len() == 0 {
-        return sheet;
+        return false;
     }
-    &sheet[1..]
-}
-
-// Refusal 2.
-pub fn in_order(body: &[u32]) -> bool
-    ensures { λ r. ⌜ r ≡ inOrder 0 (now (body .entry)) ⌝ }
-{
-    let mut z: u32 = 0;
-    let mut i: usize = 0;
-    while i < body.len() {
-        z = stage_after(z, body[i]);
-        if z == 2 {
-            return false;
-        }
-        i += 1;
-    }
-    true
+    let head = sheet[0];
+    let first = kind_of(head) == 1;
+    let wide = low_field(head) != 0;
+    let apart = gap_field(head) != 0;
+    both(both(first, wide), apart)
 }
 
 // Refusal 4.
-pub fn rises(body: &[u32]) -> bool
-    ensures { λ r. ⌜ r ≡ rising (slotsIn (now (body .entry))) ⌝ }
+pub fn low_ok(low: u32, w: u32) -> bool
+    ensures { λ r. ⌜ r ≡ lowOk low w ⌝ }
 {
-    let mut low: u32 = 0;
-    let mut i: usize = 0;
-    while i < body.len() {
-        let w = body[i];
-        if !low_ok(low, w) {
-            return false;
-        }
-        low = low_next(low, w);
-        i += 1;
-    }
-    true
+    let other = kind_of(w) != 2;
+    let above = low <= low_field(w);
+    either(other, above)
+}
+
+pub fn low_next(low: u32, w: u32) -> u32
+    ensures { λ r. ⌜ r ≡ lowNext low w ⌝ }
+{
+    let slot = kind_of(w) == 2;
+    choose(slot, w % 16384 + 1, low)
 }
 
 // Refusal 5.
-pub fn all_inside(body: &[u32], width: u32) -> bool
-    ensures { λ r. ⌜ r ≡ all (insideBy width) (sitesIn 0 (now (body .entry))) ⌝ }
+pub fn width_ok(width: u32, w: u32) -> bool
+    ensures { λ r. ⌜ r ≡ widthOk width w ⌝ }
 {
-    let mut i: usize = 0;
-    while i < body.len() {
-        if !width_ok(width, body[i]) {
-            return false;
-        }
-        i += 1;
-    }
-    true
-}
-
-// Refusal 6.
-pub fn ranks_differ(body: &[u32]) -> bool
-    ensures { λ r. ⌜ r ≡ ranksDiffer (sitesIn 0 (now (body .entry))) ⌝ }
-{
-    let mut i: usize = 0;
-    while i < body.len() {
-        if !rank_new(body, i) {
-            return false;
-        }
-        i += 1;
-    }
-    true
+    let other = kind_of(w) != 4;
+    let inside = high_field(w) <= width;
+    either(other, inside)
 }

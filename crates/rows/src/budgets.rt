@@ -4,7 +4,7 @@ ghost use mathlib.Core.Bool.{cond};
 ghost use Prim.Native.Nat.{ℕ, _+_, _-_, _*_, _<_, _≤_, min};
 ghost use lib.ListN.{length, getD};
 ghost use Rattle.search.specs.Radix.{below};
-ghost use Rattle.masks.specs.Masks.{Divides};
+ghost use Rattle.costs.specs.Masks.{Divides};
 ghost use Rattle.rows.specs.Budgets.{Listed, Others, Splits, Within, shareBy, leftBy};
 
 fn counted(n: u8, one_more: bool) -> u8
@@ -25,7 +25,7 @@ fn list_below(radices: &[u32], v: usize, parts: &mut [u8]) -> u8
     ensures { λ r. ⌜ Others (now (parts .entry)) (now (parts .exit)) (v * 64) 64 ⌝ }
 {
     let base = v * 64;
-    let mut mask = masks::mask_below(radices, v as u32);
+    let mut mask = costs::masks::mask_below(radices, v as u32);
     let mut count: u8 = 0;
     let mut w: u8 = 0;
     while (w as usize) <= v {
@@ -93,7 +93,7 @@ fn left_of(radices: &[u32], draw: u32, v: u8) -> u8
     requires { ⌜ Divides (now radices) ⌝ }
     ensures { λ r. ⌜ r ≡ leftBy (now (radices .entry)) draw v ⌝ }
 {
-    if masks::is_below(radices, draw, v as u32) {
+    if costs::masks::is_below(radices, draw, v as u32) {
         return v - draw as u8;
     }
     255

@@ -7,7 +7,7 @@ use lib.ListN.{length, getD}
 use Rattle.search.specs.Radix.{below}
 use Rattle.optimum.specs.Strips.{Point, Strip, Instance, cost, draw}
 use Rattle.arrays.specs.declared.Measures.{Measures}
-use Rattle.masks.specs.Masks.{Divides}
+use Rattle.costs.specs.Masks.{Divides}
 
 -- what it costs to tie s to slot k with the budget v; none if that is not lawful or not to be had
 abbrev pub priceIn : Instance → Strip → Point → (v k : ℕ) → ℕ

@@ -14,7 +14,7 @@ use arrays::places::is_far;
 use arrays::places::is_over;
 use arrays::places::is_under;
 use costs::word_of;
-use drops::apart_of;
+use words::drops::apart_of;
 use rows::Site;
 use rows::Strip;
 use words::NONE;
@@ -191,7 +191,7 @@ pub fn step_of(
         let cost = open_cost(q, heights, s, k);
         return Step {
             left: monus(v, draw),
-            price: choose(masks::is_below(radices, draw, v), cost, NONE),
+            price: choose(costs::masks::is_below(radices, draw, v), cost, NONE),
         };
     }
     let joins = either(

@@ -10,13 +10,13 @@ use Rattle.lists.proofs.Tests.{by-order}
 use Rattle.optimum.specs.Strips.{Point, Strip}
 use Rattle.arrays.specs.declared.Measures.{Measures}
 use Rattle.rows.specs.Budgets.{Others}
-use Rattle.entries.specs.Rows.{entryBy}
+use Rattle.table.specs.Entries.{entryBy}
 use Rattle.rows.specs.Rows.{rowOf, rowIn, levelSize, Lies, endPlace, endWords}
-use Rattle.entries.proofs.Places.{same-rows}
+use Rattle.table.proofs.entries.Places.{same-rows}
 use Rattle.rows.proofs.Places.{row-fits}
-use Rattle.marks.specs.Marks.{Shaped}
-use Rattle.marks.proofs.Followed.{same-end, later-end, slot-high, slot-low, row-ends, same-strip}
-use Rattle.marks.proofs.Levels.{row-room}
+use Rattle.table.specs.Marks.{Shaped}
+use Rattle.table.proofs.marks.Followed.{same-end, later-end, slot-high, slot-low, row-ends, same-strip}
+use Rattle.table.proofs.marks.Levels.{row-room}
 use Rattle.table.specs.Rows.{RowFilled}
 
 module _ (q : Measures) (hs bs parts counts left : List ℕ) (base low : ℕ) (s : Point) where

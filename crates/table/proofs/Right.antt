@@ -25,13 +25,13 @@ use Rattle.strips.specs.Strips.{instanceOn, Stands}
 use Rattle.rows.specs.Budgets.{Others, Splits, leftBy}
 use Rattle.rows.specs.Rows.{rowOf, rowsOf, rowIn, levelSize, upperPart, lowerPart}
 use Rattle.rows.proofs.Places.{row-low, row-fits}
-use Rattle.entries.proofs.Entries.{Falls, cell-row, entry-by}
-use Rattle.marks.specs.Marks.{Shaped, ReachMarked}
-use Rattle.parts.specs.Parts.{Marked}
-use Rattle.marks.proofs.Levels.{next-level, level-room, row-room}
-use Rattle.marks.proofs.Points.{points-long, point-at, drop-point}
-use Rattle.marks.proofs.Asked.{asks-parts}
-use Rattle.marks.proofs.Reach.{asks-by, reached-on, reached-shape}
+use Rattle.table.proofs.entries.Entries.{Falls, cell-row, entry-by}
+use Rattle.table.specs.Marks.{Shaped, ReachMarked}
+use Rattle.rows.specs.Parts.{Marked}
+use Rattle.table.proofs.marks.Levels.{next-level, level-room, row-room}
+use Rattle.table.proofs.marks.Points.{points-long, point-at, drop-point}
+use Rattle.table.proofs.marks.Asked.{asks-parts}
+use Rattle.table.proofs.marks.Reach.{asks-by, reached-on, reached-shape}
 use Rattle.table.specs.Rows.{RowFilled, Given, LevelRight, LevelMarked}
 
 module _ (q : Measures) (hs bs rs ds xs ys cs : List ℕ) (area : ℕ) (g : Given q hs bs rs ds xs ys cs area) where

@@ -10,12 +10,12 @@ use Rattle.optimum.specs.Strips.{Point, Strip, Instance, rulesOf}
 use Rattle.optimum.specs.Reached.{Reached}
 use Rattle.arrays.specs.declared.Measures.{Measures}
 use Rattle.rows.specs.Budgets.{Within}
-use Rattle.masks.specs.Masks.{Divides}
-use Rattle.entries.specs.Rows.{entryBy}
+use Rattle.costs.specs.Masks.{Divides}
+use Rattle.table.specs.Entries.{entryBy}
 use Rattle.strips.specs.Strips.{Framed, Stands}
 use Rattle.rows.specs.Rows.{rowOf, levelSize, rowIn}
-use Rattle.marks.specs.Marks.{Sites}
-use Rattle.parts.specs.Parts.{Marked}
+use Rattle.table.specs.Marks.{Sites}
+use Rattle.rows.specs.Parts.{Marked}
 
 -- a level at the word `base` may be filled from the one at the word `low`
 pub record Ready (q : Measures) (heights bounds parts counts left : List ℕ) (size base low : ℕ) (s : Point) : Type 0 where

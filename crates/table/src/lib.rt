@@ -1,10 +1,13 @@
 // The one-sided table in the lent work words: what the whole sheet leads to is marked, then filled level by level from the last up.
+pub mod marks;
+pub mod entries;
+
 ghost use mathlib.Core.Path.{_≡_};
 ghost use Prim.Native.Nat.{ℕ, _+_, _-_, _*_, _<_, _≤_};
 ghost use lib.ListN.{length, getD, drop};
 ghost use Rattle.rows.specs.Rows.{pointOf, levelSize, endPlace, endWords};
 ghost use Rattle.optimum.specs.Strips as model;
-ghost use Rattle.marks.specs.Marks.{Shaped};
+ghost use Rattle.table.specs.Marks.{Shaped};
 ghost use Rattle.rows.specs.Budgets.{Others, Splits};
 ghost use Rattle.arrays.specs.Arrays.{instanceBy, pointsBy};
 ghost use Rattle.optimum.specs.Reached.{TableOf};
@@ -47,7 +50,7 @@ fn fill_below(
     };
     let mut at = base + rows::row_place(q, heights.len(), p);
     while p.b < ends {
-        entries::fill_row(work, q, heights, bounds, parts, counts, left, p, s, at, low);
+        crate::entries::fill_row(work, q, heights, bounds, parts, counts, left, p, s, at, low);
         at += n;
         p = rows::next_below(q.colours, p);
     }
@@ -164,7 +167,7 @@ pub fn fill_table(
 {
     let rows = rows::rows_of(q, heights.len());
     let size = rows * (q.budgets as usize);
-    marks::mark_table(work, q, heights, bounds, xs, ys, cs, rows);
+    crate::marks::mark_table(work, q, heights, bounds, xs, ys, cs, rows);
     let mut j = xs.len();
     zero_level(work, j * size, size);
     while 0 < j {

@@ -7,10 +7,10 @@ use plain_search::calls::fill;
 use plain_search::calls::is_right;
 use plain_search::met::counted;
 use plain_search::met::kinds_met;
-use small_sheet::Sheet;
-use small_sheet::recipe::make_sheet;
-use small_sheet::recipe::no_sheet;
-use small_sheet::words::sheet_words;
+use plain_search::small_sheet::Sheet;
+use plain_search::small_sheet::recipe::make_sheet;
+use plain_search::small_sheet::recipe::no_sheet;
+use plain_search::small_sheet::words::sheet_words;
 
 const SHEETS: u32 = 20000;
 

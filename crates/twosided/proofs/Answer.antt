@@ -19,21 +19,21 @@ use Rattle.labelling.proofs.Maker.{Result}
 use Rattle.search.specs.Sums.{listing}
 use Rattle.optimum.specs.Slots.{farEnough, sheetSlots}
 use Rattle.optimum.specs.UsedSlots.{Instance, put, value, capAll, ties}
-use Rattle.optimality.specs.TwoSided.{radicesOf, instanceOf}
+use Rattle.optimum.specs.TwoSided.{radicesOf, instanceOf}
 use Rattle.optimum.specs.CostWord.{countIn, lengthIn}
 use Rattle.optimum.specs.Steady.{Steady}
-use Rattle.optimality.proofs.TwoSidedAnswer.{steady}
-use Rattle.optimality.proofs.TwoSidedCall.{leastOf, two-sided-call, two-sided-none}
+use Rattle.optimum.proofs.optimality.TwoSidedAnswer.{steady}
+use Rattle.optimum.proofs.optimality.TwoSidedCall.{leastOf, two-sided-call, two-sided-none}
 use Rattle.arrays.specs.declared.Measures.{Measures}
 use Rattle.arrays.specs.Arrays.{boundsOf, xsOf, ysOf, coloursOf, radicesBy, drawsBy, radixBy, measuresOf, padded, productBy}
 use Rattle.decoding.proofs.Places.{bounds-at, xs-at, ys-at, colours-at}
 use Rattle.decoding.proofs.Whole.{front}
 use Rattle.arrays.proofs.Ordered.{radices-long, draws-long, product-positive, product-are}
 use Rattle.optimum.specs.CostWord.{topWord}
-use Rattle.stripcosts.specs.Table.{unitOf, labelCost, instanceBy, tableBy, capsIn, Fits, tableWords, RightTo}
-use Rattle.stripcosts.proofs.Strips.{value-ranks}
-use Rattle.aims.specs.Caps.{wordsBy}
-use Rattle.capsearch.specs.Search.{uncapped, Filled}
+use Rattle.two_stripcosts.specs.Table.{unitOf, labelCost, instanceBy, tableBy, capsIn, Fits, tableWords, RightTo}
+use Rattle.two_stripcosts.proofs.Strips.{value-ranks}
+use Rattle.two_aims.specs.Caps.{wordsBy}
+use Rattle.two_capsearch.specs.Search.{uncapped, Filled}
 use Rattle.twosided.specs.Layouts.{countBy, lengthBy, laidBy, Laid}
 
 -- ---- a call on arrays

@@ -13,11 +13,11 @@ use Rattle.search.proofs.Cost.{first-cong}
 use Rattle.optimum.specs.UsedSlots.{Instance, put, value, leftmost, choose, capAll}
 use Rattle.optimum.proofs.Rows.{put-set}
 use Rattle.arrays.specs.declared.Measures.{Measures}
-use Rattle.stripcosts.specs.Table.{instanceBy, tableBy, capsIn}
-use Rattle.stripcosts.proofs.Strips.{value-ranks}
-use Rattle.slotbands.specs.Sites.{Reorders}
-use Rattle.aims.specs.Caps.{leftmostBy, Low}
-use Rattle.capsearch.specs.Search.{uncapped}
+use Rattle.two_stripcosts.specs.Table.{instanceBy, tableBy, capsIn}
+use Rattle.two_stripcosts.proofs.Strips.{value-ranks}
+use Rattle.two_slotbands.specs.Sites.{Reorders}
+use Rattle.two_aims.specs.Caps.{leftmostBy, Low}
+use Rattle.two_capsearch.specs.Search.{uncapped}
 
 leftmost-is : (q : Measures) (hs bs rs ys cs xs caps : List ℕ) (c : ℕ) →
     leftmostBy (length ys) xs caps c ≡ leftmost (instanceBy q hs bs rs ys cs xs) (capsIn caps) c

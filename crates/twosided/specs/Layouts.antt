@@ -10,7 +10,7 @@ use Rattle.optimum.specs.UsedSlots.{Instance, value, capAll, ties}
 use Rattle.arrays.specs.declared.Measures.{Measures}
 pub use Rattle.costs.specs.Costs.{countBy, lengthBy}
 use Rattle.optimum.specs.CostWord.{topWord}
-use Rattle.capsearch.specs.Search.{uncapped}
+use Rattle.two_capsearch.specs.Search.{uncapped}
 
 -- the layout of the least cost that comes first
 abbrev pub laidBy : Measures → Instance → List ℕ

@@ -1,4 +1,6 @@
 // The one-sided walk: ties the sites one after the other by rising rank, each to the lowest slot that keeps the least cost.
+pub mod answer;
+
 ghost use mathlib.Core.Path.{_≡_};
 ghost use Prim.Native.Nat.{_+_, _<_};
 ghost use lib.ListN.{length};
@@ -54,7 +56,7 @@ fn tie_site(
         left,
     );
     let step = strips::step_of(q, heights, bounds, radices, draws, p, s, left.budget, k);
-    ties::write_tie(order, out, j, k);
+    choice::ties::write_tie(order, out, j, k);
     let slot = k as usize;
     labels[slot] = s.c + 1;
     let cost = words::monus(left.cost, step.price);

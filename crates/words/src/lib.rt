@@ -1,5 +1,6 @@
 // Kind and fields of a word, and tests and sums as functions. Each is total: its contract is one equation and asks nothing.
 pub mod tied;
+pub mod drops;
 
 ghost use mathlib.Core.Path.{_≡_};
 ghost use mathlib.Core.Bool.{cond, _&&_, _||_, not};

@@ -1,6 +1,6 @@
 use Rattle.sheet.specs.Sheet.{sheetIn}
-use Rattle.lines.specs.Lines.{refusedLine, layoutText}
-use Rattle.lines.proofs.Report.{text-refused, text-layout}
+use Rattle.report.specs.Lines.{refusedLine, layoutText}
+use Rattle.report.proofs.Report.{text-refused, text-layout}
 use borrow.Author.Needs.{needs}
 use Rattle.backbones.proofs.put_answer.Statement.{statement}
 use Rattle.backbones.proofs.put_answer.Tie as tie

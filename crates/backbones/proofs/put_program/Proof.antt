@@ -1,6 +1,6 @@
 use lib.Seq.{length-take-le}
-use Rattle.lines.specs.Lines.{wordsIn}
-use Rattle.lines.proofs.Report.{text-unfit, text-fit, words-few, front}
+use Rattle.report.specs.Lines.{wordsIn}
+use Rattle.report.proofs.Report.{text-unfit, text-fit, words-few, front}
 use mathlib.Core.Path.{_≡_, sym, _∙_}
 use native.Mathlib.Omega.{arith}
 use lib.ListN.{take}

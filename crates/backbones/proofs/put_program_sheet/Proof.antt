@@ -1,4 +1,4 @@
-use Rattle.lines.specs.Report.{sheetText, programSheetText}
+use Rattle.report.specs.Report.{sheetText, programSheetText}
 use borrow.Author.Needs.{needs}
 use Rattle.backbones.proofs.put_program_sheet.Statement.{statement}
 use Rattle.backbones.proofs.put_program_sheet.Tie as tie

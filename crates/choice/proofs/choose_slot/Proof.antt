@@ -11,7 +11,7 @@ use Rattle.choice.proofs.choose_slot.Statement.{statement}
 use Rattle.choice.proofs.choose_slot.Tie as tie
 use Rattle.choice.proofs.choose_slot.Reads as reads
 use Rattle.choice.proofs.choose_slot.Lts as lts
-use Rattle.kept.proofs.keeps_cost.Reads as keeps-cost-reads
+use Rattle.choice.proofs.kept.keeps_cost.Reads as keeps-cost-reads
 use Rattle.strips.proofs.step_of.Reads as step-of-reads
 
 abbrev Inv-loop : tie.InvT-loop

@@ -6,7 +6,7 @@ use Rattle.strips.proofs.open_cost.Statement.{statement}
 use Rattle.strips.proofs.open_cost.Tie as tie
 use Rattle.strips.proofs.open_cost.Reads as reads
 use Rattle.strips.proofs.open_cost.Lts as lts
-use Rattle.drops.proofs.apart_of.Reads as apart-of-reads
+use Rattle.words.proofs.drops.apart_of.Reads as apart-of-reads
 use Rattle.costs.proofs.word_of.Reads as word-of-reads
 use Rattle.words.proofs.get.Reads as get-reads
 use Rattle.words.proofs.monus.Reads as monus-reads

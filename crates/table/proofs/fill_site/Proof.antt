@@ -1,5 +1,5 @@
 use Rattle.table.proofs.Filling.{others-of}
-use Rattle.marks.proofs.Levels.{next-level, level-room, place-small}
+use Rattle.table.proofs.marks.Levels.{next-level, level-room, place-small}
 use Rattle.table.proofs.Right.{level-right, site-stands}
 use Prim.Native.Nat.{_+_, _-_}
 use native.Mathlib.Omega.{arith}

@@ -1,5 +1,5 @@
 use Rattle.rows.specs.Rows.{levelSize}
-use Rattle.marks.proofs.Levels.{level-small, place-small, last-room}
+use Rattle.table.proofs.marks.Levels.{level-small, place-small, last-room}
 use Rattle.table.specs.Rows.{Given}
 use Rattle.table.proofs.Right.{Done, done-last, done-more, done-all, given-area}
 use mathlib.Core.Path.{_≡_, refl, ap, _∙_}
@@ -11,7 +11,7 @@ use Rattle.table.proofs.fill_table.Statement.{statement}
 use Rattle.table.proofs.fill_table.Tie as tie
 use Rattle.table.proofs.fill_table.Reads as reads
 use Rattle.table.proofs.fill_table.Lts as lts
-use Rattle.marks.proofs.mark_table.Reads as mark-table-reads
+use Rattle.table.proofs.marks.mark_table.Reads as mark-table-reads
 use Rattle.table.proofs.fill_site.Reads as fill-site-reads
 use Rattle.rows.proofs.rows_of.Reads as rows-of-reads
 use Rattle.table.proofs.zero_level.Reads as zero-level-reads

@@ -1,9 +1,9 @@
 use Rattle.optimum.specs.UsedSlots.{Instance, value, capAll}
-use Rattle.stripcosts.specs.Table.{instanceBy, tableBy, capsIn}
-use Rattle.goals.specs.Goals.{Goals}
-use Rattle.aims.specs.Caps.{Low}
-use Rattle.goals.proofs.Goals.{fits-set}
-use Rattle.capsearch.proofs.Search.{narrowed-keeps}
+use Rattle.two_stripcosts.specs.Table.{instanceBy, tableBy, capsIn}
+use Rattle.two_goals.specs.Goals.{Goals}
+use Rattle.two_aims.specs.Caps.{Low}
+use Rattle.two_goals.proofs.Goals.{fits-set}
+use Rattle.two_capsearch.proofs.Search.{narrowed-keeps}
 use Rattle.twosided.proofs.Caps.{caps-done, caps-step, site-free}
 use native.Mathlib.Nat.{le-of-eq}
 use mathlib.Core.Path.{_≡_, refl, ap, sym, _∙_}

@@ -1,8 +1,8 @@
 use lib.ListN.{replicate, length-replicate}
 use lib.Seq.{length-take-le}
-use Rattle.stripcosts.specs.Table.{instanceBy, tableBy}
-use Rattle.goals.proofs.Goals.{fits-set}
-use Rattle.byheight.proofs.Sites.{zero-part}
+use Rattle.two_stripcosts.specs.Table.{instanceBy, tableBy}
+use Rattle.two_goals.proofs.Goals.{fits-set}
+use Rattle.two_byheight.proofs.Sites.{zero-part}
 use Rattle.twosided.proofs.Caps.{caps-part, value-none}
 use mathlib.Core.Path.{sym, _∙_}
 use Prim.Native.Nat.{ℕ}

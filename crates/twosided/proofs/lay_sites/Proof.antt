@@ -1,4 +1,4 @@
-use Rattle.stripcosts.specs.Table.{tableWords}
+use Rattle.two_stripcosts.specs.Table.{tableWords}
 use Rattle.twosided.proofs.Answer.{laid-none, laid-some, steady-at, filled-at}
 use mathlib.Core.Path.{sym}
 use Prim.Native.Nat.{_≤_}

@@ -15,7 +15,7 @@ use Rattle.choice.proofs.choose_slot.Reads as choose-slot-reads
 use Rattle.rows.proofs.rest.level_size.Reads as level-size-reads
 use Rattle.rows.proofs.hold_of.Reads as hold-of-reads
 use Rattle.strips.proofs.step_of.Reads as step-of-reads
-use Rattle.ties.proofs.write_tie.Reads as write-tie-reads
+use Rattle.choice.proofs.ties.write_tie.Reads as write-tie-reads
 use Rattle.rows.proofs.site_at.Reads as site-at-reads
 use Rattle.words.proofs.monus.Reads as monus-reads
 

@@ -9,7 +9,7 @@ use Rattle.rows.proofs.budgets.left_of.Statement.{statement}
 use Rattle.rows.proofs.budgets.left_of.Tie as tie
 use Rattle.rows.proofs.budgets.left_of.Reads as reads
 use Rattle.rows.proofs.budgets.left_of.Lts as lts
-use Rattle.masks.proofs.is_below.Reads as is-below-reads
+use Rattle.costs.proofs.masks.is_below.Reads as is-below-reads
 
 -- the draw may be taken, so it is at most the budget
 yes : (c : tie.Then1) → below (c .before .before .before .args .radices .now) (c .before .before .before .args .draw) (c .before .before .before .args .v) ≡ true

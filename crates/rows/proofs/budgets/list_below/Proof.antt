@@ -13,7 +13,7 @@ use Rattle.rows.proofs.budgets.list_below.Tie as tie
 use Rattle.rows.proofs.budgets.list_below.Reads as reads
 use Rattle.rows.proofs.budgets.list_below.Lts as lts
 use Rattle.rows.proofs.budgets.counted.Reads as counted-reads
-use Rattle.masks.proofs.mask_below.Reads as mask-below-reads
+use Rattle.costs.proofs.masks.mask_below.Reads as mask-below-reads
 
 abbrev Inv-loop : tie.InvT-loop
 Inv-loop radices v parts₀ base mask₀ count₀ w₀ parts mask count w = (length parts ≡ 4096) × (w ≤ v + 1) × (mask ≡ maskFrom radices v w) × Listed radices v w count (λ i. getD parts (v * 64 + i) 0) × Others parts₀ parts (v * 64) 64

@@ -1,2 +1,0 @@
-pub mod TwoSided
-pub mod Optimum

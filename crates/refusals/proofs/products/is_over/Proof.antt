@@ -1,0 +1,16 @@
+-- `products::is_over` meets its contract.
+use Rattle.sheet.specs.Sheet.{coloursIn, productOf}
+use borrow.Author.Needs.{needs}
+use Rattle.refusals.proofs.products.Factors.{capped-over}
+use Rattle.refusals.proofs.products.is_over.Statement.{statement}
+use Rattle.refusals.proofs.products.is_over.Tie as tie
+
+product-requires : tie.Need-product-requires
+product-requires c κs = search needs
+
+returns : tie.Need-returns
+returns c =
+    rw (c .product .ensures) (capped-over (productOf (coloursIn (c .before .before .args .body .now))))
+
+pub is-over-spec : {M : Type 1} → statement M
+is-over-spec = tie.close (tie.spec product-requires returns)

@@ -1,0 +1,25 @@
+// Sizes of an accepted sheet, each from numbers alone: a colour's bound, the work words.
+ghost use mathlib.Core.Path.{_≡_};
+ghost use Prim.Native.Nat.{_≤_};
+ghost use Rattle.sheet.specs.Sheet.{bits};
+ghost use Rattle.refusals.specs.Work.{workOf};
+
+// A colour's bound.
+pub fn bound_of(w: u32) -> u8
+    ensures { λ r. ⌜ r ≡ bits w 0 8 ⌝ }
+{
+    (w % 256) as u8
+}
+
+// The work words by side, m, C, n and P.
+pub fn work_for(two: bool, m: u32, c: u32, n: u32, p: u32) -> u32
+    requires { ⌜ (m ≤ 48) × (c ≤ 8) × (n ≤ 32) × (p ≤ 64) ⌝ }
+    ensures { λ r. ⌜ r ≡ workOf two m c n p ⌝ }
+{
+    let strips = (m + 2) * (c + 1);
+    if two {
+        return strips * p;
+    }
+    let levels = strips * strips * (n + 1);
+    levels * p
+}

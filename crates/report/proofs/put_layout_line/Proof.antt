@@ -1,0 +1,34 @@
+use Rattle.report.proofs.Lines.{layout-put, lowest-bits}
+use borrow.Author.Needs.{needs}
+use Rattle.report.proofs.put_layout_line.Statement.{statement}
+use Rattle.report.proofs.put_layout_line.Tie as tie
+
+slice-aggregate-put-named : tie.Need-slice-aggregate-put-named
+slice-aggregate-put-named c = search needs
+
+put-named-requires : tie.Need-put-named-requires
+put-named-requires c κs = search needs
+
+slice-aggregate-put-named-2 : tie.Need-slice-aggregate-put-named-2
+slice-aggregate-put-named-2 c = search needs
+
+put-named-requires-2 : tie.Need-put-named-requires-2
+put-named-requires-2 c κs = search needs
+
+same-length : tie.Need-same-length
+same-length c = search needs
+
+returns : tie.Need-returns
+returns c =
+    layout-put _ _ _ _ (c .before .before .before .before .before .before .before .put-named .ensures) (rw (lowest-bits (c .before .before .before .before .before .before .before .before .before .before .before .args .first)) at (c .before .before .put-named2 .ensures))
+
+pub put-layout-line-spec : {M : Type 1} → statement M
+put-layout-line-spec =
+    tie.close
+    (tie.spec
+    slice-aggregate-put-named
+    put-named-requires
+    slice-aggregate-put-named-2
+    put-named-requires-2
+    same-length
+    returns)

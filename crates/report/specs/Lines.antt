@@ -1,0 +1,45 @@
+-- The words of an input, and the lines of a report. Assumes nothing: these are definitions.
+use mathlib.Core.Bool.{cond}
+use mathlib.Core.List.{List, [], _∷_, _++_}
+use Prim.Native.Nat.{ℕ, suc, _+_, _*_, _-_}
+use lib.Dec.{eqb}
+use lib.ListN.{getD}
+use Rattle.sheet.specs.Sheet.{bits, kindOf, Site, Sheet}
+use Rattle.labelling.specs.Layout.{statedCount, statedLength}
+use Rattle.report.specs.Text.{ascii, decimal}
+
+-- the input's words: four bytes each, the lowest first
+unfoldable pub wordsIn : (bytes : List ℕ) → List ℕ
+wordsIn [] = []
+wordsIn (a ∷ []) = []
+wordsIn (a ∷ b ∷ []) = []
+wordsIn (a ∷ b ∷ c ∷ []) = []
+wordsIn (a ∷ b ∷ c ∷ d ∷ bs) = (a + 256 * b + 65536 * c + 16777216 * d) ∷ wordsIn bs
+
+-- THE LINES, each with its line feed
+abbrev pub refusedLine : (number : ℕ) → List ℕ
+refusedLine n = ascii "refused " ++ decimal n ++ ascii "\n"
+
+abbrev pub layoutLine : (labels size : ℕ) → List ℕ
+layoutLine c l = ascii "labels " ++ decimal c ++ ascii " length " ++ decimal l ++ ascii "\n"
+
+abbrev pub siteLine : (site colour slot : ℕ) → List ℕ
+siteLine i c k = ascii "site " ++ decimal i ++ ascii " colour " ++ decimal c ++ ascii " slot " ++ decimal k ++ ascii "\n"
+
+-- a site's slot: the words of kind 9 follow the first
+abbrev pub slotAt : (layout : List ℕ) → (site : ℕ) → ℕ
+slotAt ls i = bits (getD ls (i + 1) 0) 0 8
+
+unfoldable pub siteLines : (layout : List ℕ) → (site : ℕ) → List Site → List ℕ
+siteLines ls i [] = []
+siteLines ls i (s ∷ ss) = siteLine i (s .colour) (slotAt ls i) ++ siteLines ls (suc i) ss
+
+-- the same word by word: the line of a site's word, and the numbers after it
+abbrev pub lineOf : (layout : List ℕ) → (site colours word : ℕ) → List ℕ
+lineOf ls i c w = cond (eqb (kindOf w) 4) (siteLine i (c - 1) (slotAt ls i)) []
+
+abbrev pub countWith : (number kind word : ℕ) → ℕ
+countWith n k w = cond (eqb (kindOf w) k) (n + 1) n
+
+unfoldable pub layoutText : Sheet → (layout : List ℕ) → List ℕ
+layoutText s ls = layoutLine (statedCount ls) (statedLength ls) ++ siteLines ls 0 (s .sites)

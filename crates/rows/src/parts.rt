@@ -1,0 +1,35 @@
+// The two parts that a label leaves of a strip: what they cost together, and their rows marked.
+ghost use mathlib.Core.Path.{_≡_};
+ghost use Prim.Native.Nat.{_+_, _*_, _<_};
+ghost use lib.ListN.{length};
+ghost use Rattle.rows.specs.Rows.{stripOf, pointOf, rowsOf, rowIn, Lies};
+ghost use Rattle.rows.specs.Parts.{partsCost, Marking, PartsMarked, Room};
+use arrays::Measures;
+use crate::Site;
+use crate::Strip;
+
+// What the parts that a label at slot k leaves of a strip cost together, where there is but one budget.
+pub fn parts_cost(work: &[u32], q: Measures, m: usize, p: Strip, s: Site, low: usize, k: u32) -> u32
+    requires { ⌜ Room q m low (length (now work)) × Lies m (q .colours) (stripOf p) ⌝ }
+    requires { ⌜ (s .c < q .colours) × (k + 1 < p .b) ⌝ }
+    ensures { λ r. ⌜ r ≡ partsCost (rowIn (now (work .entry)) low m (q .colours) (q .budgets)) (stripOf p) (pointOf s) k ⌝ }
+{
+    let at = crate::part_places(q, m, p, s, low, k);
+    let upper = at.upper;
+    let lower = at.lower;
+    words::plus_of(work[upper], work[lower])
+}
+
+// Marks the two parts that a label at slot k leaves of a strip.
+pub fn mark_parts(work: &mut [u32], q: Measures, m: usize, p: Strip, s: Site, low: usize, k: u32)
+    requires { ⌜ Room q m low (length (now work)) × Lies m (q .colours) (stripOf p) ⌝ }
+    requires { ⌜ (s .c < q .colours) × (k + 1 < p .b) ⌝ }
+    ensures { λ _. ⌜ Marking (now (work .entry)) (now (work .exit)) low (rowsOf m (q .colours) * q .budgets) ⌝ }
+    ensures { λ _. ⌜ PartsMarked q (now (work .exit)) low m (stripOf p) (pointOf s) k ⌝ }
+{
+    let at = crate::part_places(q, m, p, s, low, k);
+    let upper = at.upper;
+    let lower = at.lower;
+    work[upper] = 1;
+    work[lower] = 1;
+}

@@ -1,0 +1,230 @@
+-- An entry as code works it out is the model's. Assumes nothing but that the lists of budgets are right.
+use mathlib.Core.Path.{_≡_, refl, sym, ap, ap₂, _∙_, fun-ext}
+use mathlib.Core.Logic.{_⊎_, inl, inr}
+use mathlib.Core.Bool.{Bool, true, false, cond, _&&_, _||_}
+use mathlib.Core.List.{List}
+use Prim.Native.Nat.{ℕ, suc, _+_, _*_, _-_, _<_, _≤_, min}
+use native.Mathlib.Nat.{le-antisymm, le-trans}
+use native.Mathlib.Omega.{arith}
+use lib.Dec.{ltb}
+use lib.ListN.{length, getD, drop}
+use borrow.Author.Tests.{lt-ltb, le-ltb, ltb-true, eqb-true}
+use Rattle.lists.proofs.Tests.{by-test, by-order, by-either, and-both, or-e}
+use Rattle.search.specs.Cost.{plus, least}
+use Rattle.search.proofs.Cost.{plus-top, top-plus, plus-le, least-le, least-le-top, least-most}
+use Rattle.search.specs.Share.{conv}
+use Rattle.search.specs.Radix.{below}
+use Rattle.optimum.specs.Strips.{Point, Strip, Instance, inside, opens, joinsUp, joinsDown}
+use Rattle.optimum.specs.OneSided.{topWord}
+use Rattle.optimum.specs.Cells.{cellOf, shareCells, stepCell}
+use Rattle.optimum.proofs.Loops.{at-drop}
+use Rattle.arrays.specs.declared.Measures.{Measures}
+use Rattle.arrays.specs.Arrays.{instanceBy}
+use Rattle.strips.specs.Strips.{instanceOn, gapLeft, siteOpens, openCost, joinCost, joinLeast}
+use Rattle.strips.proofs.Decisions.{inside-on, opens-on, joins-up-on, joins-down-on}
+use Rattle.rows.specs.Budgets.{Within, Splits, partAt, shareBy, leftBy}
+use Rattle.rows.proofs.Sharing.{share-by}
+use Rattle.rows.proofs.Places.{upper-is, lower-is}
+use Rattle.strips.proofs.Joining.{opening, opens-of, shut, up-at, down-at, up-least, down-least}
+use Rattle.table.specs.Entries.{openBy, noPart, slotTerm, slotsLeast, insideEntry, entryBy, entryIn}
+use Rattle.rows.specs.Rows.{rowOf, rowIn, Lies, upperPart, lowerPart}
+
+-- the place of a cell, by its row
+pub cell-row : (P : Instance) (C R : ℕ) (p : Strip) (v : ℕ) → P .kinds ≡ 1 → p .d ≡ 0 → cellOf P C R p v ≡ rowOf (P .slots .m) C p * R + v
+unfolding cellOf
+cell-row P C R p v k d = rw (k, d) (ap (λ (z : ℕ). z * R + v) (omega arith))
+
+-- none at the full budget, so none at every budget
+abbrev pub Falls : (n : ℕ) → (f : ℕ → ℕ) → Type 0
+Falls n f = f (n - 1) ≡ topWord → (w : ℕ) → w < n → f w ≡ topWord
+
+-- a label of which a part is none
+open-none : (parts counts : List ℕ) (n c u : ℕ) (f g : ℕ → ℕ) → Within n parts counts → ((w : ℕ) → w < n → f w ≡ topWord) ⊎ ((w : ℕ) → w < n → g w ≡ topWord)
+    → openBy parts counts n c u f g ≡ topWord
+open-none parts counts n c u f g l h =
+    by-order n u
+    (λ k. rw (le-ltb u n k))
+    (λ k. rw (lt-ltb u n k) (ap (plus topWord c) (shared k) ∙ plus-top topWord c))
+  where
+    each : u < n → (i : ℕ) → i < getD counts u 0 → plus topWord (f (partAt parts u i)) (g (u - partAt parts u i)) ≡ topWord
+    each k i j =
+        let w = l .small u i k j in
+        by-either h
+        (λ e. rw (e (partAt parts u i) (omega (arith, w))) (top-plus topWord _))
+        (λ e. rw (e (u - partAt parts u i) (omega arith)) (plus-top topWord _))
+
+    shared : u < n → shareBy parts counts f g u ≡ topWord
+    shared k = le-antisymm (least-le-top topWord (getD counts u 0) _) (least-most topWord (getD counts u 0) _ topWord (omega arith) (λ i j. let e = each k i j in omega arith))
+
+module _ (q : Measures) (hs bs rs ds work parts counts left : List ℕ) (low : ℕ) (p : Strip) (s : Point) (v : ℕ)
+    (splits : Splits rs (q .budgets) parts counts) (drawn : getD left v 0 ≡ leftBy rs (getD ds (s .c) 0) v) (lies : Lies (length hs) (q .colours) p) (low-v : v < q .budgets)
+    (falls : inside (instanceOn q hs bs) p s ≡ true → (k : ℕ) → opens (instanceOn q hs bs) p s k ≡ true
+    → Falls (q .budgets) (rowIn work low (length hs) (q .colours) (q .budgets) (upperPart p s k)) × Falls (q .budgets) (rowIn work low (length hs) (q .colours) (q .budgets) (lowerPart p s k))) where
+  abbrev P : Instance
+  P = instanceBy q hs bs rs ds
+
+  abbrev row : Strip → ℕ → ℕ
+  row = rowIn work low (length hs) (q .colours) (q .budgets)
+
+  abbrev step : ℕ → ℕ
+  step k = stepCell P (q .colours) (q .budgets) (drop low work) p s k v
+
+  abbrev term : ℕ → ℕ
+  term k = slotTerm q hs bs parts counts left row p s k v
+
+  cell : (x : Strip) (w : ℕ) → x .d ≡ 0 → getD (drop low work) (cellOf P (q .colours) (q .budgets) x w) 0 ≡ row x w
+  cell x w d =
+      at-drop work low _ ∙ ap (λ (z : ℕ). getD work z 0)
+      (let e = cell-row P (q .colours) (q .budgets) x w refl d in omega arith)
+
+  -- two rows share a budget as their cells do
+  shared : (x y : Strip) (u : ℕ) → x .d ≡ 0 → y .d ≡ 0 → u < q .budgets → shareCells P (q .colours) (q .budgets) (drop low work) x y u ≡ shareBy parts counts (row x) (row y) u
+  unfolding shareCells conv
+  shared x y u d e h =
+      ap₂ (λ (f g : ℕ → ℕ). conv topWord (below rs) f g u) (fun-ext (λ w. cell x w d)) (fun-ext (λ w. cell y w e))
+      ∙ sym (share-by rs (q .budgets) parts counts splits (row x) (row y) u h)
+
+  own-is : record { a = p .a; ca = p .ca; b = p .b; cb = p .cb; d = 0 } ≡ p
+  own-is = ap (λ (d : ℕ). record { a = p .a; ca = p .ca; b = p .b; cb = p .cb; d = d }) (sym (lies .dLow))
+
+  -- a label whose draw the budget has, or has not
+  by-draw : (k : ℕ) (t : Bool) → below rs (getD ds (s .c) 0) v ≡ t
+      → cond t (plus topWord (openCost q hs s k) (shareCells P (q .colours) (q .budgets) (drop low work) (upperPart p s k) (lowerPart p s k) (v - getD ds (s .c) 0))) topWord
+      ≡ openBy parts counts (q .budgets) (openCost q hs s k) (getD left v 0) (row (upperPart p s k)) (row (lowerPart p s k))
+  by-draw k true e =
+      let u : getD left v 0 ≡ v - getD ds (s .c) 0 = drawn ∙ rw e in
+      rw (u, lt-ltb (v - getD ds (s .c) 0) (q .budgets) (omega arith))
+      (ap (plus topWord (openCost q hs s k)) (shared (upperPart p s k) (lowerPart p s k) (v - getD ds (s .c) 0) refl refl (omega arith)))
+  by-draw k false e =
+      let u : getD left v 0 ≡ 255 = drawn ∙ rw e in
+      rw (u, le-ltb 255 (q .budgets) (omega (arith, splits .within .few)))
+
+  -- if a part is none at the full budget, so is the label
+  by-part : inside (instanceOn q hs bs) p s ≡ true → (k : ℕ) → opens (instanceOn q hs bs) p s k ≡ true → (t : Bool) → noPart q hs bs parts counts left row p s k ≡ t
+      → openBy parts counts (q .budgets) (openCost q hs s k) (getD left v 0) (row (upperPart p s k)) (row (lowerPart p s k))
+      ≡ cond t topWord (openBy parts counts (q .budgets) (openCost q hs s k) (getD left v 0) (row (upperPart p s k)) (row (lowerPart p s k)))
+  by-part i k o false e = refl
+  by-part i k o true e =
+      open-none parts counts (q .budgets) (openCost q hs s k) (getD left v 0) (row (upperPart p s k)) (row (lowerPart p s k)) (splits .within)
+      (by-either (or-e _ _ e) (λ x. inl (falls i k o .0 (eqb-true _ _ x))) (λ x. inr (falls i k o .1 (eqb-true _ _ x))))
+
+  step-open : inside (instanceOn q hs bs) p s ≡ true → (k : ℕ) → opens (instanceOn q hs bs) p s k ≡ true → step k ≡ term k
+  unfolding stepCell slotTerm
+  step-open i k o =
+      rw (opens-on q hs bs rs ds p s k, o, opening q hs bs p s k o .gap, ← (upper-is p s k), ← (lower-is p s k)) (by-draw k (below rs (getD ds (s .c) 0) v) refl ∙ by-part i k o (noPart q hs bs parts counts left row p s k) refl)
+
+  step-join : (k : ℕ) → opens (instanceOn q hs bs) p s k ≡ false → joinsUp (instanceOn q hs bs) p s k || joinsDown (instanceOn q hs bs) p s k ≡ true
+      → step k ≡ plus topWord (joinCost q hs s k) (row p v)
+  unfolding stepCell
+  step-join k o j =
+      rw (opens-on q hs bs rs ds p s k, joins-up-on q hs bs rs ds p s k, joins-down-on q hs bs rs ds p s k, o, j, own-is) (ap (plus topWord (joinCost q hs s k)) (cell p v (lies .dLow)))
+
+  step-none : (k : ℕ) → opens (instanceOn q hs bs) p s k ≡ false → joinsUp (instanceOn q hs bs) p s k || joinsDown (instanceOn q hs bs) p s k ≡ false → step k ≡ topWord
+  unfolding stepCell
+  step-none k o j = rw (opens-on q hs bs rs ds p s k, joins-up-on q hs bs rs ds p s k, joins-down-on q hs bs rs ds p s k, o, j)
+
+  -- ---- no step costs less than what is worked out
+
+  abbrev worked : ℕ
+  worked = insideEntry q hs bs parts counts left row p s v
+
+  worked-joins : worked ≤ plus topWord (joinLeast q hs bs p s) (row p v)
+  unfolding insideEntry
+  worked-joins = omega arith
+
+  worked-opens : siteOpens (instanceOn q hs bs) p s ≡ true → worked ≤ slotsLeast q hs bs parts counts left row p s (p .b - 1 - p .a) v
+  unfolding insideEntry
+  worked-opens e = rw e (omega arith)
+
+  raised : (a b r : ℕ) → a ≤ b → plus topWord a r ≤ plus topWord b r
+  unfolding plus
+  raised a b r h = omega arith
+
+  worked-low : inside (instanceOn q hs bs) p s ≡ true → (k : ℕ) → k < length hs → worked ≤ step k
+  worked-low i k h =
+      by-test (opens (instanceOn q hs bs) p s k)
+      (λ o.
+      let g = opening q hs bs p s k o in
+      let e : p .a + (k - p .a) ≡ k = omega (arith, g .above) in
+      let l : slotsLeast q hs bs parts counts left row p s (p .b - 1 - p .a) v ≤ term (p .a + (k - p .a)) = least-le topWord (p .b - 1 - p .a) (λ j. term (p .a + j)) (k - p .a) (omega (arith, g .above, g .under)) in
+      rw (step-open i k o) (le-trans (worked-opens (g .site)) (rw e at l)))
+      (λ o. by-test (joinsUp (instanceOn q hs bs) p s k || joinsDown (instanceOn q hs bs) p s k)
+      (λ j. rw (step-join k o j) (le-trans worked-joins (raised _ _ (row p v) (by-either (or-e _ _ j) (up-least q hs bs p s k h) (down-least q hs bs p s k)))))
+      (λ j. rw (step-none k o j) (le-trans worked-joins (plus-le topWord _ _))))
+
+  -- ---- nor less than the least step
+
+  abbrev total : ℕ
+  total = least topWord (length hs) step
+
+  total-join : (k : ℕ) → k < length hs → (p .a ≡ suc k) ⊎ (p .b ≡ suc k) → joinsUp (instanceOn q hs bs) p s k || joinsDown (instanceOn q hs bs) p s k ≡ true
+      → total ≤ plus topWord (joinCost q hs s k) (row p v)
+  total-join k h e j = rw (step-join k (shut q hs bs p s k e) j) at (least-le topWord (length hs) step k h)
+
+  -- the lesser of two sums
+  two-sums : (t a b r : ℕ) → t ≤ plus topWord a r → t ≤ plus topWord b r → t ≤ plus topWord (min a b) r
+  unfolding plus
+  two-sums t a b r h k = omega arith
+
+  total-none : total ≤ plus topWord topWord (row p v)
+  unfolding plus
+  total-none = omega (arith, least-le-top topWord (length hs) step)
+
+  or-left : (a b : Bool) → a ≡ true → a || b ≡ true
+  or-left a b e = rw e
+
+  or-right : (a b : Bool) → b ≡ true → a || b ≡ true
+  or-right true b e = refl
+  or-right false b e = e
+
+  total-up : total ≤ plus topWord (cond (ltb (p .a - 1) (length hs) && joinsUp (instanceOn q hs bs) p s (p .a - 1)) (joinCost q hs s (p .a - 1)) topWord) (row p v)
+  total-up =
+      by-test (ltb (p .a - 1) (length hs) && joinsUp (instanceOn q hs bs) p s (p .a - 1))
+      (λ e. let w = and-both _ _ e in rw e (total-join (p .a - 1) (ltb-true _ _ (w .0)) (inl (up-at q hs bs p s (p .a - 1) (w .1))) (or-left _ _ (w .1))))
+      (λ e. rw e total-none)
+
+  total-down : total ≤ plus topWord (cond (joinsDown (instanceOn q hs bs) p s (p .b - 1)) (joinCost q hs s (p .b - 1)) topWord) (row p v)
+  total-down =
+      by-test (joinsDown (instanceOn q hs bs) p s (p .b - 1))
+      (λ e. let w = down-at q hs bs p s (p .b - 1) e in rw e (total-join (p .b - 1) (w .1) (inr (w .0)) (or-right (joinsUp (instanceOn q hs bs) p s (p .b - 1)) _ e)))
+      (λ e. rw e total-none)
+
+  total-joins : total ≤ plus topWord (joinLeast q hs bs p s) (row p v)
+  unfolding joinLeast
+  total-joins = two-sums total _ _ (row p v) total-up total-down
+
+  term-shut : (k : ℕ) → gapLeft (instanceOn q hs bs) p s k ≡ false → term k ≡ topWord
+  unfolding slotTerm
+  term-shut k e = rw e
+
+  total-slot : inside (instanceOn q hs bs) p s ≡ true → siteOpens (instanceOn q hs bs) p s ≡ true → (i : ℕ) → i < p .b - 1 - p .a → total ≤ term (p .a + i)
+  total-slot e o i h =
+      by-test (gapLeft (instanceOn q hs bs) p s (p .a + i))
+      (λ g.
+      let k : p .a + i < length hs = omega (arith, lies .bLow) in
+      let t = opens-of q hs bs p s (p .a + i) (record { above = omega arith; under = omega arith; slot = k; gap = g; site = o }) in
+      rw (step-open e (p .a + i) t) at (least-le topWord (length hs) step (p .a + i) k))
+      (λ g. rw (term-shut (p .a + i) g) (least-le-top topWord (length hs) step))
+
+  total-opens : inside (instanceOn q hs bs) p s ≡ true → total ≤ cond (siteOpens (instanceOn q hs bs) p s) (slotsLeast q hs bs parts counts left row p s (p .b - 1 - p .a) v) topWord
+  total-opens e =
+      by-test (siteOpens (instanceOn q hs bs) p s)
+      (λ o. rw o (least-most topWord (p .b - 1 - p .a) (λ i. term (p .a + i)) total (least-le-top topWord (length hs) step) (total-slot e o)))
+      (λ o. rw o (least-le-top topWord (length hs) step))
+
+  lesser-of : (t a b : ℕ) → t ≤ a → t ≤ b → t ≤ min a b
+  lesser-of t a b h k = omega arith
+
+  total-low : inside (instanceOn q hs bs) p s ≡ true → total ≤ worked
+  unfolding insideEntry
+  total-low e = lesser-of total _ _ total-joins (total-opens e)
+
+  -- THE ENTRY is the model's
+  pub entry-by : entryBy q hs bs parts counts left (rowIn work low (length hs) (q .colours) (q .budgets)) p s v
+      ≡ entryIn (instanceBy q hs bs rs ds) (q .colours) (q .budgets) work low p s v
+  unfolding entryBy
+  entry-by =
+      rw (inside-on q hs bs rs ds p s)
+      (by-test (inside (instanceOn q hs bs) p s)
+      (λ i. rw i (le-antisymm (least-most topWord (length hs) step worked (le-trans worked-joins (plus-le topWord _ _)) (worked-low i)) (total-low i)))
+      (λ i. rw i (sym (cell p v (lies .dLow)))))

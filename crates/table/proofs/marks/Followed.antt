@@ -1,0 +1,147 @@
+-- The strips of a level followed one by one, by their ends. Assumes nothing.
+use mathlib.Core.Path.{_≡_, refl, sym, ap, ap₂, _∙_, subst}
+use mathlib.Core.Bool.{false}
+use mathlib.Core.List.{List}
+use Prim.Native.Nat.{ℕ, suc, _+_, _*_, _-_, _/_, _%_, _<_, _≤_}
+use native.Mathlib.Omega.{arith}
+use lib.Arith.{digits-div, digits-mod}
+use lib.ListN.{length, getD}
+use Rattle.lists.proofs.Tests.{by-order, clash}
+use Rattle.optimum.specs.Strips.{Point, Strip, Instance}
+use Rattle.optimum.specs.Reached.{Asks}
+use Rattle.arrays.specs.declared.Measures.{Measures}
+use Rattle.strips.specs.Strips.{instanceOn}
+use Rattle.rows.specs.Rows.{rowOf, levelSize, Lies, endPlace, upperEnd}
+use Rattle.rows.proofs.Places.{row-fits}
+use Rattle.table.specs.Marks.{Ready, Shaped, Led}
+use Rattle.rows.specs.Parts.{Marked, Marking, Room}
+use Rattle.rows.proofs.parts.Marking.{marking-none, marking-join}
+
+-- ---- ends by their places
+
+pub same-end : (C a b c d : ℕ) → b ≤ C → d ≤ C → endPlace C a b ≡ endPlace C c d → (a ≡ c) × (b ≡ d)
+same-end C a b c d h k e =
+    let u : b < C + 1 = omega arith in
+    let v : d < C + 1 = omega arith in
+    (sym (digits-div a u) ∙ ap (λ (z : ℕ). z / (C + 1)) e ∙ digits-div c v, sym (digits-mod a u) ∙ ap (λ (z : ℕ). z % (C + 1)) e ∙ digits-mod c v)
+
+-- an end of a later slot comes later
+pub later-end : (C a b c d : ℕ) → b ≤ C → a < c → endPlace C a b < endPlace C c d
+later-end C a b c d h k = let e : c ≡ suc a + (c - suc a) = omega arith in omega (arith, ap (λ (z : ℕ). z * (C + 1)) e)
+
+-- an end at or after the first of a slot is of that slot or a later one
+pub slot-high : (C a c d : ℕ) → d ≤ C → endPlace C a 0 ≤ endPlace C c d → a ≤ c
+slot-high C a c d h e = by-order a c (λ l. l) (λ l. absurd (omega (arith, later-end C c d a 0 h l)))
+
+pub slot-low : (C a c d : ℕ) → a ≤ c → endPlace C a 0 ≤ endPlace C c d
+slot-low C a c d h = let e : c ≡ a + (c - a) = omega arith in omega (arith, ap (λ (z : ℕ). z * (C + 1)) e)
+
+-- no strip has an upper end that is none
+pub ended : (m C slot colour : ℕ) → colour ≤ C → upperEnd slot colour ≡ false → (p : Strip) → Shaped m C p → endPlace C (p .a) (p .ca) ≡ endPlace C slot colour → ⊥
+ended m C slot colour c u p t e =
+    let x = same-end C (p .a) (p .ca) slot colour (omega (arith, t .lies .caLow)) c e in
+    clash (ap₂ upperEnd (sym (x .0)) (sym (x .1)) ∙ t .ends) u
+
+-- the row of a strip, by its ends
+pub row-ends : (m C : ℕ) (p : Strip) → rowOf m C p ≡ endPlace C (p .a) (p .ca) * ((m + 2) * (C + 1)) + endPlace C (p .b) (p .cb)
+row-ends m C p = omega arith
+
+-- the strip with the next lower end has the next row
+pub next-row : (m C n at base : ℕ) (p r : Strip) → r .a ≡ p .a → r .ca ≡ p .ca → endPlace C (r .b) (r .cb) ≡ endPlace C (p .b) (p .cb) + 1
+    → at ≡ base + rowOf m C p * n → at + n ≡ base + rowOf m C r * n
+next-row m C n at base p r e f g h =
+    let x : rowOf m C r ≡ rowOf m C p + 1 = row-ends m C r ∙ ap₂ (λ (u v : ℕ). u * ((m + 2) * (C + 1)) + v) (ap₂ (endPlace C) e f) g ∙ omega (arith, row-ends m C p) in
+    ap (λ (z : ℕ). z + n) h ∙ more (rowOf m C p) (rowOf m C r) x
+  where
+    more : (a b : ℕ) → b ≡ a + 1 → base + a * n + n ≡ base + b * n
+    more a b e = rw e (omega arith)
+
+-- its slot is the same or the next
+pub next-slot : (C a b c d : ℕ) → b ≤ C → endPlace C c d ≡ endPlace C a b + 1 → c ≤ a + 1
+next-slot C a b c d h e = slot-high C c (a + 1) 0 (omega arith) (omega (arith, e))
+
+pub same-strip : (m C : ℕ) (p r : Strip) → Lies m C p → Lies m C r → endPlace C (p .a) (p .ca) ≡ endPlace C (r .a) (r .ca) → endPlace C (p .b) (p .cb) ≡ endPlace C (r .b) (r .cb) → p ≡ r
+same-strip m C p r l k e f =
+    let x = same-end C (p .a) (p .ca) (r .a) (r .ca) (omega (arith, l .caLow)) (omega (arith, k .caLow)) e in
+    let y = same-end C (p .b) (p .cb) (r .b) (r .cb) (omega (arith, l .cbLow)) (omega (arith, k .cbLow)) f in
+    all (p .a) (p .ca) (p .b) (p .cb) (p .d) (r .a) (r .ca) (r .b) (r .cb) (r .d) (x .0) (x .1) (y .0) (y .1) (l .dLow ∙ sym (k .dLow))
+  where
+    all : (a ca b cb d a' ca' b' cb' d' : ℕ) → a ≡ a' → ca ≡ ca' → b ≡ b' → cb ≡ cb' → d ≡ d'
+        → _≡_ {A = Strip} (record { a = a; ca = ca; b = b; cb = cb; d = d }) (record { a = a'; ca = ca'; b = b'; cb = cb'; d = d' })
+    all a ca b cb d a' ca' b' cb' d' e f g h i = rw (e, f, g, h, i) refl
+
+-- ---- the strips below one upper end, up to a lower end; those below all upper ends, up to one
+
+module _ (q : Measures) (hs bs : List ℕ) (base low : ℕ) (s : Point) where
+  abbrev P : Instance
+  P = instanceOn q hs bs
+
+  pub record Followed (old new : List ℕ) (above place : ℕ) : Type 0 where
+    pub marking : Marking old new low (levelSize q hs)
+    pub led : (p : Strip) → Shaped (length hs) (q .colours) p → endPlace (q .colours) (p .a) (p .ca) ≡ above → endPlace (q .colours) (p .b) (p .cb) < place → Led P q old new base low s p
+
+  pub followed-none : (old : List ℕ) (a ca place : ℕ) → ca ≤ q .colours → place ≡ endPlace (q .colours) (a + 1) 0 → Followed old old (endPlace (q .colours) a ca) place
+  followed-none old a ca place c e = record {
+    marking = marking-none _ _ _;
+    led = λ p h f l.
+        let x = same-end (q .colours) (p .a) (p .ca) a ca (omega (arith, h .lies .caLow)) c f in
+        let z = slot-high (q .colours) (p .b) a (q .colours) (omega arith) (omega (arith, e, l)) in
+        absurd (omega (arith, h .falls, x .0, z));
+  }
+
+  pub followed-more : (old new last : List ℕ) (r : Strip) (place at : ℕ) → base + levelSize q hs ≤ low → Lies (length hs) (q .colours) r → place ≡ endPlace (q .colours) (r .b) (r .cb)
+      → at ≡ base + rowOf (length hs) (q .colours) r * q .budgets → 0 < q .budgets
+      → Followed old new (endPlace (q .colours) (r .a) (r .ca)) place → Marking new last low (levelSize q hs)
+      → (getD new at 0 ≡ 1 → (x : Strip) → Asks P r s x → Marked last low (length hs) (q .colours) (q .budgets) x)
+      → Followed old last (endPlace (q .colours) (r .a) (r .ca)) (place + 1)
+  followed-more old new last r place at h l e f n d g k = record {
+    marking = marking-join _ _ _ _ _ (d .marking) g;
+    led = λ p t a b. by-order place (endPlace (q .colours) (p .b) (p .cb))
+        (λ u. let z = same-strip (length hs) (q .colours) p r (t .lies) l a (omega (arith, e, b, u)) in
+        λ m x w. k (subst (λ (i : ℕ). getD new i 0 ≡ 1) (sym f) (d .marking .others .before _ (omega (arith, row-fits (length hs) (q .colours) (q .budgets) r l)) ∙ subst (Marked old base (length hs) (q .colours) (q .budgets)) z m)) x (subst (λ (y : Strip). Asks P y s x) z w))
+        (λ u m x w. g .kept _ (d .led p t a u m x w));
+  }
+
+  -- up to the end of the lower ends
+  pub followed-all : (old new : List ℕ) (above c d : ℕ) → length hs + 2 ≤ c → Followed old new above (endPlace (q .colours) c d)
+      → (p : Strip) → Shaped (length hs) (q .colours) p → endPlace (q .colours) (p .a) (p .ca) ≡ above → Led P q old new base low s p
+  followed-all old new above c d h f p t e =
+      f .led p t e (later-end (q .colours) (p .b) (p .cb) c d (omega (arith, t .lies .cbLow)) (omega (arith, t .lies .bLow)))
+
+  -- the strips below all upper ends, up to one
+  pub record Passed (old new : List ℕ) (place : ℕ) : Type 0 where
+    pub marking : Marking old new low (levelSize q hs)
+    pub led : (p : Strip) → Shaped (length hs) (q .colours) p → endPlace (q .colours) (p .a) (p .ca) < place → Led P q old new base low s p
+
+  pub passed-none : (old : List ℕ) (place : ℕ) → place ≡ 0 → Passed old old place
+  passed-none old place e = record { marking = marking-none _ _ _; led = λ p t l. absurd (omega (arith, e, l)) }
+
+  pub passed-more : (old new last : List ℕ) (place : ℕ) → base + levelSize q hs ≤ low → 0 < q .budgets → Passed old new place → Marking new last low (levelSize q hs)
+      → ((p : Strip) → Shaped (length hs) (q .colours) p → endPlace (q .colours) (p .a) (p .ca) ≡ place → Led P q new last base low s p) → Passed old last (place + 1)
+  passed-more old new last place h n d g k = record {
+    marking = marking-join _ _ _ _ _ (d .marking) g;
+    led = λ p t l. by-order place (endPlace (q .colours) (p .a) (p .ca))
+        (λ u m x w. k p t (omega (arith, l, u)) (d .marking .others .before _ (omega (arith, row-fits (length hs) (q .colours) (q .budgets) p (t .lies))) ∙ m) x w)
+        (λ u m x w. g .kept _ (d .led p t u m x w));
+  }
+
+  pub passed-all : (old new : List ℕ) (c d : ℕ) → length hs + 1 ≤ c → Passed old new (endPlace (q .colours) c d)
+      → (p : Strip) → Shaped (length hs) (q .colours) p → Led P q old new base low s p
+  passed-all old new c d h f p t =
+      f .led p t (later-end (q .colours) (p .a) (p .ca) c d (omega (arith, t .lies .caLow)) (omega (arith, t .lies .bLow, t .falls)))
+
+-- ---- what the loops ask
+
+pub lies-at : (m C : ℕ) (p : Strip) → p .a ≤ m → p .ca ≤ C → p .b < m + 2 → p .cb ≤ C → p .d ≡ 0 → Lies m C p
+lies-at m C p a ca b cb d = record { aLow = omega arith; caLow = omega arith; bLow = b; cbLow = omega arith; dLow = d }
+
+pub start-lies : (m C a ca : ℕ) → a ≤ m → ca ≤ C → Lies m C (record { a = a; ca = ca; b = a + 1; cb = 0; d = 0 })
+start-lies m C a ca h k = record { aLow = omega arith; caLow = omega arith; bLow = omega arith; cbLow = omega arith; dLow = refl }
+
+module _ {q : Measures} {hs bs : List ℕ} {area base low : ℕ} {s : Point} (r : Ready q hs bs area base low s) where
+  pub room-of : Room q (length hs) low area
+  room-of = record { slotsFew = r .framed .slotsFew; coloursFew = r .framed .coloursFew; budgetsFew = r .framed .budgetsFew; budgetsSome = r .framed .budgetsSome; within = r .within }
+
+  -- a row of the upper level
+  pub at-low : (p : Strip) → Lies (length hs) (q .colours) p → (at : ℕ) → at ≡ base + rowOf (length hs) (q .colours) p * q .budgets → at + q .budgets ≤ low
+  at-low p l at e = omega (arith, e, r .apart, row-fits (length hs) (q .colours) (q .budgets) p l)

@@ -1,0 +1,113 @@
+-- What the whole sheet leads to has the shape that is looked for, and is marked level by level. Assumes nothing.
+use mathlib.Core.Path.{_≡_, refl, sym, ap, _∙_, subst}
+use mathlib.Core.Bool.{true}
+use mathlib.Core.List.{List}
+use Prim.Native.Nat.{ℕ, zero, suc, _+_, _*_, _-_, _<_, _≤_}
+use native.Mathlib.Omega.{arith}
+use native.Mathlib.Numerals.{add-one}
+use lib.ListN.{length, getD}
+use borrow.Author.Tests.{lt-ltb, ne-eqb}
+use Rattle.lists.proofs.Tests.{by-test, by-either, by-order}
+use Rattle.optimum.specs.Slots.{over, under, farFrom, clearFrom}
+use Rattle.optimum.specs.Strips.{Point, Strip, Instance, inside, opens, joinsUp, joinsDown, children}
+use Rattle.optimum.specs.Reached.{Asks, Reached, noPoint, wholeSheet}
+use Rattle.arrays.specs.declared.Measures.{Measures}
+use Rattle.arrays.specs.Arrays.{instanceBy, pointsBy}
+use Rattle.strips.specs.Strips.{instanceOn, Framed, Stands}
+use Rattle.rows.specs.Rows.{rowOf, levelSize, upperPart, lowerPart, upperEnd}
+use Rattle.rows.proofs.Places.{upper-lies, lower-lies}
+use Rattle.table.specs.Marks.{Shaped, Led, Sites, ReachMarked}
+use Rattle.rows.specs.Parts.{Marked, Marking}
+use Rattle.table.proofs.marks.Asked.{asked-out, asked-in}
+use Rattle.table.proofs.marks.Points.{point-at}
+
+-- ---- radices and draws have no part in what is reached
+
+pub asks-on : (q : Measures) (hs bs rs ds : List ℕ) (p : Strip) (s : Point) (x : Strip) → Asks (instanceBy q hs bs rs ds) p s x → Asks (instanceOn q hs bs) p s x
+unfolding inside over under farFrom clearFrom opens joinsUp joinsDown children
+asks-on q hs bs rs ds p s x a = a
+
+pub asks-by : (q : Measures) (hs bs rs ds : List ℕ) (p : Strip) (s : Point) (x : Strip) → Asks (instanceOn q hs bs) p s x → Asks (instanceBy q hs bs rs ds) p s x
+unfolding inside over under farFrom clearFrom opens joinsUp joinsDown children
+asks-by q hs bs rs ds p s x a = a
+
+pub reached-on : (q : Measures) (hs bs rs ds : List ℕ) (ss : List Point) (j : ℕ) (p : Strip) → Reached (instanceBy q hs bs rs ds) ss j p → Reached (instanceOn q hs bs) ss j p
+unfolding Reached
+reached-on q hs bs rs ds ss zero p r = r
+reached-on q hs bs rs ds ss (suc j) p (x, r, a) = (x, reached-on q hs bs rs ds ss j x r, asks-on q hs bs rs ds x (getD ss j noPoint) p a)
+
+-- ---- a level by its size and its site
+
+pub at-site : (q : Measures) (hs bs old new : List ℕ) (size base low : ℕ) (s t : Point) → size ≡ levelSize q hs → t ≡ s
+    → Marking old new low (levelSize q hs) × ((p : Strip) → Shaped (length hs) (q .colours) p → Led (instanceOn q hs bs) q old new base low s p)
+    → Marking old new low size × ((p : Strip) → Shaped (length hs) (q .colours) p → Led (instanceOn q hs bs) q old new base low t p)
+at-site q hs bs old new size base low s t e f h = rw (e, f) h
+
+pub whole-marked : (q : Measures) (hs bs work : List ℕ) → Marked work 0 (length hs) (q .colours) (q .budgets) (record { a = 0; ca = 0; b = length hs + 1; cb = 0; d = 0 })
+    → Marked work 0 (length hs) (q .colours) (q .budgets) (wholeSheet (instanceOn q hs bs))
+whole-marked q hs bs work h = subst (λ (b : ℕ). Marked work 0 (length hs) (q .colours) (q .budgets) (record { a = 0; ca = 0; b = b; cb = 0; d = 0 })) (add-one (length hs)) h
+
+pub to-level : (P : Instance) (q : Measures) (ss : List Point) (work : List ℕ) (size level j : ℕ) {n : ℕ} → size ≡ level → j ≡ n → ReachMarked P q ss work size (j + 1) → ReachMarked P q ss work level (n + 1)
+to-level P q ss work size level j e f h = rw (← e, ← f) h
+
+-- ---- shapes
+
+module _ (q : Measures) (hs bs : List ℕ) (f : Framed q hs bs) where
+  asked-shape : (p x : Strip) (s : Point) → Stands (q .colours) s → Shaped (length hs) (q .colours) p → Asks (instanceOn q hs bs) p s x → Shaped (length hs) (q .colours) x
+  unfolding upperEnd
+  asked-shape p x s g t a =
+      by-test (inside (instanceOn q hs bs) p s)
+      (λ i. by-either (asked-in q hs bs p s x (t .lies) f g i a)
+      (λ z. subst (Shaped (length hs) (q .colours)) (sym (z .0)) t)
+      (λ z. let o = z .opened in
+      by-either (z .which)
+      (λ e. subst (Shaped (length hs) (q .colours)) (sym e) (upper (z .k) (o .above) (o .under)))
+      (λ e. subst (Shaped (length hs) (q .colours)) (sym e) (lower (z .k) (o .under)))))
+      (λ i. subst (Shaped (length hs) (q .colours)) (sym (asked-out q hs bs p s x i a)) t)
+    where
+      upper : (k : ℕ) → p .a < k + 1 → k + 1 < p .b → Shaped (length hs) (q .colours) (upperPart p s k)
+      upper k h u = record { lies = upper-lies _ _ p s k (t .lies) (g .colourLow) u; falls = h; ends = t .ends }
+
+      label : (k c : ℕ) → upperEnd (k + 1) (c + 1) ≡ true
+      label k c = rw (ne-eqb (k + 1) 0 (λ (e : k + 1 ≡ 0). omega arith), lt-ltb 0 (c + 1) (omega arith))
+
+      lower : (k : ℕ) → k + 1 < p .b → Shaped (length hs) (q .colours) (lowerPart p s k)
+      lower k u = record { lies = lower-lies _ _ p s k (t .lies) (g .colourLow) u; falls = u; ends = label k (s .c) }
+
+  module _ (xs ys cs : List ℕ) (g : Sites q xs ys cs) where
+    pub site-stands : (j : ℕ) → j < length xs → Stands (q .colours) (getD (pointsBy xs ys cs) j noPoint)
+    site-stands j h = subst (Stands (q .colours)) (sym (point-at xs ys cs j (g .ysLong) (g .csLong) h)) (record { colourLow = g .csLow j h; yLow = g .ysLow j h })
+
+    pub reached-shape : (j : ℕ) → j ≤ length xs → (p : Strip) → Reached (instanceOn q hs bs) (pointsBy xs ys cs) j p → Shaped (length hs) (q .colours) p
+    unfolding Reached upperEnd
+    reached-shape zero h p e = subst (Shaped (length hs) (q .colours)) (sym e) (record {
+      lies = record { aLow = omega arith; caLow = omega arith; bLow = omega arith; cbLow = omega arith; dLow = refl };
+      falls = omega arith;
+      ends = refl;
+    })
+    reached-shape (suc j) h p (x, r, a) = asked-shape x p _ (site-stands j (omega arith)) (reached-shape j (omega arith) x r) a
+
+    -- ---- levels
+
+    -- the first level, once the whole sheet is marked
+    pub reach-first : (work : List ℕ) (size : ℕ) → Marked work 0 (length hs) (q .colours) (q .budgets) (wholeSheet (instanceOn q hs bs))
+        → ReachMarked (instanceOn q hs bs) q (pointsBy xs ys cs) work size 1
+    unfolding Reached
+    reach-first work size m zero h p e = subst (Marked work (0 * size) (length hs) (q .colours) (q .budgets)) (sym e) (ap (λ (z : ℕ). getD work (z + rowOf (length hs) (q .colours) (wholeSheet (instanceOn q hs bs)) * q .budgets) 0) (omega arith) ∙ m)
+    reach-first work size m (suc i) h p e = absurd (omega arith)
+
+    -- one level more
+    pub reach-more : (old new : List ℕ) (size j : ℕ) → j < length xs → ReachMarked (instanceOn q hs bs) q (pointsBy xs ys cs) old size (j + 1) → Marking old new ((j + 1) * size) size
+        → ((p : Strip) → Shaped (length hs) (q .colours) p → Led (instanceOn q hs bs) q old new (j * size) ((j + 1) * size) (getD (pointsBy xs ys cs) j noPoint) p)
+        → ReachMarked (instanceOn q hs bs) q (pointsBy xs ys cs) new size (j + 1 + 1)
+    unfolding Reached
+    reach-more old new size j l h m f i u p r =
+        by-order (j + 1) i
+        (λ z. let e : i ≡ suc j = omega arith in next i e r)
+        (λ z. m .kept _ (h i z p r))
+      where
+        next : (i : ℕ) → i ≡ suc j → Reached (instanceOn q hs bs) (pointsBy xs ys cs) i p → Marked new (i * size) (length hs) (q .colours) (q .budgets) p
+        next i e r =
+            let w = subst (λ (n : ℕ). Reached (instanceOn q hs bs) (pointsBy xs ys cs) n p) e r in
+            let a = f (w .0) (reached-shape j (omega arith) (w .0) (w .1)) (h j (omega arith) (w .0) (w .1)) p (w .2) in
+            ap (λ (n : ℕ). getD new (n * size + rowOf (length hs) (q .colours) p * q .budgets) 0) (e ∙ sym (add-one j)) ∙ a

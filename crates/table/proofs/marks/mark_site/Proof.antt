@@ -1,0 +1,65 @@
+use Rattle.table.proofs.marks.Reach.{at-site}
+use Rattle.table.proofs.marks.Levels.{next-level, level-room}
+use Rattle.table.proofs.marks.Points.{point-at}
+use Rattle.strips.specs.Strips.{Stands}
+use mathlib.Core.Path.{refl, sym, _∙_, subst}
+use Prim.Native.Nat.{_-_}
+use native.Mathlib.Omega.{arith}
+use lib.ListN.{length}
+use borrow.Author.Needs.{needs}
+use Rattle.table.proofs.marks.mark_site.Statement.{statement}
+use Rattle.table.proofs.marks.mark_site.Tie as tie
+use Rattle.table.proofs.marks.mark_site.Reads as reads
+use Rattle.table.proofs.marks.mark_site.Lts as lts
+use Rattle.table.proofs.marks.follow_level.Reads as follow-level-reads
+
+site-at-requires : tie.Need-site-at-requires
+site-at-requires c κs =
+    let p = c .before .before .before .before .before .before .pre in (p .1 .2, omega (arith, p .0 .1 .ysLong, p .1 .2), omega (arith, p .0 .1 .csLong, p .1 .2))
+
+mul-follow-level : tie.Need-mul-follow-level
+mul-follow-level c =
+    let p = c .before .before .before .before .before .before .before .before .pre in
+    omega (arith, level-room (c .before .before .before .before .before .before .before .before .args .j) (length (c .before .before .before .before .before .before .before .before .args .xs .now)) (c .before .before .before .before .before .before .before .before .args .size) _ _ refl (p .1 .2) (p .1 .1))
+
+add-follow-level : tie.Need-add-follow-level
+add-follow-level c = search needs
+
+mul-follow-level-2 : tie.Need-mul-follow-level-2
+mul-follow-level-2 c =
+    let p = c .before .before .before .before .before .before .before .before .pre in
+    omega (arith, level-room (c .before .before .before .before .before .before .before .before .args .j) (length (c .before .before .before .before .before .before .before .before .args .xs .now)) (c .before .before .before .before .before .before .before .before .args .size) _ _ refl (p .1 .2) (p .1 .1))
+
+follow-level-requires : tie.Need-follow-level-requires
+follow-level-requires c κs =
+    let p = c .before .before .before .before .before .before .before .before .pre in
+    let a = c .before .before .before .before .before .before .before .before .args in
+    let r = level-room (a .j) (length (a .xs .now)) (a .size) _ _ refl (p .1 .2) (p .1 .1) in
+    record {
+      framed = p .0 .0;
+      stands = subst (Stands (a .q .colours)) (sym (c .before .site-at .ensures)) (record { colourLow = p .0 .1 .csLow (a .j) (p .1 .2); yLow = p .0 .1 .ysLow (a .j) (p .1 .2) });
+      apart = omega (arith, p .1 .0, next-level (a .j) (a .size));
+      within = omega (arith, p .1 .0, r .1);
+    }
+
+same-length : tie.Need-same-length
+same-length c =
+    c .before .before .follow-level .kept .0
+
+returns : tie.Need-returns
+returns c =
+    let p = c .before .before .before .before .before .before .before .before .before .before .before .pre in
+    let a = c .before .before .before .before .before .before .before .before .before .before .before .args in
+    at-site (a .q) (a .heights .now) (a .bounds .now) (a .work .now) (c .before .before .follow-level .last .0) (a .size) _ _ _ _ (p .1 .0) (point-at (a .xs .now) (a .ys .now) (a .cs .now) (a .j) (p .0 .1 .ysLong) (p .0 .1 .csLong) (p .1 .2) ∙ sym (c .before .before .before .before .site-at .ensures)) (c .before .before .follow-level .ensures)
+
+pub mark-site-spec : {M : Type 1} → statement M
+mark-site-spec =
+    tie.close
+    (tie.spec
+    site-at-requires
+    mul-follow-level
+    add-follow-level
+    mul-follow-level-2
+    follow-level-requires
+    same-length
+    returns)

@@ -1,0 +1,16 @@
+use borrow.Author.Needs.{needs}
+use Rattle.two_stripcosts.proofs.usedslots.last_code.Statement.{statement}
+use Rattle.two_stripcosts.proofs.usedslots.last_code.Tie as tie
+
+same-requires : tie.Need-same-requires
+same-requires c κs = search needs
+
+choose-requires : tie.Need-choose-requires
+choose-requires c κs = search needs
+
+returns : tie.Need-returns
+returns c =
+    rw (c .before .same .ensures) at (c .choose .ensures)
+
+pub last-code-spec : {M : Type 1} → statement M
+last-code-spec = tie.close (tie.spec same-requires choose-requires returns)
