@@ -1,5 +1,5 @@
 // The work area after a call: what both halves do last.
-pub mod room;
+pub mod lengths;
 
 ghost use mathlib.Core.Path.{_≡_};
 ghost use mathlib.Core.List.{_++_};

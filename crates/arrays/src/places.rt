@@ -6,8 +6,8 @@ ghost use Rattle.labelling.specs.Layout.{apart};
 ghost use Rattle.optimum.specs.Slots as model;
 ghost use Rattle.arrays.specs.Arrays.{slotsBy};
 use crate::Measures;
-use words::drops::apart_of;
 use words::at_most;
+use words::drops::apart_of;
 use words::get;
 use words::less;
 

@@ -8,14 +8,14 @@ ghost use Rattle.sheet.specs.Sheet.{sheetIn};
 ghost use Rattle.report.specs.Text.{written, pastOf};
 ghost use Rattle.report.specs.Lines.{refusedLine, layoutText};
 ghost use Rattle.report.specs.Report.{programSheetText, programText, reportSize, reportArea};
-use report::input::is_unfit;
-use report::input::wide;
 use libc::STDIN_FILENO;
 use libc::STDOUT_FILENO;
+use maker::make_layout;
+use report::input::is_unfit;
+use report::input::wide;
 use report::put_layout;
 use report::put_refused;
 use report::put_words;
-use maker::make_layout;
 
 // Bytes that hold every text: a first line of at most 36 and 32 lines of at most 50.
 const LONGEST: usize = 1636;

@@ -6,7 +6,7 @@ ghost use mathlib.Core.Bool.{true};
 ghost use Rattle.sheet.specs.Sheet.{sheetIn, sheetFault};
 ghost use Rattle.labelling.specs.Layout.{isLayout, brokenBy};
 ghost use Rattle.judge.specs.Judge.{judgePost, partsPost};
-use refusals::counts::count_kind;
+use crate::stored::rulings::broken_by;
 use decoding::bounds_of;
 use decoding::colours_of;
 use decoding::head_of;
@@ -17,7 +17,7 @@ use reader::faults::sheet_fault;
 use reader::scans::body_of;
 use reader::scans::layouts::is_layout;
 use reader::scans::layouts::layout_start;
-use crate::stored::rulings::broken_by;
+use refusals::counts::count_kind;
 
 // refusal: 1 to 7 or 11, 0 for none. rule: the least broken one, 0 for none and beside a refusal.
 #[repr(C)]

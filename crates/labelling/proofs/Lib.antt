@@ -8,7 +8,7 @@ pub mod Examples
 pub mod Judge
 pub mod Kept
 pub mod LeftEnd
-pub mod Loosened
+pub mod Binding
 pub mod Maker
 pub mod Members
 pub mod Order

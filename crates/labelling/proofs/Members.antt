@@ -11,7 +11,7 @@ use lib.ListN.{length, getD}
 use borrow.Author.Tests.{ltb-true, eqb-true, lt-ltb, eq-eqb}
 use Rattle.sheet.specs.Sheet.{all, Site, Sheet, rising}
 pub use Rattle.labelling.specs.Layout.{noSite}
-use Rattle.labelling.specs.Layout.{Tied, tieAt, tiedOf, tied, isUsed, usedFrom, least, leastX}
+use Rattle.labelling.specs.Layout.{Tied, tieAt, tiedOf, tied, isUsed, usedFrom, lesser, leastX}
 use Rattle.lists.proofs.Tests.{by-test, and-l, and-r, and-i, or-e, tests, eqb-self}
 
 -- ALL, by places
@@ -153,24 +153,24 @@ every s js long f h =
     at-all f noTied (tied s js) λ i l. subst⁻¹ (λ (t : Tied). f t ≡ true) (tied-at (s .sites) js i long) (h i (omega (arith, length-tied (s .sites) js long)))
 
 -- THE LEAST X of a slot: at most the width and each of its sites' x; the width, or one of them
-pub least-le : (a b : ℕ) → (least a b ≤ a) × (least a b ≤ b)
-least-le a b = by-test (ltb b a) (λ e. rw e (omega (arith, tests))) (λ e. rw e (omega (arith, tests)))
+pub lesser-le : (a b : ℕ) → (lesser a b ≤ a) × (lesser a b ≤ b)
+lesser-le a b = by-test (ltb b a) (λ e. rw e (omega (arith, tests))) (λ e. rw e (omega (arith, tests)))
 
 pub leastX-width : (k w : ℕ) (ts : List Tied) → leastX k w ts ≤ w
 unfolding leastX
 leastX-width k w [] = omega arith
 leastX-width k w (t ∷ ts) =
-    by-test (eqb (t .slot) k) (λ e. rw e (omega (arith, least-le (t .site .x) (leastX k w ts), leastX-width k w ts))) λ e. rw e (leastX-width k w ts)
+    by-test (eqb (t .slot) k) (λ e. rw e (omega (arith, lesser-le (t .site .x) (leastX k w ts), leastX-width k w ts))) λ e. rw e (leastX-width k w ts)
 
 pub leastX-le : (k w : ℕ) (ss : List Site) (js : List ℕ) (i : ℕ) → length js ≡ length ss → i < length ss → getD js i 0 ≡ k →
     leastX k w (tiedOf ss js) ≤ (getD ss i noSite) .x
 unfolding leastX tiedOf
 leastX-le k w [] js i l u e = absurd (omega arith)
 leastX-le k w (s ∷ ss) [] i l u e = absurd (omega arith)
-leastX-le k w (s ∷ ss) (j ∷ js) zero l u e = rw (eq-eqb j k e) (least-le (s .x) (leastX k w (tiedOf ss js)) .0)
+leastX-le k w (s ∷ ss) (j ∷ js) zero l u e = rw (eq-eqb j k e) (lesser-le (s .x) (leastX k w (tiedOf ss js)) .0)
 leastX-le k w (s ∷ ss) (j ∷ js) (suc i) l u e =
     by-test (eqb j k)
-    (λ f. rw f (omega (arith, least-le (s .x) (leastX k w (tiedOf ss js)), leastX-le k w ss js i (omega arith) (omega arith) e)))
+    (λ f. rw f (omega (arith, lesser-le (s .x) (leastX k w (tiedOf ss js)), leastX-le k w ss js i (omega arith) (omega arith) e)))
     λ f. rw f (leastX-le k w ss js i (omega arith) (omega arith) e)
 
 pub leastX-is : (k w : ℕ) (ss : List Site) (js : List ℕ) → length js ≡ length ss → leastX k w (tiedOf ss js) < w →
@@ -184,9 +184,9 @@ leastX-is k w (s ∷ ss) (j ∷ js) l h = go (eqb j k) refl h (leastX-is k w ss 
         (i : ℕ) × (i < suc (length ss)) × (getD (j ∷ js) i 0 ≡ k) × (m ≡ (getD (s ∷ ss) i noSite) .x)
     later (i, u, e, q) = (suc i, omega arith, e, q)
 
-    go : (t : Bool) → eqb j k ≡ t → cond t (least (s .x) (leastX k w (tiedOf ss js))) (leastX k w (tiedOf ss js)) < w →
+    go : (t : Bool) → eqb j k ≡ t → cond t (lesser (s .x) (leastX k w (tiedOf ss js))) (leastX k w (tiedOf ss js)) < w →
         (leastX k w (tiedOf ss js) < w → (i : ℕ) × (i < length ss) × (getD js i 0 ≡ k) × (leastX k w (tiedOf ss js) ≡ (getD ss i noSite) .x)) →
-        (i : ℕ) × (i < suc (length ss)) × (getD (j ∷ js) i 0 ≡ k) × (cond t (least (s .x) (leastX k w (tiedOf ss js))) (leastX k w (tiedOf ss js)) ≡ (getD (s ∷ ss) i noSite) .x)
+        (i : ℕ) × (i < suc (length ss)) × (getD (j ∷ js) i 0 ≡ k) × (cond t (lesser (s .x) (leastX k w (tiedOf ss js))) (leastX k w (tiedOf ss js)) ≡ (getD (s ∷ ss) i noSite) .x)
     go true e h ih =
         by-test (ltb (leastX k w (tiedOf ss js)) (s .x)) (λ f. rw f (later (ih (rw f at h)))) λ f. rw f (0, omega arith, eqb-true j k e, refl)
     go false e h ih = later (ih h)

@@ -13,7 +13,7 @@ use Rattle.sheet.specs.Sheet.{all, Colour, Sheet}
 pub use Rattle.labelling.specs.Layout.{siteAt}
 pub use Rattle.labelling.specs.Lawful.{Bounded, Rules}
 use Rattle.labelling.specs.Lawful.{RuleOne, RuleTwo, RuleThree, Miss, RuleFour, Counted, RuleFive}
-use Rattle.labelling.specs.Layout.{Tied, tieAt, tied, heightOf, isUsed, usedOf, least, leftEnd, colourKept, coloursOf, coloursKept, slotsOf, boundsKept, noColour, isFar, gapKept, gapsOf, gapsKept, verticalHas, misses, missesAll, reaches, counts, isClear, clears, clearsAll, brokenIn}
+use Rattle.labelling.specs.Layout.{Tied, tieAt, tied, heightOf, isUsed, usedOf, lesser, leftEnd, colourKept, coloursOf, coloursKept, slotsOf, boundsKept, noColour, isFar, gapKept, gapsOf, gapsKept, verticalHas, misses, missesAll, reaches, counts, isClear, clears, clearsAll, brokenIn}
 use Rattle.lists.proofs.Tests.{by-test, and-l, and-r, and-i, or-e, is-false, not-f, not-e, tests}
 use Rattle.labelling.proofs.Members.{each, every, all-used, used-all, used-from, from-used}
 use Rattle.labelling.proofs.Best.{below, Obeys}
@@ -59,9 +59,9 @@ counts-i s e x h = le-leb e x h
 pub counted-left : (s : Sheet) (d e x : ℕ) → d ≤ e → Counted s e x → Counted s d x
 counted-left s d e x l h = omega arith
 
--- `least` is min
-pub least-min : (a b : ℕ) → least a b ≡ min a b
-least-min a b = by-test (ltb b a) (λ e. rw e (omega (arith, tests))) (λ e. rw e (omega (arith, tests)))
+-- `lesser` is min
+pub lesser-min : (a b : ℕ) → lesser a b ≡ min a b
+lesser-min a b = by-test (ltb b a) (λ e. rw e (omega (arith, tests))) (λ e. rw e (omega (arith, tests)))
 
 pub most-max : (a b : ℕ) → cond (ltb a b) b a ≡ max a b
 most-max a b = by-test (ltb a b) (λ e. rw e (omega (arith, tests))) (λ e. rw e (omega (arith, tests)))
@@ -69,16 +69,16 @@ most-max a b = by-test (ltb a b) (λ e. rw e (omega (arith, tests))) (λ e. rw e
 -- a vertical that misses a height lies on one side of it
 over-false : (y e h : ℕ) → verticalHas y e h ≡ false → Miss h y e
 over-false y e h f =
-    by-test (leb (least y e) h)
+    by-test (leb (lesser y e) h)
     (λ p. let q : leb h (cond (ltb y e) e y) ≡ false = rw p at f in
     inr (omega (arith, most-max y e, leb-false h (cond (ltb y e) e y) q), omega (arith, most-max y e, leb-false h (cond (ltb y e) e y) q)))
-    λ p. inl (omega (arith, least-min y e, leb-false (least y e) h p), omega (arith, least-min y e, leb-false (least y e) h p))
+    λ p. inl (omega (arith, lesser-min y e, leb-false (lesser y e) h p), omega (arith, lesser-min y e, leb-false (lesser y e) h p))
 
 over-none : (y e h : ℕ) → Miss h y e → verticalHas y e h ≡ false
-over-none y e h (inl p) = rw (lt-leb (least y e) h (omega (arith, least-min y e)))
+over-none y e h (inl p) = rw (lt-leb (lesser y e) h (omega (arith, lesser-min y e)))
 over-none y e h (inr p) =
     is-false (verticalHas y e h) λ q.
-    absurd (omega (arith, most-max y e, leb-true h (cond (ltb y e) e y) (and-r (leb (least y e) h) (leb h (cond (ltb y e) e y)) q)))
+    absurd (omega (arith, most-max y e, leb-true h (cond (ltb y e) e y) (and-r (leb (lesser y e) h) (leb h (cond (ltb y e) e y)) q)))
 
 -- slots below m that are used are among the used slots
 pub used-of : (s : Sheet) (js : List ℕ) (k : ℕ) → below (length (s .slots)) js ≡ true → isUsed k js ≡ true → isUsed k (usedOf s js) ≡ true

@@ -63,13 +63,13 @@ abbrev pub usedOf : Sheet → (ties : List ℕ) → List ℕ
 usedOf s js = usedFrom 0 (length (s .slots)) js
 
 -- the lesser of two numbers
-abbrev pub least : ℕ → ℕ → ℕ
-least a b = cond (ltb b a) b a
+abbrev pub lesser : ℕ → ℕ → ℕ
+lesser a b = cond (ltb b a) b a
 
 -- the least x among the sites of a slot, or the width if it has none
 unfoldable pub leastX : (slot width : ℕ) → List Tied → ℕ
 leastX k w [] = w
-leastX k w (t ∷ ts) = cond (eqb (t .slot) k) (least (t .site .x) (leastX k w ts)) (leastX k w ts)
+leastX k w (t ∷ ts) = cond (eqb (t .slot) k) (lesser (t .site .x) (leastX k w ts)) (leastX k w ts)
 
 -- a label's left end: the least x among its sites on a one-sided sheet, 0 on a two-sided one
 abbrev pub leftEnd : Sheet → (ties : List ℕ) → (slot : ℕ) → ℕ
@@ -119,7 +119,7 @@ isOver a b h = leb a h && leb h b
 
 -- the vertical from a site's y to the height of its backbone, both ends included, has a point at this height
 abbrev pub verticalHas : (y end h : ℕ) → Bool
-verticalHas y e h = isOver (least y e) (cond (ltb y e) e y) h
+verticalHas y e h = isOver (lesser y e) (cond (ltb y e) e y) h
 
 -- a backbone from this left end to W has a point at x; no site's x is above W
 abbrev pub reaches : (left x : ℕ) → Bool

@@ -8,14 +8,14 @@ use lib.ListN.{length, getD}
 use borrow.Author.Tests.{lt-ltb, eq-eqb, ne-eqb}
 use Rattle.lists.proofs.Tests.{and-of}
 use Rattle.sheet.specs.Sheet.{bits, headIn, sheetIn, sheetFault, productOf, workFor}
-use Rattle.sheet.specs.Loosened.{loosened}
+use Rattle.sheet.specs.Binding.{bindingOnly}
 use Rattle.labelling.specs.Entry.{makeFault, makeWork, makeAnswer, zeroed}
 use Rattle.labelling.specs.Promise.{areWords, takesSheet}
 use Rattle.labelling.proofs.Maker.{Result, Serves, refused-sheet, refused-work, refused-out}
 use Rattle.labelling.proofs.Kept.{areas-kept}
-use Rattle.labelling.proofs.Loosened.{work-less, fault-loose, area-loose, work-zeroed, takes-loose}
-use Rattle.areas.specs.Room.{roomFault}
-use Rattle.areas.proofs.room.Room.{room-sheet, room-work, room-out, room-enough, by-room, room}
+use Rattle.labelling.proofs.Binding.{work-less, fault-binding, area-binding, work-zeroed, takes-binding}
+use Rattle.areas.specs.Lengths.{areaFault}
+use Rattle.areas.proofs.lengths.Lengths.{lengths-sheet, lengths-work, lengths-out, lengths-enough, by-lengths, lengths}
 use Rattle.reader.specs.declared.Sizes.{Sizes}
 use Rattle.reader.specs.Read.{readPost}
 use Rattle.reader.proofs.Reading.{reading, refusal-is}
@@ -44,20 +44,20 @@ module _ (ws k o : List ℕ) (r : Sizes) (e : r ≡ readPost ws) where
   narrow : r .refusal ≡ 0 → r .work ≤ length k → length o < r .n + 1 → Result ws k o 9 o k
   narrow z w h = let g = reading ws r e z in refused-out ws k o (g .accepted) (omega (arith, g .work)) (omega (arith, g .sites))
 
-  module _ (f : ℕ) (q : f ≡ roomFault (r .refusal) (r .work) (r .n) (length k) (length o)) where
+  module _ (f : ℕ) (q : f ≡ areaFault (r .refusal) (r .work) (r .n) (length k) (length o)) where
     -- refused before it is laid out
     pub refused : (f ≡ 0 → ⊥) → (f ≡ makeFault ws k o) × ((k ≡ makeWork ws k o) × (o ≡ makeAnswer ws k o))
     refused n =
-        by-room (r .refusal) (r .work) (r .n) (length k) (length o)
-        (λ z. call ws k o (r .refusal) f (q ∙ room-sheet (r .refusal) (r .work) (r .n) (length k) (length o) z) (unread z))
-        (λ z w. call ws k o 8 f (q ∙ room-work (r .refusal) (r .work) (r .n) (length k) (length o) z w) (short z w))
-        (λ z w h. call ws k o 9 f (q ∙ room-out (r .refusal) (r .work) (r .n) (length k) (length o) z w h) (narrow z w h))
-        (λ z w h. absurd (n (q ∙ room-enough (r .refusal) (r .work) (r .n) (length k) (length o) z w h)))
+        by-lengths (r .refusal) (r .work) (r .n) (length k) (length o)
+        (λ z. call ws k o (r .refusal) f (q ∙ lengths-sheet (r .refusal) (r .work) (r .n) (length k) (length o) z) (unread z))
+        (λ z w. call ws k o 8 f (q ∙ lengths-work (r .refusal) (r .work) (r .n) (length k) (length o) z w) (short z w))
+        (λ z w h. call ws k o 9 f (q ∙ lengths-out (r .refusal) (r .work) (r .n) (length k) (length o) z w h) (narrow z w h))
+        (λ z w h. absurd (n (q ∙ lengths-enough (r .refusal) (r .work) (r .n) (length k) (length o) z w h)))
 
     -- or taken, with so many work words needed
     pub taken : ((i : ℕ) → getD ws i 0 < 4294967296) → f ≡ 0 → takesSheet ws k o × (r .work ≡ workFor (sheetIn ws))
     taken u v =
-        let t = room (r .refusal) (r .work) (r .n) (length k) (length o) (sym q ∙ v) in
+        let t = lengths (r .refusal) (r .work) (r .n) (length k) (length o) (sym q ∙ v) in
         let g = reading ws r e (t .0) in
         ((are-words ws u, g .accepted, omega (arith, g .work, t .1), omega (arith, g .sites, t .2)), g .work)
 
@@ -68,31 +68,31 @@ module _ (ws k o : List ℕ) (r : Sizes) (e : r ≡ readPost ws) where
   work-needed z = reading ws r e z .work
 
 -- THE LOOSENED SHEET in place of the sheet
-module _ (ws k o ls : List ℕ) (e : ls ≡ loosened ws) (t : takesSheet ws k o) where
-  pub takes-loosened : takesSheet ls k o
-  takes-loosened = subst (λ (l : List ℕ). takesSheet l k o) (sym e) (takes-loose ws k o t)
+module _ (ws k o ls : List ℕ) (e : ls ≡ bindingOnly ws) (t : takesSheet ws k o) where
+  pub takes-binding-only : takesSheet ls k o
+  takes-binding-only = subst (λ (l : List ℕ). takesSheet l k o) (sym e) (takes-binding ws k o t)
 
   module _ (r : Sizes) (q : r ≡ readPost ls) where
     unrefused : r .refusal ≡ 0
-    unrefused = refusal-is ls r q ∙ takes-loosened .1
+    unrefused = refusal-is ls r q ∙ takes-binding-only .1
 
-    pub loosened-sizes : (r .m ≡ length (sheetIn ls .slots)) × (r .c ≡ length (sheetIn ls .colours)) × (r .n ≡ length (sheetIn ls .sites)) × (r .p ≡ productOf (sheetIn ls .colours))
-    loosened-sizes = sizes ls k o r q unrefused
+    pub binding-sizes : (r .m ≡ length (sheetIn ls .slots)) × (r .c ≡ length (sheetIn ls .colours)) × (r .n ≡ length (sheetIn ls .sites)) × (r .p ≡ productOf (sheetIn ls .colours))
+    binding-sizes = sizes ls k o r q unrefused
 
-    needs-loosened : r .work ≡ workFor (sheetIn (loosened ws))
-    needs-loosened = work-needed ls k o r q unrefused ∙ ap (λ (l : List ℕ). workFor (sheetIn l)) e
+    needs-binding-only : r .work ≡ workFor (sheetIn (bindingOnly ws))
+    needs-binding-only = work-needed ls k o r q unrefused ∙ ap (λ (l : List ℕ). workFor (sheetIn l)) e
 
     pub needs-less : (n : ℕ) (l : List ℕ) → n ≡ workFor (sheetIn ws) → l ≡ makeWork ls k o → (r .work ≤ n) × (n ≤ length l)
-    needs-less n l h y = (omega (arith, needs-loosened, work-less ws (t .1)), omega (arith, t .2, ap length y, areas-kept .1 ls k o .3))
+    needs-less n l h y = (omega (arith, needs-binding-only, work-less ws (t .1)), omega (arith, t .2, ap length y, areas-kept .1 ls k o .3))
 
-    -- the three equations of a call, from those of the call on the loosened sheet
+    -- the three equations of a call, from those of the call on the bindingOnly sheet
     pub laid : (n f : ℕ) (l m p : List ℕ) → n ≡ workFor (sheetIn ws) → f ≡ makeFault ls k o → l ≡ makeWork ls k o → p ≡ makeAnswer ls k o → m ≡ zeroed (r .work) n l →
         (f ≡ makeFault ws k o) × ((m ≡ makeWork ws k o) × (p ≡ makeAnswer ws k o))
     laid n f l m p h x y z c = (
-      x ∙ ap (λ (v : List ℕ). makeFault v k o) e ∙ fault-loose ws k o serves,
+      x ∙ ap (λ (v : List ℕ). makeFault v k o) e ∙ fault-binding ws k o serves,
       (
-        c ∙ ap₃ (needs-loosened) h (y ∙ ap (λ (v : List ℕ). makeWork v k o) e) ∙ work-zeroed ws k o serves,
-        z ∙ ap (λ (v : List ℕ). makeAnswer v k o) e ∙ area-loose ws k o serves,
+        c ∙ ap₃ (needs-binding-only) h (y ∙ ap (λ (v : List ℕ). makeWork v k o) e) ∙ work-zeroed ws k o serves,
+        z ∙ ap (λ (v : List ℕ). makeAnswer v k o) e ∙ area-binding ws k o serves,
       ),
     )
       where

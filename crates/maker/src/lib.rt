@@ -5,7 +5,7 @@ ghost use lib.ListN.{length};
 ghost use Rattle.sheet.specs.Sheet.{sheetIn, productOf, workFor};
 ghost use Rattle.labelling.specs.Entry.{makeFault, makeAnswer, makeWork, zeroed};
 ghost use Rattle.labelling.specs.Promise.{takesSheet};
-use areas::room::room_fault;
+use areas::lengths::area_fault;
 
 // Zeros the words from a place up to another.
 fn clear_from(work: &mut [u32], from: usize, to: usize)
@@ -43,21 +43,21 @@ fn lay_side(
 
 // An accepted sheet that needs so many work words, its areas long enough: laid out without the bounds that can't bind, which may
 // need fewer of them, so the rest is zeroed.
-fn lay_loosened(sheet: &[u32], needed: usize, work: &mut [u32], out: &mut [u32]) -> u8
+fn lay_binding(sheet: &[u32], needed: usize, work: &mut [u32], out: &mut [u32]) -> u8
     requires { ⌜ takesSheet (now sheet) (now work) (now out) ⌝ }
     requires { ⌜ needed ≡ workFor (sheetIn (now sheet)) ⌝ }
     ensures { λ r. ⌜ r ≡ makeFault (now (sheet .entry)) (now (work .entry)) (now (out .entry)) ⌝ }
     ensures { λ _. ⌜ now (work .exit) ≡ makeWork (now (sheet .entry)) (now (work .entry)) (now (out .entry)) ⌝ }
     ensures { λ _. ⌜ now (out .exit) ≡ makeAnswer (now (sheet .entry)) (now (work .entry)) (now (out .entry)) ⌝ }
 {
-    let words = reader::loosen::loosen(sheet);
-    let loose = &words[..sheet.len()];
-    let sizes = reader::read_sheet(loose);
+    let words = reader::binding::binding_only(sheet);
+    let kept = &words[..sheet.len()];
+    let sizes = reader::read_sheet(kept);
     let slots = sizes.m as usize;
     let colours = sizes.c as u32;
     let sites = sizes.n as usize;
     let budgets = sizes.p as u32;
-    let refusal = lay_side(loose, slots, colours, sites, budgets, work, out);
+    let refusal = lay_side(kept, slots, colours, sites, budgets, work, out);
     clear_from(work, sizes.work as usize, needed);
     refusal
 }
@@ -70,7 +70,7 @@ pub fn make_layout(sheet: &[u32], work: &mut [u32], out: &mut [u32]) -> u8
 {
     let sizes = reader::read_sheet(sheet);
     let needed = sizes.work as usize;
-    let fault = room_fault(
+    let fault = area_fault(
         sizes.refusal,
         needed,
         sizes.n as usize,
@@ -80,5 +80,5 @@ pub fn make_layout(sheet: &[u32], work: &mut [u32], out: &mut [u32]) -> u8
     if fault != 0 {
         return fault;
     }
-    lay_loosened(sheet, needed, work, out)
+    lay_binding(sheet, needed, work, out)
 }

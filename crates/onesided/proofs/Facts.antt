@@ -27,7 +27,7 @@ use Rattle.decoding.proofs.Fields.{bounds-long}
 use Rattle.arrays.proofs.Ordered.{gathered-long, radix-pos}
 use Rattle.rows.proofs.Folding.{size}
 use Rattle.rows.specs.Rows.{levelSize}
-use Rattle.table.specs.Rows.{Given}
+use Rattle.table.specs.Levels.{Given}
 use Rattle.rows.specs.Budgets.{Splits}
 use Rattle.optimum.specs.Reached.{TableOf}
 use Rattle.walk.proofs.Tying.{points-long}
@@ -131,7 +131,7 @@ module _ (ws : List ℕ) (f : sheetFault ws ≡ 0) where
         long = sym (gathered-long (xsOf (s .sites)) (order s));
         low = λ i l. omega (arith, order-low i l, n-is);
         someBudget = product-some (s .colours);
-        room = omega (arith, n-is);
+        answerFits = omega (arith, n-is);
       })
 
 -- what the walk asks, from what the table was given
@@ -162,7 +162,7 @@ filled-is q hs bs rs ds parts counts work xs ys cs os out area e g r splits tabl
       rising = g .framed .rising;
       table = table;
       someBudget = r .someBudget;
-      room = r .room;
+      answerFits = r .answerFits;
     }
 
 -- the words of the table are wiped alike where the rest of the area is the same

@@ -13,7 +13,7 @@ pub record Ranked (q : Measures) (xs os out : List ℕ) : Type 0 where
   pub long : length os ≡ length xs
   pub low : (i : ℕ) → i < length os → getD os i 0 < length os
   pub someBudget : 0 < q .budgets
-  pub room : length os < length out
+  pub answerFits : length os < length out
 
 -- the arrays are those of the sheet's sites, by rising rank
 pub record RankedSites (s : Sheet) (xs ys cs os : List ℕ) : Type 0 where

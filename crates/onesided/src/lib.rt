@@ -6,7 +6,7 @@ ghost use Rattle.arrays.specs.Arrays.{instanceBy, pointsBy};
 ghost use Rattle.sheet.specs.Sheet.{sheetIn, productOf};
 ghost use Rattle.labelling.specs.Entry.{makeFault, makeAnswer, makeWork};
 ghost use Rattle.labelling.specs.Promise.{takesSheet};
-ghost use Rattle.table.specs.Rows.{Given};
+ghost use Rattle.table.specs.Levels.{Given};
 ghost use Rattle.walk.specs.Laid.{laidFault, laidOut, wiped};
 ghost use Rattle.onesided.specs.Ranked.{Ranked, RankedSites};
 use areas::clear;
@@ -106,16 +106,16 @@ fn lay_sites(
     let q = measures_of(sheet, colours, budgets);
     let heights = heights_of(sheet);
     let bounds = bounds_of(sheet);
-    let kinds = colours as usize;
-    let bounds = &bounds[..kinds];
+    let colour_count = colours as usize;
+    let bounds = &bounds[..colour_count];
     let radices = radices_of(bounds);
     let draws = draws_of(bounds);
     lay_ranked(
         q,
         &heights[..slots],
         bounds,
-        &radices[..kinds],
-        &draws[..kinds],
+        &radices[..colour_count],
+        &draws[..colour_count],
         xs,
         ys,
         codes,

@@ -14,8 +14,8 @@ use Rattle.search.specs.Cost.{plus, least}
 use Rattle.search.proofs.Cost.{least-cong, first-cong, top-plus}
 use Rattle.search.specs.Semi.{fold}
 use Rattle.search.proofs.Semi.{fold-prod, one-prod}
-use Rattle.search.specs.Share.{conv, just}
-use Rattle.search.proofs.Share.{semiring}
+use Rattle.search.specs.Split.{conv, just}
+use Rattle.search.proofs.Split.{semiring}
 use Rattle.search.specs.Radix.{below, maskOf, convMasked}
 use Rattle.search.proofs.Radix.{sharing, conv-masked}
 use Rattle.search.proofs.Sums.{listing-first}
@@ -25,7 +25,7 @@ use Rattle.search.specs.Walk.{answerBy, walkBy, chooseBy}
 use Rattle.optimum.specs.Slots.{Slots}
 use Rattle.optimum.specs.Strips.{Point, Strip, Instance, inside, marked, opens, joinsUp, joinsDown, cost, draw, children, rulesOf, stripsFrom, strips, State, next, labels, value}
 use Rattle.optimum.specs.Reached.{In, steps, Asks}
-use Rattle.optimum.specs.Cells.{cells, cellOf, stripAt, shareAt, shareCells, stepCell, entryOf, level, joinCells, foldCells, startCells, valueCells}
+use Rattle.optimum.specs.Cells.{cells, cellOf, stripAt, budgetAt, splitCells, stepCell, entryOf, level, joinCells, foldCells, startCells, valueCells}
 use Rattle.optimum.proofs.Slots.{Rising}
 use Rattle.optimum.proofs.StripsHeld.{laws, set-other, set-same}
 use Rattle.optimum.proofs.Pairs.{zeros}
@@ -53,7 +53,7 @@ Coloured C [] = Unit
 Coloured C (s ∷ ss) = (s .c < C) × Coloured C ss
 
 module _ (P : Instance) (C R : ℕ) where
-  open Instance P using (slots, top, kinds, turn, lead, drawOf, radices, word)
+  open Instance P using (slots, top, markCount, turn, lead, drawOf, radices, word)
   open Slots slots using (m, height, share)
 
   pub record InRange (p : Strip) : Type 0 where
@@ -61,21 +61,21 @@ module _ (P : Instance) (C R : ℕ) where
     pub rca : p .ca < C + 1
     pub rb : p .b < m + 2
     pub rcb : p .cb < C + 1
-    pub rd : p .d < kinds
+    pub rd : p .d < markCount
 
   pub cell-low : (p : Strip) (v : ℕ) → InRange p → v < R → cellOf P C R p v < cells P C R
   unfolding cellOf
   cell-low p v r h =
-      pack-lt _ v _ R (pack-lt _ (p .d) _ kinds (pack-lt _ (p .cb) _ (C + 1) (pack-lt _ (p .b) _ (m + 2) (pack-lt (p .a) (p .ca) (m + 2) (C + 1) (r .ra) (r .rca)) (r .rb)) (r .rcb)) (r .rd)) h
+      pack-lt _ v _ R (pack-lt _ (p .d) _ markCount (pack-lt _ (p .cb) _ (C + 1) (pack-lt _ (p .b) _ (m + 2) (pack-lt (p .a) (p .ca) (m + 2) (C + 1) (r .ra) (r .rca)) (r .rb)) (r .rcb)) (r .rd)) h
 
-  pub share-cell : (p : Strip) (v : ℕ) → v < R → shareAt P C R (cellOf P C R p v) ≡ v
-  unfolding cellOf shareAt
-  share-cell p v h = digits-mod _ h
+  pub budget-cell : (p : Strip) (v : ℕ) → v < R → budgetAt P C R (cellOf P C R p v) ≡ v
+  unfolding cellOf budgetAt
+  budget-cell p v h = digits-mod _ h
 
   pub strip-cell : (p : Strip) (v : ℕ) → InRange p → v < R → stripAt P C R (cellOf P C R p v) ≡ p
   unfolding cellOf stripAt
   strip-cell p v r h =
-      let d₀ = digits-div ((((p .a * (C + 1) + p .ca) * (m + 2) + p .b) * (C + 1) + p .cb) * kinds + p .d) h in
+      let d₀ = digits-div ((((p .a * (C + 1) + p .ca) * (m + 2) + p .b) * (C + 1) + p .cb) * markCount + p .d) h in
       let d₁ = digits-div (((p .a * (C + 1) + p .ca) * (m + 2) + p .b) * (C + 1) + p .cb) (r .rd) in
       let d₂ = digits-div ((p .a * (C + 1) + p .ca) * (m + 2) + p .b) (r .rcb) in
       let d₃ = digits-div (p .a * (C + 1) + p .ca) (r .rb) in
@@ -89,16 +89,16 @@ module _ (P : Instance) (C R : ℕ) where
   Level low ss = (p : Strip) (v : ℕ) → InRange p → v < R → getD low (cellOf P C R p v) 0 ≡ T (rulesOf P) ss p v
 
   -- what two strips cost that share the budget u, by the mask of what may be taken from u: an end in itself, for code that goes by bits
-  pub share-masked : (low : List ℕ) (p q : Strip) (u : ℕ)
-      → shareCells P C R low p q u ≡ convMasked top (maskOf radices u) (λ w. getD low (cellOf P C R p w) 0) (λ w. getD low (cellOf P C R q w) 0) u
-  unfolding shareCells conv
-  share-masked low p q u = sym (conv-masked top radices (λ w. getD low (cellOf P C R p w) 0) (λ w. getD low (cellOf P C R q w) 0) u)
+  pub split-masked : (low : List ℕ) (p q : Strip) (u : ℕ)
+      → splitCells P C R low p q u ≡ convMasked top (maskOf radices u) (λ w. getD low (cellOf P C R p w) 0) (λ w. getD low (cellOf P C R q w) 0) u
+  unfolding splitCells conv
+  split-masked low p q u = sym (conv-masked top radices (λ w. getD low (cellOf P C R p w) 0) (λ w. getD low (cellOf P C R q w) 0) u)
 
   module _ (rising : Rising (P .slots)) where
-    pub share-two : (low : List ℕ) (ss : List Point) (p q : Strip) (u : ℕ) → Row low ss p → Row low ss q → u < R
-        → shareCells P C R low p q u ≡ Rest (rulesOf P) ss (p ∷ q ∷ []) u
-    unfolding shareCells conv
-    share-two low ss p q u f g l =
+    pub split-two : (low : List ℕ) (ss : List Point) (p q : Strip) (u : ℕ) → Row low ss p → Row low ss q → u < R
+        → splitCells P C R low p q u ≡ Rest (rulesOf P) ss (p ∷ q ∷ []) u
+    unfolding splitCells conv
+    split-two low ss p q u f g l =
         least-cong top (suc u) _ _ (λ w lw. ap₂ (λ (a b : ℕ). cond (below radices w u) (plus top a b) top) (f w (omega arith)) (g (u - w) (omega arith)))
         ∙ sym (Rest-two (rulesOf P) (laws P rising) ss p q u)
 
@@ -110,7 +110,7 @@ module _ (P : Instance) (C R : ℕ) where
         by-test (opens P p s k)
         (λ e. let f = rows (rw e) in
         rw e (ap (λ (z : ℕ). cond (below radices (drawOf (s .c)) v) (plus top (word 1 (lead (s .x) + share (height k) (s .y))) z) top)
-        (share-two low ss _ _ (v - drawOf (s .c)) (f _ (rw e (inl refl))) (f _ (rw e (inr (inl refl)))) (omega arith))))
+        (split-two low ss _ _ (v - drawOf (s .c)) (f _ (rw e (inl refl))) (f _ (rw e (inr (inl refl)))) (omega arith))))
         (λ e. rw (e, sharing radices .nothing v)
         (by-test (joinsUp P p s k || joinsDown P p s k)
         (λ j. let one = ap (Rest (rulesOf P) ss (part ∷ [])) sub ∙ Rest-one (rulesOf P) (laws P rising) ss part v ∙ sym (rows (rw (e, j)) part (rw e (inl refl)) v lv) in rw (j, one))
@@ -130,7 +130,7 @@ module _ (P : Instance) (C R : ℕ) where
         (λ e. rw e (least-cong top m _ _ (λ k l. step-cell low ss p s k v (λ t q i. rows q (inr (e, (k, l, t, i)))) lv) ∙ sym (T-in (rulesOf P) (laws P rising) s ss p v e)))
         (λ e. rw e (rows p (inl (e, refl)) v lv ∙ sym (T-out (rulesOf P) (laws P rising) s ss p v e)))
 
-  module _ (rising : Rising (P .slots)) (turn-low : (s : Point) (k : ℕ) → turn s k < kinds) where
+  module _ (rising : Rising (P .slots)) (turn-low : (s : Point) (k : ℕ) → turn s k < markCount) where
     -- what a strip in range asks for is in range
     pub asked-range : (p : Strip) (s : Point) (q : Strip) → s .c < C → InRange p → Asks P p s q → InRange q
     unfolding children In
@@ -161,7 +161,7 @@ module _ (P : Instance) (C R : ℕ) where
     unfolding entryOf
     level-cons low high s ss c h g p v r lv =
         g _ (cell-low p v r lv)
-        ∙ ap₂ (λ (q : Strip) (w : ℕ). cond (inside P q s) (least top m (λ k. stepCell P C R low q s k w)) (getD low (cellOf P C R p v) 0)) (strip-cell p v r lv) (share-cell p v lv)
+        ∙ ap₂ (λ (q : Strip) (w : ℕ). cond (inside P q s) (least top m (λ k. stepCell P C R low q s k w)) (getD low (cellOf P C R p v) 0)) (strip-cell p v r lv) (budget-cell p v lv)
         ∙ entry-asked rising low s ss p v (λ q i u lu. h q u (asked-range p s q c r i) lu) lv
 
     pub level-nil : Level (replicate (cells P C R) 0) []
@@ -196,7 +196,7 @@ module _ (P : Instance) (C R : ℕ) where
         (join-cells low ss acc f q _ (rows _ (rw t (inl refl))))))
 
     -- the strips of a state are in range
-    strips-range : (L M : List ℕ) → ((j : ℕ) → getD L j 0 < C + 1) → ((j : ℕ) → getD M j 0 < kinds) → (r i a ca : ℕ) → r + i ≡ m → a ≤ i → ca < C + 1
+    strips-range : (L M : List ℕ) → ((j : ℕ) → getD L j 0 < C + 1) → ((j : ℕ) → getD M j 0 < markCount) → (r i a ca : ℕ) → r + i ≡ m → a ≤ i → ca < C + 1
         → (p : Strip) → In p (stripsFrom P r i a ca L M) → InRange p
     unfolding stripsFrom In
     strips-range L M c k zero i a ca e ai ac p (inl z) = subst InRange (sym z) (record { ra = omega arith; rca = ac; rb = omega arith; rcb = omega arith; rd = k a })
@@ -223,7 +223,7 @@ module _ (P : Instance) (C R : ℕ) where
         fold-cells low ss (x .0) (x .2) m 0 0 0 _ (just top 0 0) rows (listing-first (just top 0 0) R) (x .1) l
         ∙ ap (λ (f : ℕ → ℕ). f (x .1)) (sym (rest-fold ss (stripsFrom P m 0 0 0 (x .0) (x .2))))
 
-    pub value-cells : (ss : List Point) → Coloured C ss → (x : State P) → ((j : ℕ) → getD (x .0) j 0 < C + 1) → x .1 < R → ((j : ℕ) → getD (x .2) j 0 < kinds) → valueCells P C R x ss ≡ value P x ss
+    pub value-cells : (ss : List Point) → Coloured C ss → (x : State P) → ((j : ℕ) → getD (x .0) j 0 < C + 1) → x .1 < R → ((j : ℕ) → getD (x .2) j 0 < markCount) → valueCells P C R x ss ≡ value P x ss
     unfolding valueCells strips
     value-cells ss h x c l k =
         value-rows (level P C R ss) ss x l (λ p i v lv. level-holds ss h p v (strips-range (x .0) (x .2) c k m 0 0 0 (omega arith) (omega arith) (omega arith) p i) lv)
@@ -231,7 +231,7 @@ module _ (P : Instance) (C R : ℕ) where
     -- ---- the walk by cells
 
     abbrev pub Kept : State P → Type 0
-    Kept x = ((j : ℕ) → getD (x .0) j 0 < C + 1) × (x .1 < R) × ((j : ℕ) → getD (x .2) j 0 < kinds)
+    Kept x = ((j : ℕ) → getD (x .0) j 0 < C + 1) × (x .1 < R) × ((j : ℕ) → getD (x .2) j 0 < markCount)
 
     pub keeps : (x : State P) (s : Point) (k : ℕ) → s .c < C → Kept x → Kept (next P x s k)
     unfolding next marked
@@ -239,8 +239,8 @@ module _ (P : Instance) (C R : ℕ) where
       set-under (x .0) k (suc (s .c)) (C + 1) (omega arith) (q .0),
       omega (arith, q .1),
       by-test (eqb (getD (x .0) k 0) 0)
-          (λ e. rw e (set-under (set (x .2) (suc k) 0) _ (turn s k) kinds (turn-low s k) (set-under (x .2) (suc k) 0 kinds (omega (arith, turn-low s k)) (q .2))))
-          (λ e. rw e (set-under (x .2) _ (turn s k) kinds (turn-low s k) (q .2))),
+          (λ e. rw e (set-under (set (x .2) (suc k) 0) _ (turn s k) markCount (turn-low s k) (set-under (x .2) (suc k) 0 markCount (omega (arith, turn-low s k)) (q .2))))
+          (λ e. rw e (set-under (x .2) _ (turn s k) markCount (turn-low s k) (q .2))),
     )
 
     pub walk-cells : (ss : List Point) → Coloured C ss → (x : State P) → Kept x → walkBy (labels P) (valueCells P C R) x ss ≡ walkBy (labels P) (value P) x ss

@@ -9,7 +9,7 @@ pub mod Levels
 pub mod Loops
 pub mod Chain
 pub mod Fits
-pub mod Steady
-pub mod Rows
+pub mod CapsMonotone
+pub mod TwoSidedRows
 pub mod Ties
 pub mod Reached

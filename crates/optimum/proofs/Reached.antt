@@ -41,7 +41,7 @@ coloured-at C (s ∷ ss) h zero l = h .0
 coloured-at C (s ∷ ss) h (suc j) l = coloured-at C ss (h .1) j (omega arith)
 
 module _ (P : Instance) where
-  open Instance P using (slots, top, kinds, turn, radices)
+  open Instance P using (slots, top, markCount, turn, radices)
   open Slots slots using (m)
 
   -- where no strip of a list holds a site, none of its members does
@@ -129,7 +129,7 @@ module _ (P : Instance) where
         here = ap (λ (z : List Strip × ℕ). z .0) (next-read P rising x (getD ss j noPoint) k f h)
 
   -- what is reached is in range
-  pub reached-range : (C R : ℕ) (rising : Rising (P .slots)) (turn-low : (s : Point) (k : ℕ) → turn s k < kinds) (ss : List Point) → Coloured C ss → 0 < kinds
+  pub reached-range : (C R : ℕ) (rising : Rising (P .slots)) (turn-low : (s : Point) (k : ℕ) → turn s k < markCount) (ss : List Point) → Coloured C ss → 0 < markCount
       → (j : ℕ) → j ≤ length ss → (q : Strip) → Reached P ss j q → InRange P C R q
   unfolding Reached
   reached-range C R rising turn-low ss c kp zero l q e = subst (InRange P C R) (sym e) (record { ra = omega arith; rca = omega arith; rb = omega arith; rcb = omega arith; rd = kp })

@@ -8,7 +8,7 @@ use lib.Dec.{eqb}
 use lib.ListN.{length, getD, replicate}
 use Rattle.search.specs.Cost.{plus, least}
 use Rattle.search.specs.Radix.{below}
-use Rattle.search.specs.Share.{conv, just}
+use Rattle.search.specs.Split.{conv, just}
 use Rattle.search.specs.Sums.{listing}
 use Rattle.search.specs.Walk.{answerBy}
 use Rattle.sheet.specs.Sheet.{Sheet, productOf}
@@ -18,25 +18,25 @@ use Rattle.optimum.specs.OneSided.{instanceOf, order, pointsAt, tiesOf}
 
 -- C colours, and budgets below R
 module _ (P : Instance) (C R : ℕ) where
-  open Instance P using (slots, top, kinds, turn, lead, drawOf, radices, word)
+  open Instance P using (slots, top, markCount, turn, lead, drawOf, radices, word)
   open Slots slots using (m, height, share)
 
   -- how many cells a level has; the cell of a strip and a share; the strip and the share of a cell
   abbrev pub cells : ℕ
-  cells = (m + 2) * (C + 1) * (m + 2) * (C + 1) * kinds * R
+  cells = (m + 2) * (C + 1) * (m + 2) * (C + 1) * markCount * R
 
   unfoldable pub cellOf : Strip → ℕ → ℕ
-  cellOf p v = ((((p .a * (C + 1) + p .ca) * (m + 2) + p .b) * (C + 1) + p .cb) * kinds + p .d) * R + v
+  cellOf p v = ((((p .a * (C + 1) + p .ca) * (m + 2) + p .b) * (C + 1) + p .cb) * markCount + p .d) * R + v
 
   unfoldable pub stripAt : ℕ → Strip
-  stripAt i = record { a = i / R / kinds / (C + 1) / (m + 2) / (C + 1); ca = i / R / kinds / (C + 1) / (m + 2) % (C + 1); b = i / R / kinds / (C + 1) % (m + 2); cb = i / R / kinds % (C + 1); d = i / R % kinds }
+  stripAt i = record { a = i / R / markCount / (C + 1) / (m + 2) / (C + 1); ca = i / R / markCount / (C + 1) / (m + 2) % (C + 1); b = i / R / markCount / (C + 1) % (m + 2); cb = i / R / markCount % (C + 1); d = i / R % markCount }
 
-  unfoldable pub shareAt : ℕ → ℕ
-  shareAt i = i % R
+  unfoldable pub budgetAt : ℕ → ℕ
+  budgetAt i = i % R
 
   -- what two strips cost that share the budget u, by the level below
-  unfoldable pub shareCells : (low : List ℕ) → Strip → Strip → ℕ → ℕ
-  shareCells low p q u = conv top (below radices) (λ w. getD low (cellOf p w) 0) (λ w. getD low (cellOf q w) 0) u
+  unfoldable pub splitCells : (low : List ℕ) → Strip → Strip → ℕ → ℕ
+  splitCells low p q u = conv top (below radices) (λ w. getD low (cellOf p w) 0) (λ w. getD low (cellOf q w) 0) u
 
   -- the cost of tying the site s to slot k in the strip p, and the rest, with the budget v
   unfoldable pub stepCell : (low : List ℕ) → Strip → Point → ℕ → ℕ → ℕ
@@ -44,12 +44,12 @@ module _ (P : Instance) (C R : ℕ) where
       cond (opens P p s k)
       (cond (below radices (drawOf (s .c)) v)
       (plus top (word 1 (lead (s .x) + share (height k) (s .y)))
-      (shareCells low (record { a = p .a; ca = p .ca; b = suc k; cb = suc (s .c); d = turn s k }) (record { a = suc k; ca = suc (s .c); b = p .b; cb = p .cb; d = 0 }) (v - drawOf (s .c)))) top)
+      (splitCells low (record { a = p .a; ca = p .ca; b = suc k; cb = suc (s .c); d = turn s k }) (record { a = suc k; ca = suc (s .c); b = p .b; cb = p .cb; d = 0 }) (v - drawOf (s .c)))) top)
       (cond (joinsUp P p s k || joinsDown P p s k) (plus top (word 0 (share (height k) (s .y))) (getD low (cellOf (record { a = p .a; ca = p .ca; b = p .b; cb = p .cb; d = turn s k }) v) 0)) top)
 
   -- cell i of the level that has the site s more than the level low
   unfoldable pub entryOf : (low : List ℕ) → Point → ℕ → ℕ
-  entryOf low s i = cond (inside P (stripAt i) s) (least top m (λ k. stepCell low (stripAt i) s k (shareAt i))) (getD low i 0)
+  entryOf low s i = cond (inside P (stripAt i) s) (least top m (λ k. stepCell low (stripAt i) s k (budgetAt i))) (getD low i 0)
 
   -- the levels, the one for no sites first
   unfoldable pub level : List Point → List ℕ

@@ -6,8 +6,8 @@ pub mod OneSided
 pub mod Cells
 pub mod Reached
 pub mod UsedSlots
-pub mod Rows
-pub mod Steady
+pub mod TwoSidedRows
+pub mod CapsMonotone
 pub mod TwoSided
 pub mod Optimum
 pub mod Examples

@@ -36,7 +36,7 @@ pub record Instance : Type 0 where
   pub may : Point → ℕ → Bool
   pub tip : Point → ℕ → Bool
   -- how many marks there are; the mark that a site leaves in its strip, by its slot; by its mark a strip holds a site to the label below
-  pub kinds : ℕ
+  pub markCount : ℕ
   pub turn : Point → ℕ → ℕ
   pub held : Strip → Point → Bool
   -- what a label of a colour draws from the budget; the radices of the budget's digits
@@ -46,7 +46,7 @@ pub record Instance : Type 0 where
   pub word : ℕ → ℕ → ℕ
 
 module _ (P : Instance) where
-  open Instance P using (slots, top, lead, may, tip, kinds, turn, held, drawOf, radices, word)
+  open Instance P using (slots, top, lead, may, tip, markCount, turn, held, drawOf, radices, word)
   open Slots slots using (m, height, share)
 
   -- ---- strips and steps

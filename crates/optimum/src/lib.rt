@@ -1,2 +1,2 @@
-pub mod optimality;
 pub mod examples;
+pub mod optimality;

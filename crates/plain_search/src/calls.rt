@@ -56,22 +56,22 @@ fn is_left(area: &[u32], w: Written) -> bool {
 }
 
 // So many words are lent; the last number drawn.
-struct Room {
+struct Lent {
     words: u32,
     seed: u32,
 }
 
 // One word too few one time in 32, else up to two too many.
-fn lent_for(before: u32, needed: u32) -> Room {
+fn lent_for(before: u32, needed: u32) -> Lent {
     let seed = next(before);
     if drawn(seed, 31) == 0 {
-        return Room {
+        return Lent {
             words: last_of(needed),
             seed: seed,
         };
     }
     let more = next(seed);
-    Room {
+    Lent {
         words: sum(needed, drawn(more, 2)),
         seed: more,
     }

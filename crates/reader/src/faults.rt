@@ -2,16 +2,16 @@
 ghost use mathlib.Core.Path.{_≡_};
 ghost use Rattle.sheet.specs.Sheet.{sheetFault};
 ghost use Rattle.reader.specs.Faults.{bodyFault};
-use refusals::counts::counts_fit;
-use refusals::products::is_over;
 use crate::scans::all_inside;
 use crate::scans::body_of;
 use crate::scans::in_order;
 use crate::scans::ranks_differ;
 use crate::scans::rises;
+use refusals::counts::counts_fit;
+use refusals::is_head;
+use refusals::products::exceeds_budgets;
 use words::get;
 use words::low_field;
-use refusals::is_head;
 
 // The number of the first of refusals 4 to 7 that applies, 0 if none does.
 fn body_fault(body: &[u32], width: u32) -> u32
@@ -26,7 +26,7 @@ fn body_fault(body: &[u32], width: u32) -> u32
     if !ranks_differ(body) {
         return 6;
     }
-    if is_over(body) {
+    if exceeds_budgets(body) {
         return 7;
     }
     0

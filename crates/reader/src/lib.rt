@@ -1,7 +1,7 @@
 // The reader: the refusal of any list of words, or the sizes of the sheet in it.
-pub mod scans;
+pub mod binding;
 pub mod faults;
-pub mod loosen;
+pub mod scans;
 
 ghost use mathlib.Core.Path.{_≡_};
 ghost use Prim.Native.Nat.{_<_, _≤_};
@@ -9,10 +9,10 @@ ghost use lib.ListN.{length, drop};
 ghost use Rattle.sheet.specs.Sheet.{coloursIn, sitesRun, sheetIn, sheetFault};
 ghost use Rattle.sheet.specs.Words.{countKind};
 ghost use Rattle.reader.specs.Read.{absent, eightOf, readOf, refusedOf, readPost};
-use refusals::counts::count_kind;
 use crate::faults::sheet_fault;
-use refusals::products::product;
 use crate::scans::body_of;
+use refusals::counts::count_kind;
+use refusals::products::product;
 use refusals::sizes::bound_of;
 use refusals::sizes::work_for;
 use words::get;

@@ -3,10 +3,10 @@ pub mod layouts;
 
 ghost use mathlib.Core.Path.{_≡_};
 ghost use Rattle.sheet.specs.Sheet.{all, inOrder, slotsIn, sitesIn, bodyOf, insideBy, rising, ranksDiffer};
-use refusals::ranks::rank_new;
-use refusals::stages::stage_after;
 use refusals::low_next;
 use refusals::low_ok;
+use refusals::ranks::rank_new;
+use refusals::stages::stage_after;
 use refusals::width_ok;
 
 // The words after the head.

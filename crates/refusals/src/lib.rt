@@ -1,9 +1,9 @@
 // The tests behind refusals 1, 4 and 5 on one word.
-pub mod stages;
-pub mod ranks;
 pub mod counts;
 pub mod products;
+pub mod ranks;
 pub mod sizes;
+pub mod stages;
 
 ghost use mathlib.Core.Path.{_≡_};
 ghost use Rattle.sheet.specs.Sheet.{isHead};

@@ -33,7 +33,7 @@ pub fn product(body: &[u32]) -> u32
 }
 
 // Refusal 7: whether P is above 64.
-pub fn is_over(body: &[u32]) -> bool
+pub fn exceeds_budgets(body: &[u32]) -> bool
     ensures { λ r. ⌜ r ≡ ltb 64 (productOf (coloursIn (now (body .entry)))) ⌝ }
 {
     64 < product(body)

@@ -1,6 +1,6 @@
 // The words of an input, and the lines of a report.
-pub mod text;
 pub mod input;
+pub mod text;
 
 ghost use mathlib.Core.Path.{_≡_};
 ghost use mathlib.Core.List.{[], _∷_, _++_};
@@ -9,10 +9,10 @@ ghost use lib.ListN.{length, getD, drop};
 ghost use Rattle.sheet.specs.Sheet.{bits, sitesIn, sheetIn};
 ghost use Rattle.report.specs.Text.{decimal, written, pastOf};
 ghost use Rattle.report.specs.Lines.{wordsIn, refusedLine, layoutLine, siteLines, lineOf, countWith, layoutText};
+use crate::input::word_from_bytes;
 use crate::text::put_byte;
 use crate::text::put_bytes;
 use crate::text::put_decimal;
-use crate::input::word_of;
 use words::byte_field;
 use words::get;
 use words::kind_of;
@@ -23,7 +23,7 @@ fn word_at(bytes: &[u8], i: usize) -> u32
     requires { ⌜ i + 4 ≤ length (now bytes) ⌝ }
     ensures { λ r. ⌜ r ≡ getD (now (bytes .entry)) i 0 + 256 * getD (now (bytes .entry)) (i + 1) 0 + 65536 * getD (now (bytes .entry)) (i + 2) 0 + 16777216 * getD (now (bytes .entry)) (i + 3) 0 ⌝ }
 {
-    word_of(bytes[i], bytes[i + 1], bytes[i + 2], bytes[i + 3])
+    word_from_bytes(bytes[i], bytes[i + 1], bytes[i + 2], bytes[i + 3])
 }
 
 fn put_word(words: &mut [u32], at: usize, word: u32) -> usize

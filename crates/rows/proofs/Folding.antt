@@ -13,14 +13,14 @@ use Rattle.lists.proofs.Tests.{by-equal}
 use Rattle.search.specs.Cost.{plus}
 use Rattle.search.proofs.Cost.{least-cong}
 use Rattle.optimum.specs.OneSided.{topWord}
-use Rattle.search.specs.Share.{just}
+use Rattle.search.specs.Split.{just}
 use Rattle.search.specs.Sums.{listing}
 use Rattle.search.proofs.Sums.{listing-first, length-listing}
 use native.Mathlib.Nat.{mul-le-mul}
 use Rattle.rows.specs.Rows.{Lies}
 use Rattle.rows.proofs.Places.{row-fits, rows-few}
-use Rattle.rows.specs.Budgets.{Within, partAt, shareBy}
-use Rattle.rows.specs.Rest.{shareRow, rowStart, levelSize, StripIn, LevelIn, joinRow, foldRows}
+use Rattle.rows.specs.Budgets.{Within, partAt, splitBy}
+use Rattle.rows.specs.Rest.{splitRow, rowStart, levelSize, StripIn, LevelIn, joinRow, foldRows}
 
 -- ---- a row joined from the highest budget down
 
@@ -29,14 +29,14 @@ pub record Joined (parts counts old work : List ℕ) (row : ℕ) (acc : List ℕ
   pub long : length acc ≡ length old
   pub within : v ≤ length old
   pub kept : (k : ℕ) → k < v → getD acc k 0 ≡ getD old k 0
-  pub done : (k : ℕ) → v ≤ k → k < length old → getD acc k 0 ≡ shareRow parts counts old work row k
+  pub done : (k : ℕ) → v ≤ k → k < length old → getD acc k 0 ≡ splitRow parts counts old work row k
 
 pub joined-none : (parts counts old work : List ℕ) (row : ℕ) → Joined parts counts old work row old (length old)
 joined-none parts counts old work row =
     record { long = refl; within = omega arith; kept = λ k h. refl; done = λ k h l. absurd (omega arith) }
 
 pub joined-more : (parts counts old work : List ℕ) (row : ℕ) (acc : List ℕ) (v u x : ℕ) → Joined parts counts old work row acc v → u + 1 ≡ v
-    → Within (length old) parts counts → x ≡ shareBy parts counts (λ w. getD acc (0 + w) 0) (λ w. getD work (row + w) 0) u → Joined parts counts old work row (set acc u x) u
+    → Within (length old) parts counts → x ≡ splitBy parts counts (λ w. getD acc (0 + w) 0) (λ w. getD work (row + w) 0) u → Joined parts counts old work row (set acc u x) u
 joined-more parts counts old work row acc v u x j e i h =
     record {
       long = length-set acc u x ∙ j .long;
@@ -47,7 +47,7 @@ joined-more parts counts old work row acc v u x j e i h =
           (λ q. getD-set-other acc u k x 0 q ∙ j .done k (omega arith) b);
     }
   where
-    same : shareBy parts counts (λ w. getD acc (0 + w) 0) (λ w. getD work (row + w) 0) u ≡ shareRow parts counts old work row u
+    same : splitBy parts counts (λ w. getD acc (0 + w) 0) (λ w. getD work (row + w) 0) u ≡ splitRow parts counts old work row u
     same =
         least-cong topWord (getD counts u 0) _ _ (λ p l.
         let b = i .small u p (omega (arith, j .within)) l in

@@ -1,5 +1,5 @@
 mod Holding
 pub mod Places
-pub mod Sharing
+pub mod Splitting
 mod Lists
 pub mod Folding

@@ -37,8 +37,8 @@ pub record Splits (rs : List ℕ) (P : ℕ) (parts counts : List ℕ) : Type 0 w
   pub listed : (v : ℕ) → v < P → Listed rs v (v + 1) (getD counts v 0) (partAt parts v)
 
 -- the least cost of sharing u between f and g, by the list
-abbrev pub shareBy : (parts counts : List ℕ) → (f g : ℕ → ℕ) → (u : ℕ) → ℕ
-shareBy parts counts f g u = least topWord (getD counts u 0) (λ i. plus topWord (f (partAt parts u i)) (g (u - partAt parts u i)))
+abbrev pub splitBy : (parts counts : List ℕ) → (f g : ℕ → ℕ) → (u : ℕ) → ℕ
+splitBy parts counts f g u = least topWord (getD counts u 0) (λ i. plus topWord (f (partAt parts u i)) (g (u - partAt parts u i)))
 
 -- what a draw leaves of the budget v; 255 where it may not be drawn
 abbrev pub leftBy : (rs : List ℕ) → (draw v : ℕ) → ℕ

@@ -29,7 +29,7 @@ pub record PartsMarked (q : Measures) (work : List ℕ) (low m : ℕ) (p : Strip
   pub lower : Marked work low m (q .colours) (q .budgets) (lowerPart p s k)
 
 -- rows of a level that begins at the word `low` may be marked, in an area of so many words
-pub record Room (q : Measures) (m low area : ℕ) : Type 0 where
+pub record LevelFits (q : Measures) (m low area : ℕ) : Type 0 where
   pub slotsFew : m ≤ 48
   pub coloursFew : q .colours ≤ 8
   pub budgetsFew : q .budgets ≤ 64

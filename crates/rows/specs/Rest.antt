@@ -5,10 +5,10 @@ use mathlib.Core.List.{List}
 use Prim.Native.Nat.{ℕ, zero, suc, _+_, _*_, _≤_, _<_}
 use lib.Dec.{eqb}
 use lib.ListN.{length, getD}
-use Rattle.search.specs.Share.{just}
+use Rattle.search.specs.Split.{just}
 use Rattle.search.specs.Sums.{listing}
 use Rattle.optimum.specs.OneSided.{topWord}
-use Rattle.rows.specs.Budgets.{Within, shareBy}
+use Rattle.rows.specs.Budgets.{Within, splitBy}
 use Rattle.rows.specs.Rows as rows
 use Rattle.rows.specs.Rows.{rowsOf}
 
@@ -39,11 +39,11 @@ pub record LevelIn (parts counts work : List ℕ) (base C R : ℕ) (labels : Lis
   pub coloured : (i : ℕ) → getD labels i 0 < C + 1
 
 -- one strip more, whose row begins at the word `row`, takes its share of each budget
-abbrev pub shareRow : (parts counts acc work : List ℕ) → (row v : ℕ) → ℕ
-shareRow parts counts acc work row v = shareBy parts counts (λ w. getD acc w 0) (λ w. getD work (row + w) 0) v
+abbrev pub splitRow : (parts counts acc work : List ℕ) → (row v : ℕ) → ℕ
+splitRow parts counts acc work row v = splitBy parts counts (λ w. getD acc w 0) (λ w. getD work (row + w) 0) v
 
 unfoldable pub joinRow : (parts counts acc work : List ℕ) → (row : ℕ) → List ℕ
-joinRow parts counts acc work row = listing (shareRow parts counts acc work row) 0 (length acc)
+joinRow parts counts acc work row = listing (splitRow parts counts acc work row) 0 (length acc)
 
 module _ (parts counts work : List ℕ) (base m C R : ℕ) where
   -- all strips of the open labels L, from slot i on; r slots are left, and a is the last label passed, of colour ca

@@ -5,7 +5,7 @@ ghost use Prim.Native.Nat.{ℕ, _+_, _-_, _*_, _<_, _≤_, min};
 ghost use lib.ListN.{length, getD};
 ghost use Rattle.search.specs.Radix.{below};
 ghost use Rattle.costs.specs.Masks.{Divides};
-ghost use Rattle.rows.specs.Budgets.{Listed, Others, Splits, Within, shareBy, leftBy};
+ghost use Rattle.rows.specs.Budgets.{Listed, Others, Splits, Within, splitBy, leftBy};
 
 fn counted(n: u8, one_more: bool) -> u8
     requires { ⌜ n < 64 ⌝ }
@@ -61,7 +61,7 @@ fn lower(a: u64, b: u64) -> u64
 }
 
 // The least cost of sharing u between the rows f and g, which start at two places of two areas.
-pub fn least_share(
+pub fn least_split(
     parts: &[u8],
     counts: &[u8],
     budgets: usize,
@@ -73,7 +73,7 @@ pub fn least_share(
 ) -> u32
     requires { ⌜ Within budgets (now parts) (now counts) ⌝ }
     requires { ⌜ (u < budgets) × (from + budgets ≤ length (now f)) × (at + budgets ≤ length (now g)) ⌝ }
-    ensures { λ r. ⌜ r ≡ shareBy (now (parts .entry)) (now (counts .entry)) (λ w. getD (now (f .entry)) (from + w) 0) (λ w. getD (now (g .entry)) (at + w) 0) u ⌝ }
+    ensures { λ r. ⌜ r ≡ splitBy (now (parts .entry)) (now (counts .entry)) (λ w. getD (now (f .entry)) (from + w) 0) (λ w. getD (now (g .entry)) (at + w) 0) u ⌝ }
 {
     let base = u * 64;
     let end = at + u;

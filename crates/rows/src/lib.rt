@@ -1,7 +1,7 @@
 // Strips of a one-sided sheet and where their rows stand: a level has a row of words for each strip, by the ends above and below it.
 pub mod budgets;
-pub mod rest;
 pub mod parts;
+pub mod rest;
 
 ghost use mathlib.Core.Path.{_≡_};
 ghost use mathlib.Core.List.{List};

@@ -3,14 +3,14 @@ ghost use mathlib.Core.Path.{_≡_};
 ghost use Prim.Native.Nat.{_+_, _*_, _<_};
 ghost use lib.ListN.{length};
 ghost use Rattle.rows.specs.Rows.{stripOf, pointOf, rowsOf, rowIn, Lies};
-ghost use Rattle.rows.specs.Parts.{partsCost, Marking, PartsMarked, Room};
-use arrays::Measures;
+ghost use Rattle.rows.specs.Parts.{partsCost, Marking, PartsMarked, LevelFits};
 use crate::Site;
 use crate::Strip;
+use arrays::Measures;
 
 // What the parts that a label at slot k leaves of a strip cost together, where there is but one budget.
 pub fn parts_cost(work: &[u32], q: Measures, m: usize, p: Strip, s: Site, low: usize, k: u32) -> u32
-    requires { ⌜ Room q m low (length (now work)) × Lies m (q .colours) (stripOf p) ⌝ }
+    requires { ⌜ LevelFits q m low (length (now work)) × Lies m (q .colours) (stripOf p) ⌝ }
     requires { ⌜ (s .c < q .colours) × (k + 1 < p .b) ⌝ }
     ensures { λ r. ⌜ r ≡ partsCost (rowIn (now (work .entry)) low m (q .colours) (q .budgets)) (stripOf p) (pointOf s) k ⌝ }
 {
@@ -22,7 +22,7 @@ pub fn parts_cost(work: &[u32], q: Measures, m: usize, p: Strip, s: Site, low: u
 
 // Marks the two parts that a label at slot k leaves of a strip.
 pub fn mark_parts(work: &mut [u32], q: Measures, m: usize, p: Strip, s: Site, low: usize, k: u32)
-    requires { ⌜ Room q m low (length (now work)) × Lies m (q .colours) (stripOf p) ⌝ }
+    requires { ⌜ LevelFits q m low (length (now work)) × Lies m (q .colours) (stripOf p) ⌝ }
     requires { ⌜ (s .c < q .colours) × (k + 1 < p .b) ⌝ }
     ensures { λ _. ⌜ Marking (now (work .entry)) (now (work .exit)) low (rowsOf m (q .colours) * q .budgets) ⌝ }
     ensures { λ _. ⌜ PartsMarked q (now (work .exit)) low m (stripOf p) (pointOf s) k ⌝ }

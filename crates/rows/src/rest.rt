@@ -7,7 +7,7 @@ ghost use lib.ListN.{length, getD};
 ghost use Rattle.rows.specs.Budgets.{Within};
 ghost use Rattle.rows.specs.Rest.{rowStart, levelSize, StripIn, LevelIn, joinRow, foldRows, restRows};
 use crate::Strip;
-use crate::budgets::least_share;
+use crate::budgets::least_split;
 use crate::row_place;
 use crate::rows_of;
 use arrays::Measures;
@@ -29,7 +29,7 @@ fn join_row(parts: &[u8], counts: &[u8], acc: &mut [u32], work: &[u32], row: usi
     let mut v = n;
     while v > 0 {
         v -= 1;
-        acc[v] = least_share(parts, counts, n, acc, 0, work, row, v);
+        acc[v] = least_split(parts, counts, n, acc, 0, work, row, v);
     }
 }
 

@@ -1,6 +1,6 @@
 // Rules 3 and 5 of a tied site beside another: what lies at least D apart.
-pub mod verticals;
 pub mod totals;
+pub mod verticals;
 
 ghost use mathlib.Core.Path.{_≡_};
 ghost use Rattle.rules.specs.Clearance.{gapsPass, clearsPass};

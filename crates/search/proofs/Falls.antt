@@ -8,8 +8,8 @@ use native.Mathlib.Omega.{arith}
 use Rattle.lists.proofs.Tests.{by-test}
 use Rattle.search.specs.Cost.{plus, least}
 use Rattle.search.proofs.Cost.{least-le-top, least-le, least-most, plus-le, plus-mono, plus-comm}
-use Rattle.search.specs.Share.{Sharing, conv}
-use Rattle.search.proofs.Share.{conv-le-top, conv-low, conv-most}
+use Rattle.search.specs.Split.{Splitting, conv}
+use Rattle.search.proofs.Split.{conv-le-top, conv-low, conv-most}
 use Rattle.search.specs.Plan.{Filled, Rules, Laws, T, Rest}
 use Rattle.search.proofs.Plan.{T-nil, T-in, T-out, T-le-top, Rest-cons}
 
@@ -17,7 +17,7 @@ use Rattle.search.proofs.Plan.{T-nil, T-in, T-out, T-le-top, Rest-cons}
 abbrev pub Falls : (below : ℕ → ℕ → Bool) → (ℕ → ℕ) → Type 0
 Falls below f = (w v : ℕ) → below w v ≡ true → f v ≤ f w
 
-module _ (top : ℕ) (below : ℕ → ℕ → Bool) (B : Sharing below) where
+module _ (top : ℕ) (below : ℕ → ℕ → Bool) (B : Splitting below) where
   pub conv-falls : (f g : ℕ → ℕ) → Falls below f → Falls below (conv top below f g)
   conv-falls f g h w v e = conv-most top below B f g w _ (conv-le-top top below B f g v) (λ a i. go a i)
     where

@@ -1,6 +1,6 @@
 pub mod Cost
 pub mod Semi
-pub mod Share
+pub mod Split
 pub mod Strips
 pub mod Radix
 pub mod Walk

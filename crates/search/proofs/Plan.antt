@@ -10,8 +10,8 @@ use lib.Dec.{eqb}
 use Rattle.lists.proofs.Tests.{by-test, by-either}
 use Rattle.search.specs.Cost.{plus, least}
 use Rattle.search.proofs.Cost.{least-le-top, least-cong, top-plus}
-use Rattle.search.specs.Share.{conv, cheaper, never, just}
-use Rattle.search.proofs.Share.{conv-just, semiring, sum-at, prod-free, conv-one, conv-comm}
+use Rattle.search.specs.Split.{conv, cheaper, never, just}
+use Rattle.search.proofs.Split.{conv-just, semiring, sum-at, prod-free, conv-one, conv-comm}
 use Rattle.search.specs.Strips.{holders, oneIf, after, weigh, run}
 use Rattle.search.proofs.Strips.{keeps, independent, table-in}
 use Rattle.search.specs.Plan.{Filled, Rules, Laws, weight, T, Rest, State, price, next, process, Run, answerRest}

@@ -11,7 +11,7 @@ use lib.Arith.{digits-div, digits-mod}
 use borrow.Author.Tests.{leb-true, le-leb, eq-eqb, ne-eqb}
 use Rattle.lists.proofs.Tests.{and-both, and-of, is-false}
 use Rattle.search.specs.Cost.{plus}
-use Rattle.search.specs.Share.{Sharing, conv}
+use Rattle.search.specs.Split.{Splitting, conv}
 use Rattle.search.specs.Radix.{below, digitOf, bitOf, maskBy, maskFrom, maskOf, convMasked}
 use Rattle.search.proofs.Cost.{least-cong}
 
@@ -80,7 +80,7 @@ less (r ∷ rs) a w v h k =
     of-digit r rs (w - a) (v - a) (rw (m .0, n .0) (omega arith)) (rw (m .1, n .1) (less rs (a / r) (w / r) (v / r) (d .1) (e .1)))
 
 -- the digits' order is a way to share
-pub sharing : (rs : List ℕ) → Sharing (below rs)
+pub sharing : (rs : List ℕ) → Splitting (below rs)
 sharing rs = record {
   fits = fits rs;
   nothing = nothing rs;

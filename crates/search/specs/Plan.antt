@@ -6,7 +6,7 @@ use mathlib.Core.Bool.{Bool, cond}
 use mathlib.Core.Option.{Option}
 use mathlib.Core.List.{List, [], _∷_}
 use Prim.Native.Nat.{ℕ, _-_}
-use Rattle.search.specs.Share.{Sharing, conv, cheaper, never, just}
+use Rattle.search.specs.Split.{Splitting, conv, cheaper, never, just}
 use Rattle.search.specs.Strips.{holders, oneIf, after, weigh, table, rest}
 use Rattle.search.specs.Walk.{Process, best, answerBy}
 
@@ -29,7 +29,7 @@ pub record Rules (Strip Site : Type 0) : Type 0 where
 
 -- what the theorems ask of them
 pub record Laws {Strip Site : Type 0} (G : Rules Strip Site) : Type 0 where
-  pub shares : Sharing (G .below)
+  pub shares : Splitting (G .below)
   pub filled : (p : Strip) (s : Site) (k : ℕ) → Filled (G .children p s k)
   pub parts : (p : Strip) (s : Site) (k : ℕ)
       → (G .cost p s k ≡ G .top) ⊎ ((t : Site) → holders (G .inside) t (G .children p s k) ≡ oneIf (G .inside p t))

@@ -1,4 +1,4 @@
 pub mod Accepted
 pub mod Places
 pub mod Counts
-pub mod Loosened
+pub mod Binding

@@ -1,3 +1,4 @@
+pub mod Limits
 pub mod Sheet
 pub mod Words
-pub mod Loosened
+pub mod Binding

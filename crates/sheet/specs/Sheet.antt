@@ -5,6 +5,7 @@ use mathlib.Core.List.{List, [], _∷_}
 use Prim.Native.Nat.{ℕ, suc, _+_, _*_, _-_, _/_, _%_, _^_}
 use lib.Dec.{ltb, leb, eqb}
 use lib.ListN.{length, getD, drop}
+use Rattle.sheet.specs.Limits.{mostSlots, mostColours, mostSites, mostBudgets, unbounded, kindTop, numberTop}
 
 -- a test holds of all items of a list
 unfoldable pub all : {A : Type 0} → (A → Bool) → List A → Bool
@@ -12,9 +13,9 @@ all f [] = true
 all f (x ∷ xs) = f x && all f xs
 
 -- WORDS
--- the kind of a word: its top four bits, 31 to 28 (268435456 is 2^28)
+-- the kind of a word: its top four bits, 31 to 28
 abbrev pub kindOf : ℕ → ℕ
-kindOf w = w / 268435456
+kindOf w = w / kindTop
 
 -- a field of a word: so many bits from a place up, bit 0 the lowest
 abbrev pub bits : (word place count : ℕ) → ℕ
@@ -105,7 +106,7 @@ sheetIn ws =
 -- P: the product, over the colours whose bound is not 255, of bound plus one (1 if there are none)
 unfoldable pub productOf : List Colour → ℕ
 productOf [] = 1
-productOf (c ∷ cs) = cond (eqb (c .bound) 255) 1 (c .bound + 1) * productOf cs
+productOf (c ∷ cs) = cond (eqb (c .bound) unbounded) 1 (c .bound + 1) * productOf cs
 
 -- slot heights strictly rise
 unfoldable pub rising : List ℕ → Bool
@@ -116,10 +117,6 @@ rising (x ∷ y ∷ xs) = ltb x y && rising (y ∷ xs)
 -- a site's place in the order of choice, as one number: its x ("take the sites by rising x")
 unfoldable pub rankOf : Site → ℕ
 rankOf s = s .x
-
--- a number above every x, y, height and width: they have 14 bits (2^14)
-abbrev pub numberTop : ℕ
-numberTop = 16384
 
 -- a number above every rank
 abbrev pub rankTop : ℕ
@@ -142,7 +139,7 @@ isHead ws = ltb 0 (length ws) && eqb (kindOf (headIn ws)) 1 && not (eqb (bits (h
 
 -- not refusal 3: at most 48 slots, 8 colours and 32 sites
 abbrev pub countsFit : Sheet → Bool
-countsFit s = leb (length (s .slots)) 48 && leb (length (s .colours)) 8 && leb (length (s .sites)) 32
+countsFit s = leb (length (s .slots)) mostSlots && leb (length (s .colours)) mostColours && leb (length (s .sites)) mostSites
 
 -- not refusal 5, of one site: its x is at most W
 abbrev pub insideBy : (width : ℕ) → Site → Bool
@@ -157,7 +154,7 @@ sheetFault ws =
     (cond (not (countsFit (sheetIn ws))) 3
     (cond (not (rising (sheetIn ws .slots))) 4
     (cond (not (all (insideBy (sheetIn ws .width)) (sheetIn ws .sites))) 5
-    (cond (not (ranksDiffer (sheetIn ws .sites))) 6 (cond (ltb 64 (productOf (sheetIn ws .colours))) 7 0))))))
+    (cond (not (ranksDiffer (sheetIn ws .sites))) 6 (cond (ltb mostBudgets (productOf (sheetIn ws .colours))) 7 0))))))
 
 -- the number of work words: (m+2)² × (C+1)² × (n+1) × P one-sided, (m+2) × (C+1) × P two-sided
 abbrev pub workFor : Sheet → ℕ

@@ -16,8 +16,8 @@ use Rattle.table.proofs.entries.Places.{same-rows}
 use Rattle.rows.proofs.Places.{row-fits}
 use Rattle.table.specs.Marks.{Shaped}
 use Rattle.table.proofs.marks.Followed.{same-end, later-end, slot-high, slot-low, row-ends, same-strip}
-use Rattle.table.proofs.marks.Levels.{row-room}
-use Rattle.table.specs.Rows.{RowFilled}
+use Rattle.table.proofs.marks.Levels.{row-within}
+use Rattle.table.specs.Levels.{RowFilled}
 
 module _ (q : Measures) (hs bs parts counts left : List ℕ) (base low : ℕ) (s : Point) where
   abbrev C : ℕ
@@ -83,7 +83,7 @@ module _ (q : Measures) (hs bs parts counts left : List ℕ) (base low : ℕ) (s
 
       lower : (p : Strip) (v : ℕ) → endPlace C (p .a) (p .ca) ≡ endPlace C (r .a) (r .ca) → endPlace C (p .b) (p .cb) < place → v < q .budgets → base + row p + v < at
       lower p v a u w =
-          let x = row-room (endPlace C (p .b) (p .cb)) place (q .budgets) u in
+          let x = row-within (endPlace C (p .b) (p .cb)) place (q .budgets) u in
           omega (arith, at-is, row-at p, ap (λ (z : ℕ). z * endWords q hs) a)
 
   -- up to the end of the lower ends
@@ -120,15 +120,15 @@ module _ (q : Measures) (hs bs parts counts left : List ℕ) (base low : ℕ) (s
   }
     where
       inside : base + endPlace C slot colour * endWords q hs ≤ low
-      inside = omega (arith, h, size-is, row-room (endPlace C slot colour) (endPlace C (length hs + 2) 0) (endWords q hs) (later-end C slot colour (length hs + 2) 0 cl (omega arith)))
+      inside = omega (arith, h, size-is, row-within (endPlace C slot colour) (endPlace C (length hs + 2) 0) (endWords q hs) (later-end C slot colour (length hs + 2) 0 cl (omega arith)))
 
       high : (p : Strip) → endPlace C (p .a) (p .ca) ≡ endPlace C slot colour → base + endPlace C slot colour * endWords q hs ≤ base + row p
       high p e = omega (arith, row-at p, ap (λ (z : ℕ). z * endWords q hs) e)
 
       lower : (p : Strip) → Lies (length hs) C p → (v : ℕ) → endPlace C (p .a) (p .ca) < endPlace C slot colour → v < q .budgets → base + row p + v < base + endPlace C slot colour * endWords q hs
       lower p l v u w =
-          let x = row-room (endPlace C (p .a) (p .ca)) (endPlace C slot colour) (endWords q hs) u in
-          let y = row-room (endPlace C (p .b) (p .cb)) (endPlace C (length hs + 2) 0) (q .budgets) (later-end C (p .b) (p .cb) (length hs + 2) 0 (omega (arith, l .cbLow)) (l .bLow)) in
+          let x = row-within (endPlace C (p .a) (p .ca)) (endPlace C slot colour) (endWords q hs) u in
+          let y = row-within (endPlace C (p .b) (p .cb)) (endPlace C (length hs + 2) 0) (q .budgets) (later-end C (p .b) (p .cb) (length hs + 2) 0 (omega (arith, l .cbLow)) (l .bLow)) in
           omega (arith, row-at p, x, y)
 
   pub passed-all : (old new : List ℕ) (c d : ℕ) → length hs + 1 ≤ c → endPlace C c d ≤ endPlace C (length hs + 1) 0 → Passed old new (endPlace C c d)

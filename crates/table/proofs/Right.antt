@@ -28,11 +28,11 @@ use Rattle.rows.proofs.Places.{row-low, row-fits}
 use Rattle.table.proofs.entries.Entries.{Falls, cell-row, entry-by}
 use Rattle.table.specs.Marks.{Shaped, ReachMarked}
 use Rattle.rows.specs.Parts.{Marked}
-use Rattle.table.proofs.marks.Levels.{next-level, level-room, row-room}
+use Rattle.table.proofs.marks.Levels.{next-level, level-within, row-within}
 use Rattle.table.proofs.marks.Points.{points-long, point-at, drop-point}
 use Rattle.table.proofs.marks.Asked.{asks-parts}
 use Rattle.table.proofs.marks.Reach.{asks-by, reached-on, reached-shape}
-use Rattle.table.specs.Rows.{RowFilled, Given, LevelRight, LevelMarked}
+use Rattle.table.specs.Levels.{RowFilled, Given, LevelRight, LevelMarked}
 
 module _ (q : Measures) (hs bs rs ds xs ys cs : List ℕ) (area : ℕ) (g : Given q hs bs rs ds xs ys cs area) where
   abbrev P : Instance
@@ -55,12 +55,12 @@ module _ (q : Measures) (hs bs rs ds xs ys cs : List ℕ) (area : ℕ) (g : Give
   pub last-right : (work : List ℕ) (base : ℕ) → ((i : ℕ) → i < levelSize q hs → getD work (base + i) 0 ≡ 0) → LevelRight P q ss (length xs) work base
   last-right work base z p v r u =
       let l = shape (length xs) (omega arith) p r .lies in
-      z _ (room (rowOf (length hs) (q .colours) p) (rowsOf (length hs) (q .colours)) (q .budgets) v (row-low (length hs) (q .colours) p l) u)
+      z _ (row-inside (rowOf (length hs) (q .colours) p) (rowsOf (length hs) (q .colours)) (q .budgets) v (row-low (length hs) (q .colours) p l) u)
       ∙ sym (T-nil (rulesOf P) (laws P rising) p v)
       ∙ ap (λ (l : List Point). T (rulesOf P) l p v) (sym (drop-of-length-le ss {i = length xs} (omega (arith, sites-many))))
     where
-      room : (r rows n v : ℕ) → r < rows → v < n → r * n + v < rows * n
-      room r rows n v h k = omega (arith, row-room r rows n h)
+      row-inside : (r rows n v : ℕ) → r < rows → v < n → r * n + v < rows * n
+      row-inside r rows n v h k = omega (arith, row-within r rows n h)
 
   -- a level from the one below it
   pub level-right : (old new parts counts left : List ℕ) (j base low : ℕ) (s : Point) → s ≡ record { x = getD xs j 0; y = getD ys j 0; c = getD cs j 0 }
@@ -149,7 +149,7 @@ module _ (q : Measures) (hs bs rs ds xs ys cs : List ℕ) (area : ℕ) (g : Give
         (λ u p v r w. o .after _ (later i _ (omega arith)) ∙ d .levels i (omega arith) b p v r w)
         (λ u. let z : i ≡ k = omega arith in rw z (f (d .marked k (omega arith)) (d .levels (k + 1) (omega arith) (omega arith))));
     marked = λ i h p r. o .before _ (before-level p i k size e h (omega arith) r) ∙ d .marked i (omega arith) p r;
-    past = λ i h. o .after i (omega (arith, level-room k (length xs) size size _ refl (omega arith) h)) ∙ d .past i h;
+    past = λ i h. o .after i (omega (arith, level-within k (length xs) size size _ refl (omega arith) h)) ∙ d .past i h;
   }
     where
       later : (i x : ℕ) → k < i → k * size + size ≤ i * size + x

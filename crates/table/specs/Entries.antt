@@ -14,7 +14,7 @@ use Rattle.arrays.specs.declared.Measures.{Measures}
 use Rattle.rows.specs.Rows.{rowsOf, upperPart, lowerPart}
 use Rattle.rows.specs.Parts.{partsCost}
 use Rattle.strips.specs.Strips.{Framed, Stands, joinLeast, instanceOn, gapLeft, siteOpens, openCost}
-use Rattle.rows.specs.Budgets.{Within, shareBy}
+use Rattle.rows.specs.Budgets.{Within, splitBy}
 
 -- ---- what is asked of the numbers
 
@@ -31,7 +31,7 @@ pub record Ready (q : Measures) (heights bounds parts counts left : List ℕ) (s
 
 -- a label that costs c and leaves u of the budget, the rest shared between the rows f and g; none if u is no budget below n
 abbrev pub openBy : (parts counts : List ℕ) → (n c u : ℕ) → (f g : ℕ → ℕ) → ℕ
-openBy parts counts n c u f g = cond (ltb u n) (plus topWord c (shareBy parts counts f g u)) topWord
+openBy parts counts n c u f g = cond (ltb u n) (plus topWord c (splitBy parts counts f g u)) topWord
 
 -- opening a label at slot k where there is but one budget: the whole of it goes to both parts
 abbrev pub singleTerm : Measures → (heights : List ℕ) → (row : Strip → ℕ → ℕ) → Strip → Point → (k : ℕ) → ℕ

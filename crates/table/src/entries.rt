@@ -8,12 +8,12 @@ ghost use Rattle.optimum.specs.OneSided.{topWord};
 ghost use Rattle.strips.specs.Strips.{instanceOn, gapLeft, Measured};
 ghost use Rattle.rows.specs.Rows.{stripOf, pointOf, Lies, rowIn};
 ghost use Rattle.rows.specs.Budgets.{Others, Within};
-ghost use Rattle.rows.specs.Parts.{Room};
+ghost use Rattle.rows.specs.Parts.{LevelFits};
 ghost use Rattle.table.specs.Entries.{Ready, openBy, slotTerm, singleTerm, slotsLeast, isSingle, entryBy};
 use arrays::Measures;
 use rows::Site;
 use rows::Strip;
-use rows::budgets::least_share;
+use rows::budgets::least_split;
 use strips::Window;
 use words::NONE;
 use words::both;
@@ -54,7 +54,7 @@ fn opened(
     if n <= u {
         return old;
     }
-    let t = (cost as u64) + (least_share(parts, counts, n, work, upper, work, lower, u) as u64);
+    let t = (cost as u64) + (least_split(parts, counts, n, work, upper, work, lower, u) as u64);
     if t < old as u64 {
         return t as u32;
     }
@@ -164,7 +164,7 @@ fn least_open(
     window: Window,
     old: u32,
 ) -> u32
-    requires { ⌜ Measured q (now heights) (s .y) × (s .c < q .colours) × Room q (length (now heights)) low (length (now work)) ⌝ }
+    requires { ⌜ Measured q (now heights) (s .y) × (s .c < q .colours) × LevelFits q (length (now heights)) low (length (now work)) ⌝ }
     requires { ⌜ Lies (length (now heights)) (q .colours) (stripOf p) ⌝ }
     requires { ⌜ (window .from < window .to) × (window .to < p .b) ⌝ }
     ensures { λ r. ⌜ r ≡ min old (least topWord (window .to - window .from) (λ i. singleTerm q (now (heights .entry)) (rowIn (now (work .entry)) low (length (now (heights .entry))) (q .colours) (q .budgets)) (stripOf p) (pointOf s) (window .from + i))) ⌝ }

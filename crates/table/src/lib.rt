@@ -1,6 +1,6 @@
 // The one-sided table in the lent work words: what the whole sheet leads to is marked, then filled level by level from the last up.
-pub mod marks;
 pub mod entries;
+pub mod marks;
 
 ghost use mathlib.Core.Path.{_≡_};
 ghost use Prim.Native.Nat.{ℕ, _+_, _-_, _*_, _<_, _≤_};
@@ -11,7 +11,7 @@ ghost use Rattle.table.specs.Marks.{Shaped};
 ghost use Rattle.rows.specs.Budgets.{Others, Splits};
 ghost use Rattle.arrays.specs.Arrays.{instanceBy, pointsBy};
 ghost use Rattle.optimum.specs.Reached.{TableOf};
-ghost use Rattle.table.specs.Rows.{Ready, RowFilled, Given, LevelRight, LevelMarked};
+ghost use Rattle.table.specs.Levels.{Ready, RowFilled, Given, LevelRight, LevelMarked};
 use arrays::Measures;
 use rows::End;
 use rows::Site;

@@ -9,7 +9,7 @@ ghost use Rattle.arrays.specs.Arrays.{pointsBy};
 ghost use Rattle.strips.specs.Strips.{instanceOn, Framed, Stands};
 ghost use Rattle.rows.specs.Rows.{stripOf, pointOf, rowsOf, levelSize, Lies, endPlace};
 ghost use Rattle.table.specs.Marks.{Shaped, Ready, Led, Sites, ReachMarked};
-ghost use Rattle.rows.specs.Parts.{Marked, Marking, Room, PartsMarked};
+ghost use Rattle.rows.specs.Parts.{Marked, Marking, LevelFits, PartsMarked};
 use arrays::Measures;
 use rows::End;
 use rows::Site;
@@ -20,7 +20,7 @@ use words::less;
 
 // Marks a strip, if it is to be.
 fn mark_own(work: &mut [u32], q: Measures, m: usize, p: Strip, low: usize, stays: bool)
-    requires { ⌜ Room q m low (length (now work)) × Lies m (q .colours) (stripOf p) ⌝ }
+    requires { ⌜ LevelFits q m low (length (now work)) × Lies m (q .colours) (stripOf p) ⌝ }
     ensures { λ _. ⌜ Marking (now (work .entry)) (now (work .exit)) low (rowsOf m (q .colours) * q .budgets) ⌝ }
     ensures { λ _. ⌜ (stays ≡ true → Marked (now (work .exit)) low m (q .colours) (q .budgets) (stripOf p)) ⌝ }
 {
@@ -41,7 +41,7 @@ fn mark_window(
     low: usize,
     window: Window,
 )
-    requires { ⌜ Room q m low (length (now work)) × Lies m (q .colours) (stripOf p) ⌝ }
+    requires { ⌜ LevelFits q m low (length (now work)) × Lies m (q .colours) (stripOf p) ⌝ }
     requires { ⌜ (s .c < q .colours) × (window .from < window .to → window .to < p .b) ⌝ }
     ensures { λ _. ⌜ Marking (now (work .entry)) (now (work .exit)) low (rowsOf m (q .colours) * q .budgets) ⌝ }
     ensures { λ _. ⌜ ((k : ℕ) → window .from ≤ k → k < window .to → PartsMarked q (now (work .exit)) low m (stripOf p) (pointOf s) k) ⌝ }
@@ -65,7 +65,7 @@ fn mark_row(
     low: usize,
 )
     requires { ⌜ Framed q (now heights) (now bounds) × Stands (q .colours) (pointOf s) ⌝ }
-    requires { ⌜ Room q (length (now heights)) low (length (now work)) × Lies (length (now heights)) (q .colours) (stripOf p) ⌝ }
+    requires { ⌜ LevelFits q (length (now heights)) low (length (now work)) × Lies (length (now heights)) (q .colours) (stripOf p) ⌝ }
     requires { ⌜ at < length (now work) ⌝ }
     ensures { λ _. ⌜ Marking (now (work .entry)) (now (work .exit)) low (levelSize q (now (heights .entry))) ⌝ }
     ensures { λ _. ⌜ (getD (now (work .entry)) at 0 ≡ 1 → (x : model.Strip) → Asks (instanceOn q (now (heights .entry)) (now (bounds .entry))) (stripOf p) (pointOf s) x → Marked (now (work .exit)) low (length (now (heights .entry))) (q .colours) (q .budgets) x) ⌝ }

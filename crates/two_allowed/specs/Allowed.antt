@@ -8,7 +8,7 @@ use lib.ListN.{length, getD}
 use Rattle.optimum.specs.Slots.{farFrom}
 use Rattle.arrays.specs.declared.Measures.{Measures}
 use Rattle.arrays.specs.Arrays.{slotsBy}
-use Rattle.two_links.specs.Rows.{sizeOf}
+use Rattle.two_links.specs.BudgetRows.{sizeOf}
 
 -- the budgets go by blocks of a colour that have words
 pub record Parted (q : Measures) (bs rs ds : List ℕ) (d : ℕ) : Type 0 where

@@ -4,7 +4,7 @@ ghost use mathlib.Core.Bool.{true};
 ghost use Prim.Native.Nat.{_%_, _<_, _≤_};
 ghost use lib.Dec.{leb};
 ghost use lib.ListN.{length, getD};
-ghost use Rattle.two_links.specs.Rows.{sizeOf};
+ghost use Rattle.two_links.specs.BudgetRows.{sizeOf};
 ghost use Rattle.two_allowed.specs.Allowed.{Parted, Stands};
 use arrays::Measures;
 use arrays::places::is_far;

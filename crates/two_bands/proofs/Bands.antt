@@ -7,7 +7,7 @@ use native.Mathlib.Omega.{arith}
 use lib.ListN.{length, getD, set}
 use lib.Seq.{getD-set-same, getD-set-other}
 use Rattle.lists.proofs.Tests.{by-equal}
-use Rattle.two_bands.specs.Bands.{Between, Codes, Lost, Barred, Starts, Ends, Marks}
+use Rattle.two_bands.specs.Bands.{Between, Codes, Lost, Excluded, Starts, Ends, Marks}
 
 -- ---- all sites
 
@@ -37,10 +37,10 @@ module _ (hs ys cs : List ℕ) (a k : ℕ) where
 
   -- ---- the one code that is not lost
 
-  pub barred-none : (ca : ℕ) → Barred hs ys cs a ca k 0
+  pub barred-none : (ca : ℕ) → Excluded hs ys cs a ca k 0
   barred-none ca d n = absurd (n refl)
 
-  pub barred-all : (ca code other : ℕ) → code ≢ ca → code ≢ other → other ≢ 0 → Between hs ys cs a k code → Barred hs ys cs a ca k other → (d : ℕ) → Lost hs ys cs a ca k (suc d)
+  pub barred-all : (ca code other : ℕ) → code ≢ ca → code ≢ other → other ≢ 0 → Between hs ys cs a k code → Excluded hs ys cs a ca k other → (d : ℕ) → Lost hs ys cs a ca k (suc d)
   barred-all ca code other u o s b old d =
       by-equal code (suc d)
       (λ e. old d s (λ z. o (e ∙ sym z)))
@@ -83,7 +83,7 @@ module _ (hs ys cs : List ℕ) (rising : (j k : ℕ) → j < k → k < length hs
   lost-down a ca k m cb h l w =
       record { code = w .code; between = between-down a k m (w .code) h l (w .between); not-upper = w .not-upper; not-lower = w .not-lower }
 
-  pub barred-down : (a ca k m other : ℕ) → k ≤ m → m < length hs → Barred hs ys cs a ca k other → Barred hs ys cs a ca m other
+  pub barred-down : (a ca k m other : ℕ) → k ≤ m → m < length hs → Excluded hs ys cs a ca k other → Excluded hs ys cs a ca m other
   barred-down a ca k m other h l w d s n = lost-down a ca k m (suc d) h l (w d s n)
 
 -- ---- marks, slot by slot
@@ -105,7 +105,7 @@ marks-more hs ys cs bands ends n codes end h l c e m =
 
 -- a band's codes seen
 pub barred-more : (hs ys cs bands ends : List ℕ) → ((j k : ℕ) → j < k → k < length hs → getD hs j 0 < getD hs k 0) → Marks hs ys cs bands ends (length hs) →
-    (a ca k other new codes : ℕ) → a ≤ k → k < length hs → codes ≡ getD bands k 0 → (k < length hs → Barred hs ys cs a ca k other) →
-    ((hs ys cs : List ℕ) (a k : ℕ) → Barred hs ys cs a ca k other → Codes hs ys cs a k codes → Barred hs ys cs a ca k new) → Barred hs ys cs a ca k new
+    (a ca k other new codes : ℕ) → a ≤ k → k < length hs → codes ≡ getD bands k 0 → (k < length hs → Excluded hs ys cs a ca k other) →
+    ((hs ys cs : List ℕ) (a k : ℕ) → Excluded hs ys cs a ca k other → Codes hs ys cs a k codes → Excluded hs ys cs a ca k new) → Excluded hs ys cs a ca k new
 barred-more hs ys cs bands ends rising m a ca k other new codes h l e old step =
     step hs ys cs a k (old l) (rw e (codes-up hs ys cs rising a k (getD bands k 0) h l (m .codes k l)))

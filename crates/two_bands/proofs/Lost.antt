@@ -4,7 +4,7 @@ use mathlib.Core.List.{List}
 use Prim.Native.Nat.{ℕ, zero, suc, _+_, _-_, _≤_, _<_}
 use native.Mathlib.Omega.{arith}
 use lib.ListN.{length, getD}
-use Rattle.two_bands.specs.Bands.{Lost, Barred}
+use Rattle.two_bands.specs.Bands.{Lost, Excluded}
 use Rattle.two_bands.proofs.Bands.{lost-down}
 
 -- R j d: the loop came to the colour d at slot a + j
@@ -38,7 +38,7 @@ module _ (hs ys cs : List ℕ) (rising : (j k : ℕ) → j < k → k < length hs
       (slots-lost j n (omega arith) lost r))
 
   -- no label is left: the loop has come to its end
-  pub all-lost : (j other : ℕ) → colours ≤ 8 → a + j < length hs → other ≡ 255 → Barred hs ys cs a ca (a + j) other → R j 0 → R (length hs - a) 0
+  pub all-lost : (j other : ℕ) → colours ≤ 8 → a + j < length hs → other ≡ 255 → Excluded hs ys cs a ca (a + j) other → R j 0 → R (length hs - a) 0
   all-lost j other few h o b r =
       let e : j + (length hs - (a + j)) ≡ length hs - a = omega arith in
       rw e at (slots-lost j (length hs - (a + j)) (omega arith) (λ d l. b d (λ z. omega arith) (λ z. omega arith)) r)

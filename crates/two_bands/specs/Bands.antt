@@ -28,8 +28,8 @@ pub record Lost (hs ys cs : List ℕ) (a ca k cb : ℕ) : Type 0 where
   pub not-lower : code ≢ cb
 
 -- below a label of the code ca at the place a, a label at slot k is lost unless its code is `other`; 0 says nothing
-abbrev pub Barred : (hs ys cs : List ℕ) → (a ca k other : ℕ) → Type 0
-Barred hs ys cs a ca k other = (d : ℕ) → other ≢ 0 → other ≢ suc d → Lost hs ys cs a ca k (suc d)
+abbrev pub Excluded : (hs ys cs : List ℕ) → (a ca k other : ℕ) → Type 0
+Excluded hs ys cs a ca k other = (d : ℕ) → other ≢ 0 → other ≢ suc d → Lost hs ys cs a ca k (suc d)
 
 -- ---- places in the arrays
 

@@ -13,9 +13,9 @@ use lib.Seq.{set-set, getD-set-same, getD-set-other}
 use borrow.Author.Tests.{leb-true, le-leb, ne-eqb, eqb-true, eqb-false}
 use Rattle.lists.proofs.Tests.{by-test, by-order, by-equal, clash}
 use Rattle.optimum.specs.UsedSlots.{Instance, put, value, allows, choose}
-use Rattle.optimum.specs.Steady.{Steady}
-use Rattle.optimum.proofs.Rows.{put-set}
-use Rattle.optimum.proofs.Steady.{keeps, misses, choose-is, choose-keeps}
+use Rattle.optimum.specs.CapsMonotone.{CapsMonotone}
+use Rattle.optimum.proofs.TwoSidedRows.{put-set}
+use Rattle.optimum.proofs.CapsMonotone.{keeps, misses, choose-is, choose-keeps}
 use Rattle.arrays.specs.declared.Measures.{Measures}
 use Rattle.optimum.specs.CostWord.{topWord}
 use Rattle.two_stripcosts.specs.Table.{tableBy, capsIn}
@@ -77,7 +77,7 @@ pub record Free (G : Instance) (w i : ℕ) (caps : List ℕ) : Type 0 where
   pub free : getD caps i 0 ≡ 0
   pub least : value G (capsIn caps) ≡ w
 
-module _ (G : Instance) (w : ℕ) (steady : Steady G w) (caps : List ℕ) (i : ℕ) (site : Free G w i caps) where
+module _ (G : Instance) (w : ℕ) (monotone : CapsMonotone G w) (caps : List ℕ) (i : ℕ) (site : Free G w i caps) where
   open Free site using (free, least)
 
   at-set : (p : ℕ) → value G (put (capsIn caps) i p) ≡ value G (capsIn (set caps i p))
@@ -94,7 +94,7 @@ module _ (G : Instance) (w : ℕ) (steady : Steady G w) (caps : List ℕ) (i : �
         bounded = h;
         others = λ p. refl;
         reached = by-order (G .slots .m - 1) (r .high)
-            (λ l. le-of-eq (sym (at-set (suc (r .high))) ∙ steady .last (capsIn caps) i (r .high) in-sites free least (omega arith)))
+            (λ l. le-of-eq (sym (at-set (suc (r .high))) ∙ monotone .last (capsIn caps) i (r .high) in-sites free least (omega arith)))
             (λ l. goal-reaches G caps goals w i (site .inside) (r .high) g (f l ∙ add-one (r .high)));
         missed = λ j l. absurd (omega (arith, z));
       }
@@ -115,7 +115,7 @@ module _ (G : Instance) (w : ℕ) (steady : Steady G w) (caps : List ℕ) (i : �
           let same : value G (capsIn (set new i (suc (after .high)))) ≡ value G (capsIn (set caps i (suc (after .high)))) = ap (λ (l : List ℕ). value G (capsIn l)) (o (suc (after .high))) in
           let reach : Reaches G caps w i (after .high) = rw same at (k .2) in
           let is : value G (capsIn (set caps i (suc (after .high)))) ≡ w =
-          sym (at-set (suc (after .high))) ∙ keeps G w steady (capsIn caps) i in-sites free least (after .high) (rw (at-set (suc (after .high))) reach) in
+          sym (at-set (suc (after .high))) ∙ keeps G w monotone (capsIn caps) i in-sites free least (after .high) (rw (at-set (suc (after .high))) reach) in
           let up : after .low ≤ after .high = by-order (r .low) (after .high) (λ h. omega (arith, k .0)) (λ h. absurd (n .missed (after .high) h is)) in (
             record {
               ordered = up;
@@ -136,7 +136,7 @@ module _ (G : Instance) (w : ℕ) (steady : Steady G w) (caps : List ℕ) (i : �
               bounded = omega (arith, n .bounded, k .1);
               others = o;
               reached = rw (k .1) (n .reached);
-              missed = λ j l z. misses G w steady (capsIn caps) i in-sites free least j probe (omega (arith, k .0)) no (at-set (suc j) ∙ z);
+              missed = λ j l z. misses G w monotone (capsIn caps) i in-sites free least j probe (omega (arith, k .0)) no (at-set (suc j) ∙ z);
             },
             omega (arith, k .0, k .1),
           )
@@ -146,11 +146,11 @@ module _ (G : Instance) (w : ℕ) (steady : Steady G w) (caps : List ℕ) (i : �
       let z : r .high ≡ r .low = omega (arith, n .ordered) in
       let reach : value G (put (capsIn caps) i (suc (r .low))) ≤ w = rw (at-set (suc (r .low)), ← z) (n .reached) in
       let e : choose G w (capsIn caps) i ≡ r .low =
-      choose-is G w steady (capsIn caps) i in-sites free least (r .low) (omega (arith, n .bounded)) reach (λ j l y. n .missed j l (sym (at-set (suc j)) ∙ y)) in
+      choose-is G w monotone (capsIn caps) i in-sites free least (r .low) (omega (arith, n .bounded)) reach (λ j l y. n .missed j l (sym (at-set (suc j)) ∙ y)) in
       rw (e, add-one) (n .others (suc (r .low)))
 
   pub narrowed-keeps : (new : List ℕ) → new ≡ set caps i (suc (choose G w (capsIn caps) i)) → value G (capsIn new) ≡ w
-  narrowed-keeps new e = rw e (sym (at-set (suc (choose G w (capsIn caps) i))) ∙ choose-keeps G w steady (capsIn caps) i in-sites free least)
+  narrowed-keeps new e = rw e (sym (at-set (suc (choose G w (capsIn caps) i))) ∙ choose-keeps G w monotone (capsIn caps) i in-sites free least)
 
 -- ---- a test at a slot
 
@@ -183,14 +183,14 @@ pub record Sought (G : Instance) (caps now goals : List ℕ) (w i : ℕ) (r : Ra
   pub next : r .low < r .high → (r .low ≤ probe) × (probe < r .high)
   pub aimed : Goals G (set now i 0) goals w
 
-module _ (G : Instance) (w : ℕ) (steady : Steady G w) (caps : List ℕ) (i : ℕ) where
+module _ (G : Instance) (w : ℕ) (monotone : CapsMonotone G w) (caps : List ℕ) (i : ℕ) where
   pub sought-first : (goals : List ℕ) (r : Range) (probe : ℕ) → Free G w i caps → Goals G caps goals w →
       ((r .low ≡ 0) × (r .high ≤ G .slots .m - 1) × (r .high < G .slots .m - 1 → getD goals i 0 ≡ r .high + 1)) → probe ≡ r .high - 1 → Sought G caps caps goals w i r probe
   sought-first goals r probe f g h e =
       record {
         site = f;
         long = refl;
-        range = narrowed-first G w steady caps i f goals r g h;
+        range = narrowed-first G w monotone caps i f goals r g h;
         next = λ l. (omega (arith, h .0), omega arith);
         aimed = goals-free G caps goals w i (f .inside) g;
       }
@@ -212,13 +212,13 @@ module _ (G : Instance) (w : ℕ) (steady : Steady G w) (caps : List ℕ) (i : �
     pub sought-step : (aims : List ℕ) (after : Range) → r .low < r .high → Probed G (set now i (probe + 1)) w i r probe after → Goals G (set (set now i (probe + 1)) i 0) aims w →
         Sought G caps (set now i (probe + 1)) aims w i after ((after .low + after .high) / 2) × (after .high - after .low < r .high - r .low)
     sought-step aims after h p g =
-        let k = narrowed-step G w steady caps i (s .site) now (set now i (probe + 1)) (G .slots .m - 1) probe r after (s .next h .0) (s .next h .1) refl p (s .range) in
+        let k = narrowed-step G w monotone caps i (s .site) now (set now i (probe + 1)) (G .slots .m - 1) probe r after (s .next h .0) (s .next h .1) refl p (s .range) in
         (record { site = s .site; long = length-set now i (probe + 1) ∙ s .long; range = k .0; next = λ l. (omega arith, omega arith); aimed = g }, k .1)
 
     -- the end
     module _ (h : r .high ≤ r .low) where
       sought-is : set now i (r .low + 1) ≡ set caps i (suc (choose G w (capsIn caps) i))
-      sought-is = narrowed-end G w steady caps i (s .site) now r h (s .range)
+      sought-is = narrowed-end G w monotone caps i (s .site) now r h (s .range)
 
       lowered : G .slots .m ≤ 48 → Low caps → Low (set now i (r .low + 1))
       lowered m low = rw (s .range .others (r .low + 1)) (low-set caps i (r .low + 1) (s .site .inside) (omega (arith, s .range .ordered, s .range .bounded)) low)
@@ -229,7 +229,7 @@ module _ (G : Instance) (w : ℕ) (steady : Steady G w) (caps : List ℕ) (i : �
       copied : (aims : List ℕ) → G .slots .m ≤ 48 → aims ≡ set now i (r .low + 1) → Ended aims
       copied aims m e =
           let n : length aims ≡ G .n = ap length e ∙ length-set now i (r .low + 1) ∙ s .long ∙ s .site .long in
-          (sought-is, (lowered m, goals-copied G (set now i (r .low + 1)) aims w e n (le-of-eq (narrowed-keeps G w steady caps i (s .site) (set now i (r .low + 1)) sought-is))))
+          (sought-is, (lowered m, goals-copied G (set now i (r .low + 1)) aims w e n (le-of-eq (narrowed-keeps G w monotone caps i (s .site) (set now i (r .low + 1)) sought-is))))
 
       met : G .slots .m ≤ 48 → getD goals i 0 ≡ r .low + 1 → Ended goals
       met m e =

@@ -3,14 +3,14 @@ ghost use mathlib.Core.Path.{_≡_};
 ghost use Prim.Native.Nat.{suc, _+_, _-_, _<_, _≤_};
 ghost use lib.ListN.{length, getD, set};
 ghost use Rattle.optimum.specs.UsedSlots.{value, choose};
-ghost use Rattle.optimum.specs.Steady.{Steady};
+ghost use Rattle.optimum.specs.CapsMonotone.{CapsMonotone};
 ghost use Rattle.two_slotbands.specs.Sites.{Reorders};
 ghost use Rattle.two_stripcosts.specs.Table.{tableBy, capsIn, Fits};
 ghost use Rattle.two_goals.specs.Goals.{Goals};
 ghost use Rattle.two_aims.specs.Caps.{Low};
 ghost use Rattle.two_capsearch.specs.Search.{Probed, Filled};
-use two_aims::keep_goals;
 use arrays::Measures;
+use two_aims::keep_goals;
 use two_byheight::keeps_least;
 use two_goals::trace_goals;
 use two_guesses::Range;
@@ -94,7 +94,7 @@ pub fn cap_site(
 )
     requires { ⌜ Fits q (now heights) (now bounds) (now radices) (now draws) (now ys) (now colours) (now caps) ⌝ }
     requires { ⌜ Filled q (now heights) (now bounds) (now radices) (now ys) (now colours) (now work) least × (site < length (now caps)) × (getD (now caps) site 0 ≡ 0) × Reorders (now order) (length (now ys)) × Goals (tableBy q (now heights) (now bounds) (now radices) (now ys) (now colours)) (now caps) (now goals) least ⌝ }
-    requires { ⌜ (value (tableBy q (now heights) (now bounds) (now radices) (now ys) (now colours)) (capsIn (now caps)) ≡ least) × Steady (tableBy q (now heights) (now bounds) (now radices) (now ys) (now colours)) least ⌝ }
+    requires { ⌜ (value (tableBy q (now heights) (now bounds) (now radices) (now ys) (now colours)) (capsIn (now caps)) ≡ least) × CapsMonotone (tableBy q (now heights) (now bounds) (now radices) (now ys) (now colours)) least ⌝ }
     ensures { λ _. ⌜ now (caps .exit) ≡ set (now (caps .entry)) site (suc (choose (tableBy q (now (heights .entry)) (now (bounds .entry)) (now (radices .entry)) (now (ys .entry)) (now (colours .entry))) least (capsIn (now (caps .entry))) site)) ⌝ }
     ensures { λ _. ⌜ (Low (now (caps .entry)) → Low (now (caps .exit))) ⌝ }
     ensures { λ _. ⌜ Goals (tableBy q (now (heights .entry)) (now (bounds .entry)) (now (radices .entry)) (now (ys .entry)) (now (colours .entry))) (now (caps .exit)) (now (goals .exit)) least ⌝ }

@@ -11,8 +11,8 @@ use Rattle.search.specs.Cost.{plus}
 use Rattle.search.proofs.Cost.{plus-le, plus-past, plus-mono, plus-assoc, plus-zero, least-le}
 use Rattle.optimum.specs.Slots.{Slots, farFrom}
 use Rattle.optimum.specs.UsedSlots.{Instance, may, draw, strip, below, T, value}
-use Rattle.optimum.specs.Rows.{link}
-use Rattle.optimum.proofs.Rows.{below-le, below-end, below-step, link-is}
+use Rattle.optimum.specs.TwoSidedRows.{link}
+use Rattle.optimum.proofs.TwoSidedRows.{below-le, below-end, below-step, link-is}
 use Rattle.arrays.specs.declared.Measures.{Measures}
 use Rattle.arrays.specs.Arrays.{labelCost}
 use Rattle.two_stripcosts.specs.Costs.{upperAt, lowerAt, stripOf}

@@ -1,4 +1,4 @@
 mod Marks
 pub mod Lower
-pub mod Rows
+pub mod MarkedRows
 pub mod Search

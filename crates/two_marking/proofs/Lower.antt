@@ -10,8 +10,8 @@ use Rattle.search.specs.Sums.{sumTo}
 use lib.Dec.{eqb}
 use Rattle.optimum.specs.Slots.{Slots, farFrom, clearFrom}
 use Rattle.optimum.specs.UsedSlots.{Instance, at, may, draw, allows, upCost, downCost, siteCost, inside, strip, T, value}
-use Rattle.optimum.specs.Rows.{link}
-use Rattle.optimum.proofs.Rows.{T-is, link-is}
+use Rattle.optimum.specs.TwoSidedRows.{link}
+use Rattle.optimum.proofs.TwoSidedRows.{T-is, link-is}
 
 plus-lower : (top a b c d : ℕ) → a ≤ c → b ≤ d → plus top a b ≤ plus top c d
 unfolding plus

@@ -12,7 +12,7 @@ use borrow.Author.Tests.{le-leb, lt-ltb, eq-eqb, leb-true, ltb-true, ltb-false, 
 use Rattle.lists.proofs.Tests.{by-test, by-order, by-equal, by-either, and-both, or-l, or-r, clash}
 use Rattle.search.specs.Cost.{plus}
 use Rattle.optimum.specs.CostWord.{topWord}
-use Rattle.two_links.proofs.Rows.{in-block}
+use Rattle.two_links.proofs.BudgetRows.{in-block}
 use Rattle.two_marking.specs.Marks.{Marked, markAfter, Run, Linked, Ended}
 
 -- ---- one mark

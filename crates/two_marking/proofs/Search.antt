@@ -15,8 +15,8 @@ use Rattle.search.specs.Cost.{plus}
 use Rattle.optimum.specs.CostWord.{topWord}
 use Rattle.optimum.specs.Slots.{Slots, farFrom}
 use Rattle.optimum.specs.UsedSlots.{Instance, allows, may, draw, strip, T, value}
-use Rattle.optimum.specs.Rows.{link, acc, cell}
-use Rattle.optimum.proofs.Rows.{cell-apart, acc-link, acc-same, acc-start, acc-end, link-spent, link-is}
+use Rattle.optimum.specs.TwoSidedRows.{link, acc, cell}
+use Rattle.optimum.proofs.TwoSidedRows.{cell-apart, acc-link, acc-same, acc-start, acc-end, link-spent, link-is}
 use Rattle.two_stripcosts.specs.Table.{firstCode, lastCode, RightTo}
 use Rattle.two_stripcosts.proofs.Entries.{codes-top, codes-slot}
 use Rattle.two_marking.specs.Marks.{Marked, Linked, Ended}
@@ -48,9 +48,9 @@ tight-less : (top e x x′ y′ : ℕ) → x ≡ plus top e x′ → x < top →
 unfolding plus
 tight-less top e x x′ y′ p l h = omega arith
 
-loose-less : (top e x x′ y′ : ℕ) → (x ≡ plus top e x′ → ⊥) → x ≤ plus top e x′ → x′ ≤ y′ → x < plus top e y′
+binding-less : (top e x x′ y′ : ℕ) → (x ≡ plus top e x′ → ⊥) → x ≤ plus top e x′ → x′ ≤ y′ → x < plus top e y′
 unfolding plus
-loose-less top e x x′ y′ p l h = omega (arith, p)
+binding-less top e x x′ y′ p l h = omega (arith, p)
 
 module _ (G : Instance) (c : ℕ → ℕ) (P : ℕ) where
   open Instance G using (slots, top, colours)
@@ -148,7 +148,7 @@ module _ (G : Instance) (c : ℕ → ℕ) (P : ℕ) where
             (by-equal (T G z a ca v) (plus top (edge G c a ca (a + j) d) (T G z (suc (a + j)) (suc d) (v - draw G (suc d))))
             (λ e. tight-less top _ _ _ _ e x
             (h (suc (a + j)) (suc d) (v - draw G (suc d)) (omega arith) (omega arith) (omega arith) (omega arith) (omega arith) (new-mark o t₁ e)))
-            (λ e. loose-less top _ _ _ _ e b (T-lower G z c loosest (suc (a + j)) (suc d) (v - draw G (suc d)) (omega arith)))))
+            (λ e. binding-less top _ _ _ _ e b (T-lower G z c loosest (suc (a + j)) (suc d) (v - draw G (suc d)) (omega arith)))))
             (λ t₁. rw (link-spent G c a ca v (a + j) d t₁) x)
           where
             new-mark : Marked old (at a ca v) → may G (suc d) v ≡ true →

@@ -4,7 +4,7 @@ use mathlib.Core.List.{List}
 use Prim.Native.Nat.{ℕ, suc, _+_, _≤_, _<_}
 use lib.ListN.{getD}
 use Rattle.optimum.specs.UsedSlots.{Instance, T, value}
-use Rattle.optimum.specs.Rows.{cell, acc}
+use Rattle.optimum.specs.TwoSidedRows.{cell, acc}
 use Rattle.two_marking.specs.Marks.{Marked}
 use Rattle.two_stripcosts.specs.Table.{RightFrom}
 

@@ -7,7 +7,7 @@ ghost use mathlib.Core.List.{List};
 ghost use Prim.Native.Nat.{ℕ, suc, _+_, _-_, _<_, _≤_};
 ghost use lib.ListN.{length};
 ghost use Rattle.optimum.specs.UsedSlots.{value};
-ghost use Rattle.two_bands.specs.Bands.{Barred, Starts, Ends, Marks};
+ghost use Rattle.two_bands.specs.Bands.{Excluded, Starts, Ends, Marks};
 ghost use Rattle.two_stripcosts.specs.Table.{Fits, tableWords, tableBy, capsIn};
 ghost use Rattle.two_marking.specs.Marked.{Table, Reached, RowTo, PlaceTo};
 use crate::rowmarks::is_any_ended;
@@ -15,7 +15,7 @@ use crate::rowmarks::is_any_marked;
 use crate::rowmarks::mark_blocks;
 use arrays::Measures;
 use arrays::places::is_far;
-use two_bands::ALL_LOST;
+use two_bands::ALL_EXCLUDED;
 use two_bands::other_in;
 use two_links::block_size;
 use two_links::link_cost;
@@ -48,7 +48,7 @@ fn mark_slot(
     other: u32,
 )
     requires { ⌜ Fits q (now heights) (now bounds) (now radices) (now draws) (now ys) (now colours) (now caps) ⌝ }
-    requires { ⌜ (a + j < length (now heights)) × (code ≤ q .colours) × Starts (now heights) (now ys) a start × Ends (now heights) (now ys) (a + j) end × Barred (now heights) (now ys) (now colours) a code (a + j) other ⌝ }
+    requires { ⌜ (a + j < length (now heights)) × (code ≤ q .colours) × Starts (now heights) (now ys) a start × Ends (now heights) (now ys) (a + j) end × Excluded (now heights) (now ys) (now colours) a code (a + j) other ⌝ }
     requires { ⌜ Table (tableBy q (now heights) (now bounds) (now radices) (now ys) (now colours)) (now work) (q .budgets) a code × (length (now marks) ≡ tableWords q (now heights)) × (tableWords q (now heights) ≤ length (now work)) ⌝ }
     ensures { λ _. ⌜ ((old : List ℕ) → RowTo (tableBy q (now (heights .entry)) (now (bounds .entry)) (now (radices .entry)) (now (ys .entry)) (now (colours .entry))) (capsIn (now (caps .entry))) (q .budgets) old (now (marks .entry)) a code j 0 → RowTo (tableBy q (now (heights .entry)) (now (bounds .entry)) (now (radices .entry)) (now (ys .entry)) (now (colours .entry))) (capsIn (now (caps .entry))) (q .budgets) old (now (marks .exit)) a code (suc j) 0) ⌝ }
 {
@@ -109,7 +109,7 @@ fn mark_below(
     let mut j: u32 = 0;
     while a + j < m {
         other = other_in(other, code, get(bands, a + j));
-        if other == ALL_LOST {
+        if other == ALL_EXCLUDED {
             return;
         }
         mark_slot(

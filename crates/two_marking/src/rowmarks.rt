@@ -3,7 +3,7 @@ ghost use mathlib.Core.Path.{_≡_};
 ghost use mathlib.Core.Bool.{false};
 ghost use Prim.Native.Nat.{ℕ, _+_, _<_, _≤_};
 ghost use lib.ListN.{length, getD};
-ghost use Rattle.two_links.specs.Rows.{Blocks};
+ghost use Rattle.two_links.specs.BudgetRows.{Blocks};
 ghost use Rattle.two_marking.specs.Marks.{Run, Linked, Ended};
 use two_onemark::mark_after;
 use words::both;

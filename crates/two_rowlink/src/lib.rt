@@ -2,7 +2,7 @@
 ghost use mathlib.Core.Path.{_≡_};
 ghost use Prim.Native.Nat.{ℕ, _<_};
 ghost use lib.ListN.{length, getD};
-ghost use Rattle.two_links.specs.Rows.{linked, Blocks};
+ghost use Rattle.two_links.specs.BudgetRows.{linked, Blocks};
 use two_links::link_blocks;
 use two_links::relax;
 

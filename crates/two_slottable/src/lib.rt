@@ -3,11 +3,11 @@ ghost use mathlib.Core.Path.{_≡_};
 ghost use Prim.Native.Nat.{suc, _+_, _-_, _<_, _≤_};
 ghost use lib.ListN.{length, drop};
 ghost use Rattle.optimum.specs.UsedSlots.{value};
-ghost use Rattle.two_bands.specs.Bands.{Barred, Starts, Ends, Marks};
+ghost use Rattle.two_bands.specs.Bands.{Excluded, Starts, Ends, Marks};
 ghost use Rattle.two_stripcosts.specs.Table.{Fits, tableWords, tableBy, capsIn, RightFrom, RightTo, RowTo, RowOf};
 use arrays::Measures;
 use arrays::places::is_far;
-use two_bands::ALL_LOST;
+use two_bands::ALL_EXCLUDED;
 use two_bands::other_in;
 use two_links::block_size;
 use two_links::fill_row;
@@ -45,7 +45,7 @@ fn slot_links(
     other: u32,
 )
     requires { ⌜ Fits q (now heights) (now bounds) (now radices) (now draws) (now ys) (now colours) (now caps) ⌝ }
-    requires { ⌜ (a + j < length (now heights)) × (q .budgets ≤ length (now row)) × (tableWords q (now heights) ≤ length (now work)) × Starts (now heights) (now ys) a start × Ends (now heights) (now ys) (a + j) end × Barred (now heights) (now ys) (now colours) a code (a + j) other ⌝ }
+    requires { ⌜ (a + j < length (now heights)) × (q .budgets ≤ length (now row)) × (tableWords q (now heights) ≤ length (now work)) × Starts (now heights) (now ys) a start × Ends (now heights) (now ys) (a + j) end × Excluded (now heights) (now ys) (now colours) a code (a + j) other ⌝ }
     requires { ⌜ RightFrom (tableBy q (now heights) (now bounds) (now radices) (now ys) (now colours)) (capsIn (now caps)) (now work) (q .budgets) (suc a) ⌝ }
     requires { ⌜ RowTo (tableBy q (now heights) (now bounds) (now radices) (now ys) (now colours)) (capsIn (now caps)) (now row) (q .budgets) a code j 0 ⌝ }
     ensures { λ _. ⌜ RowTo (tableBy q (now (heights .entry)) (now (bounds .entry)) (now (radices .entry)) (now (ys .entry)) (now (colours .entry))) (capsIn (now (caps .entry))) (now (row .exit)) (q .budgets) a code (suc j) 0 ⌝ }
@@ -108,7 +108,7 @@ fn table_row(
     let mut j: u32 = 0;
     while a + j < m {
         other = other_in(other, code, get(bands, a + j));
-        if other == ALL_LOST {
+        if other == ALL_EXCLUDED {
             return;
         }
         slot_links(

@@ -9,9 +9,9 @@ use lib.ListN.{getD}
 use borrow.Author.Tests.{eq-eqb, ne-eqb}
 use Rattle.lists.proofs.Tests.{by-equal}
 use Rattle.optimum.specs.UsedSlots.{Instance, T}
-use Rattle.optimum.specs.Rows.{cell}
-use Rattle.optimum.proofs.Rows.{cell-apart}
-use Rattle.two_links.specs.Rows.{Stored}
+use Rattle.optimum.specs.TwoSidedRows.{cell}
+use Rattle.optimum.proofs.TwoSidedRows.{cell-apart}
+use Rattle.two_links.specs.BudgetRows.{Stored}
 use Rattle.two_stripcosts.specs.Table.{firstCode, lastCode, RightFrom, RightTo, RowOf}
 
 -- ---- the rows of a place, code by code

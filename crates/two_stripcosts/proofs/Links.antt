@@ -17,13 +17,13 @@ use Rattle.search.specs.Cost.{plus}
 use Rattle.search.specs.Radix.{place}
 use Rattle.optimum.specs.Slots.{farFrom}
 use Rattle.optimum.specs.UsedSlots.{Instance, may, draw, strip, T}
-use Rattle.optimum.specs.Rows.{link, acc, cell}
-use Rattle.optimum.proofs.Rows.{link-near, link-spent, link-lost, link-is, acc-le, acc-start, acc-link, acc-next, acc-same, acc-end, cell-low, digit-flat}
+use Rattle.optimum.specs.TwoSidedRows.{link, acc, cell}
+use Rattle.optimum.proofs.TwoSidedRows.{link-near, link-spent, link-lost, link-is, acc-le, acc-start, acc-link, acc-next, acc-same, acc-end, cell-low, digit-flat}
 use Rattle.arrays.specs.declared.Measures.{Measures}
 use Rattle.arrays.specs.Arrays.{slotsBy, labelCost}
-use Rattle.two_bands.specs.Bands.{Lost, Barred}
+use Rattle.two_bands.specs.Bands.{Lost, Excluded}
 use Rattle.two_stripcosts.specs.Costs.{upperAt, lowerAt, stripOf}
-use Rattle.two_links.specs.Rows.{linked, Blocks, sizeOf}
+use Rattle.two_links.specs.BudgetRows.{linked, Blocks, sizeOf}
 use Rattle.optimum.specs.CostWord.{topWord}
 use Rattle.two_stripcosts.specs.Table.{tableBy, capsIn, Fits, tableWords, RightFrom, RowTo, RowOf}
 use Rattle.two_bands.proofs.Lost as lost
@@ -223,7 +223,7 @@ module _ (q : Measures) (hs bs rs ds ys cs caps : List ℕ) (f : Fits q hs bs rs
   pub colours-from : (row : List ℕ) (j d : ℕ) → d ≤ q .colours → ((e : ℕ) → d ≤ e → e < q .colours → Lost hs ys cs a ca (a + j) (suc e)) → R row j d → R row (suc j) 0
   colours-from row = lost.colours-from hs ys cs (f .rising) a ca (q .colours) (R row) (skip-lost row) (next-slot row)
 
-  pub row-ends : (row : List ℕ) (j other : ℕ) → a + j < length hs → other ≡ 255 → Barred hs ys cs a ca (a + j) other → R row j 0 → RowOf H (capsIn caps) row (q .budgets) a ca
+  pub row-ends : (row : List ℕ) (j other : ℕ) → a + j < length hs → other ≡ 255 → Excluded hs ys cs a ca (a + j) other → R row j 0 → RowOf H (capsIn caps) row (q .budgets) a ca
   row-ends row j other h o b r =
       row-whole q hs bs rs ys cs caps a ca row (length hs - a) (omega arith) (omega arith)
       (lost.all-lost hs ys cs (f .rising) a ca (q .colours) (R row) (skip-lost row) (next-slot row) j other (f .few-colours) h o b r)

@@ -8,7 +8,7 @@ use lib.ListN.{length, getD}
 use Rattle.search.specs.Radix.{place}
 use Rattle.optimum.specs.CostWord.{topWord}
 use Rattle.optimum.specs.UsedSlots.{Instance, T}
-use Rattle.optimum.specs.Rows.{cell, acc}
+use Rattle.optimum.specs.TwoSidedRows.{cell, acc}
 use Rattle.arrays.specs.declared.Measures.{Measures}
 use Rattle.arrays.specs.Arrays.{slotsBy}
 pub use Rattle.arrays.specs.Arrays.{unitOf, labelCost}

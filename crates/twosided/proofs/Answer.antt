@@ -21,8 +21,8 @@ use Rattle.optimum.specs.Slots.{farEnough, sheetSlots}
 use Rattle.optimum.specs.UsedSlots.{Instance, put, value, capAll, ties}
 use Rattle.optimum.specs.TwoSided.{radicesOf, instanceOf}
 use Rattle.optimum.specs.CostWord.{countIn, lengthIn}
-use Rattle.optimum.specs.Steady.{Steady}
-use Rattle.optimum.proofs.optimality.TwoSidedAnswer.{steady}
+use Rattle.optimum.specs.CapsMonotone.{CapsMonotone}
+use Rattle.optimum.proofs.optimality.TwoSidedAnswer.{monotone}
 use Rattle.optimum.proofs.optimality.TwoSidedCall.{leastOf, two-sided-call, two-sided-none}
 use Rattle.arrays.specs.declared.Measures.{Measures}
 use Rattle.arrays.specs.Arrays.{boundsOf, xsOf, ysOf, coloursOf, radicesBy, drawsBy, radixBy, measuresOf, padded, productBy}
@@ -47,8 +47,8 @@ module _ (q : Measures) (hs bs rs ys cs xs : List ℕ) where
 
   -- what the walk asks of the table, at the least cost that was found
   pub steady-at : (w : ℕ) → w ≡ value (tableBy q hs bs rs ys cs) uncapped → (w ≡ topWord → ⊥) → w ≤ topWord →
-      (value (tableBy q hs bs rs ys cs) uncapped < topWord → Steady (tableBy q hs bs rs ys cs) (value (tableBy q hs bs rs ys cs) uncapped)) → Steady (tableBy q hs bs rs ys cs) w
-  steady-at w e z b f = subst⁻¹ (λ (k : ℕ). Steady (tableBy q hs bs rs ys cs) k) e (f (omega (arith, z)))
+      (value (tableBy q hs bs rs ys cs) uncapped < topWord → CapsMonotone (tableBy q hs bs rs ys cs) (value (tableBy q hs bs rs ys cs) uncapped)) → CapsMonotone (tableBy q hs bs rs ys cs) w
+  steady-at w e z b f = subst⁻¹ (λ (k : ℕ). CapsMonotone (tableBy q hs bs rs ys cs) k) e (f (omega (arith, z)))
 
   -- what it reads: the words of the table
   pub filled-at : (w : ℕ) (work : List ℕ) → tableWords q hs ≤ length work → w ≡ value (tableBy q hs bs rs ys cs) uncapped → (w ≡ topWord → ⊥) → w ≤ topWord →
@@ -128,12 +128,12 @@ xs-long (s ∷ ss) = ap suc (xs-long ss)
 -- ---- the ranks have no part in what the walk asks of the table
 
 steady-ranks : (q : Measures) (hs bs rs ys cs xs : List ℕ) →
-    (value (instanceBy q hs bs rs ys cs xs) uncapped < topWord → Steady (instanceBy q hs bs rs ys cs xs) (value (instanceBy q hs bs rs ys cs xs) uncapped)) →
-    value (tableBy q hs bs rs ys cs) uncapped < topWord → Steady (tableBy q hs bs rs ys cs) (value (tableBy q hs bs rs ys cs) uncapped)
+    (value (instanceBy q hs bs rs ys cs xs) uncapped < topWord → CapsMonotone (instanceBy q hs bs rs ys cs xs) (value (instanceBy q hs bs rs ys cs xs) uncapped)) →
+    value (tableBy q hs bs rs ys cs) uncapped < topWord → CapsMonotone (tableBy q hs bs rs ys cs) (value (tableBy q hs bs rs ys cs) uncapped)
 steady-ranks q hs bs rs ys cs xs f h =
     let same = value-ranks q hs bs rs ys cs xs in
-    let st : Steady (instanceBy q hs bs rs ys cs xs) (value (tableBy q hs bs rs ys cs) uncapped) =
-    subst (λ (w : ℕ). Steady (instanceBy q hs bs rs ys cs xs) w) (same uncapped) (f (rw (same uncapped) h)) in
+    let st : CapsMonotone (instanceBy q hs bs rs ys cs xs) (value (tableBy q hs bs rs ys cs) uncapped) =
+    subst (λ (w : ℕ). CapsMonotone (instanceBy q hs bs rs ys cs xs) w) (same uncapped) (f (rw (same uncapped) h)) in
     record {
       on = λ fx i k l a z v e b. sym (same (put fx i (suc l))) ∙ st .on fx i k l a z (same fx ∙ v) (same (put fx i (suc k)) ∙ e) b;
       last = λ fx i k a z v e. sym (same (put fx i (suc k))) ∙ st .last fx i k a z (same fx ∙ v) e;
@@ -225,12 +225,12 @@ module _ (ws k o : List ℕ) (t : takesSheet ws k o) (two : (sheetIn ws) .isTwoS
   -- what the walk over caps asks of the table
   pub steady-made : (q : Measures) (hs bs rs ys cs : List ℕ) →
       q ≡ measuresOf (sheetIn ws) → hs ≡ (sheetIn ws) .slots → bs ≡ boundsOf ((sheetIn ws) .colours) → rs ≡ radicesBy bs → ys ≡ ysOf ((sheetIn ws) .sites) →
-      cs ≡ coloursOf ((sheetIn ws) .sites) → value (tableBy q hs bs rs ys cs) uncapped < topWord → Steady (tableBy q hs bs rs ys cs) (value (tableBy q hs bs rs ys cs) uncapped)
+      cs ≡ coloursOf ((sheetIn ws) .sites) → value (tableBy q hs bs rs ys cs) uncapped < topWord → CapsMonotone (tableBy q hs bs rs ys cs) (value (tableBy q hs bs rs ys cs) uncapped)
   steady-made q hs bs rs ys cs e₁ e₂ e₃ e₄ e₅ e₆ =
       let s : Sheet = sheetIn ws in
       let r : rs ≡ radicesBy (boundsOf (s .colours)) = rw e₃ at e₄ in
-      let st : value (instance s) uncapped < topWord → Steady (instance s) (value (instance s) uncapped) =
-      subst (λ (H : Instance). value H uncapped < topWord → Steady H (value H uncapped)) (sym (instance-is s)) (steady s (sound ws (t .1)) two (sites-coloured ws (t .1))) in
+      let st : value (instance s) uncapped < topWord → CapsMonotone (instance s) (value (instance s) uncapped) =
+      subst (λ (H : Instance). value H uncapped < topWord → CapsMonotone H (value H uncapped)) (sym (instance-is s)) (monotone s (sound ws (t .1)) two (sites-coloured ws (t .1))) in
       rw (e₁, e₂, e₃, r, e₅, e₆)
       (steady-ranks (measuresOf s) (s .slots) (boundsOf (s .colours)) (radicesBy (boundsOf (s .colours))) (ysOf (s .sites)) (coloursOf (s .sites)) (xsOf (s .sites)) st)
 

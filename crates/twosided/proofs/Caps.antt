@@ -11,7 +11,7 @@ use borrow.Author.Tests.{lt-ltb, le-ltb, eqb-true}
 use Rattle.lists.proofs.Tests.{by-test, and-l}
 use Rattle.search.proofs.Cost.{first-cong}
 use Rattle.optimum.specs.UsedSlots.{Instance, put, value, leftmost, choose, capAll}
-use Rattle.optimum.proofs.Rows.{put-set}
+use Rattle.optimum.proofs.TwoSidedRows.{put-set}
 use Rattle.arrays.specs.declared.Measures.{Measures}
 use Rattle.two_stripcosts.specs.Table.{instanceBy, tableBy, capsIn}
 use Rattle.two_stripcosts.proofs.Strips.{value-ranks}

@@ -7,27 +7,27 @@ ghost use Rattle.sheet.specs.Sheet.{sheetIn, productOf};
 ghost use Rattle.labelling.specs.Entry.{makeFault, makeWork, makeAnswer};
 ghost use Rattle.labelling.specs.Promise.{takesSheet};
 ghost use Rattle.optimum.specs.UsedSlots.{value, capAll};
-ghost use Rattle.optimum.specs.Steady.{Steady};
+ghost use Rattle.optimum.specs.CapsMonotone.{CapsMonotone};
 ghost use Rattle.two_slotbands.specs.Sites.{Reorders};
 ghost use Rattle.two_stripcosts.specs.Table.{instanceBy, tableBy, capsIn, Fits, tableWords};
 ghost use Rattle.two_aims.specs.Caps.{Low};
 ghost use Rattle.two_capsearch.specs.Search.{uncapped, Filled};
 ghost use Rattle.twosided.specs.Layouts.{Laid};
-use two_aims::capwords::leftmost;
-use two_aims::capwords::write_layout;
 use areas::clear;
 use arrays::Measures;
 use arrays::draws_of;
 use arrays::measures_of;
 use arrays::radices_of;
-use two_byheight::value_of;
-use two_capsearch::cap_site;
 use costs::head_word;
 use decoding::bounds_of;
 use decoding::colours_of;
 use decoding::heights_of;
 use decoding::xs_of;
 use decoding::ys_of;
+use two_aims::capwords::leftmost;
+use two_aims::capwords::write_layout;
+use two_byheight::value_of;
+use two_capsearch::cap_site;
 use two_goals::trace_goals;
 use two_slotbands::siteorder::order_sites;
 use two_tablewords::table_words;
@@ -53,7 +53,7 @@ fn cap_all(
 )
     requires { ⌜ Fits q (now heights) (now bounds) (now radices) (now draws) (now ys) (now colours) (now caps) ⌝ }
     requires { ⌜ Filled q (now heights) (now bounds) (now radices) (now ys) (now colours) (now work) least × Reorders (now order) (length (now ys)) × (length (now goals) ≡ length (now ys)) ⌝ }
-    requires { ⌜ (value (tableBy q (now heights) (now bounds) (now radices) (now ys) (now colours)) (capsIn (now caps)) ≡ least) × Steady (tableBy q (now heights) (now bounds) (now radices) (now ys) (now colours)) least ⌝ }
+    requires { ⌜ (value (tableBy q (now heights) (now bounds) (now radices) (now ys) (now colours)) (capsIn (now caps)) ≡ least) × CapsMonotone (tableBy q (now heights) (now bounds) (now radices) (now ys) (now colours)) least ⌝ }
     ensures { λ _. ⌜ capsIn (now (caps .exit)) ≡ capAll (instanceBy q (now (heights .entry)) (now (bounds .entry)) (now (radices .entry)) (now (ys .entry)) (now (colours .entry)) (now (ranks .entry))) least (length (now (ys .entry))) (capsIn (now (caps .entry))) ⌝ }
     ensures { λ _. ⌜ (Low (now (caps .entry)) → Low (now (caps .exit))) ⌝ }
 {
@@ -110,7 +110,7 @@ fn caps_of(
     least: u32,
 ) -> [u32; 32]
     requires { ⌜ Fits q (now heights) (now bounds) (now radices) (now draws) (now ys) (now colours) (now ys) ⌝ }
-    requires { ⌜ Filled q (now heights) (now bounds) (now radices) (now ys) (now colours) (now work) least × Reorders (now order) (length (now ys)) × Steady (tableBy q (now heights) (now bounds) (now radices) (now ys) (now colours)) least ⌝ }
+    requires { ⌜ Filled q (now heights) (now bounds) (now radices) (now ys) (now colours) (now work) least × Reorders (now order) (length (now ys)) × CapsMonotone (tableBy q (now heights) (now bounds) (now radices) (now ys) (now colours)) least ⌝ }
     ensures { λ r. ⌜ capsIn (take (length (now (ys .entry))) r) ≡ capAll (instanceBy q (now (heights .entry)) (now (bounds .entry)) (now (radices .entry)) (now (ys .entry)) (now (colours .entry)) (now (ranks .entry))) least (length (now (ys .entry))) uncapped ⌝ }
     ensures { λ r. ⌜ (length (take (length (now (ys .entry))) r) ≡ length (now (ys .entry))) × Low (take (length (now (ys .entry))) r) ⌝ }
 {
@@ -163,7 +163,7 @@ fn lay_sites(
 ) -> u8
     requires { ⌜ Fits q (now heights) (now bounds) (now radices) (now draws) (now ys) (now colours) (now ys) ⌝ }
     requires { ⌜ (tableWords q (now heights) ≤ length (now work)) × (length (now ys) + 1 ≤ length (now out)) ⌝ }
-    requires { ⌜ (value (tableBy q (now heights) (now bounds) (now radices) (now ys) (now colours)) uncapped < 4294967295 → Steady (tableBy q (now heights) (now bounds) (now radices) (now ys) (now colours)) (value (tableBy q (now heights) (now bounds) (now radices) (now ys) (now colours)) uncapped)) ⌝ }
+    requires { ⌜ (value (tableBy q (now heights) (now bounds) (now radices) (now ys) (now colours)) uncapped < 4294967295 → CapsMonotone (tableBy q (now heights) (now bounds) (now radices) (now ys) (now colours)) (value (tableBy q (now heights) (now bounds) (now radices) (now ys) (now colours)) uncapped)) ⌝ }
     ensures { λ r. ⌜ Laid q (instanceBy q (now (heights .entry)) (now (bounds .entry)) (now (radices .entry)) (now (ys .entry)) (now (colours .entry)) (now (ranks .entry))) (tableWords q (now (heights .entry))) (now (work .entry)) (now (out .entry)) r (now (work .exit)) (now (out .exit)) ⌝ }
 {
     let n = ys.len();

@@ -155,7 +155,7 @@ module _ (q : Measures) (hs bs rs ds parts counts work xs ys cs order : List ℕ
     standing =
         record {
           tied = omega (arith, long);
-          room = rw (length-set out (getD order j 0 + 1) (2415919104 + k)) (w .room);
+          answerFits = rw (length-set out (getD order j 0 + 1) (2415919104 + k)) (w .answerFits);
           labelsLong = length-set L k (getD cs j 0 + 1) ∙ w .labelsLong;
           coloured = λ i. by-equal i k
               (λ e. rw (e, getD-set-same L k (getD cs j 0 + 1) 0 (rw (w .labelsLong) slot-low)) (omega (arith, a .siteIn j l .colourLow)))

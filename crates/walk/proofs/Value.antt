@@ -12,7 +12,7 @@ use Rattle.lists.proofs.Tests.{by-test, by-order}
 use Rattle.search.specs.Cost.{plus, first}
 use Rattle.search.proofs.Cost.{least-cong, plus-past}
 use Rattle.search.specs.Radix.{below}
-use Rattle.search.specs.Share.{just, conv}
+use Rattle.search.specs.Split.{just, conv}
 use Rattle.search.specs.Plan.{T}
 use Rattle.search.specs.Walk.{chooseBy, walkBy}
 use Rattle.arrays.specs.declared.Measures.{Measures}
@@ -29,8 +29,8 @@ use Rattle.optimum.proofs.Loops.{walk-step}
 use Rattle.optimum.proofs.Reached.{reached-next, reached-rows}
 use Rattle.optimum.proofs.Pairs.{zeros}
 use Rattle.rows.specs.Budgets.{Splits}
-use Rattle.rows.proofs.Sharing.{share-by}
-use Rattle.rows.specs.Rest.{rowStart, levelSize, shareRow, joinRow, foldRows, restRows}
+use Rattle.rows.proofs.Splitting.{split-by}
+use Rattle.rows.specs.Rest.{rowStart, levelSize, splitRow, joinRow, foldRows, restRows}
 use Rattle.walk.specs.Walk.{Found, valueIn}
 use Rattle.rows.proofs.Folding.{join-long}
 
@@ -74,9 +74,9 @@ module _ (q : Measures) (hs bs rs ds : List ℕ) where
           → joinRow parts counts acc work (base + rowStart (length hs) C R a ca b cb) ≡ joinCells P C R (drop base work) acc (record { a = a; ca = ca; b = b; cb = cb; d = getD unmarked a 0 })
       unfolding joinRow joinCells conv
       join-same base acc a ca b cb h =
-          ap (listing (shareRow parts counts acc work (base + rowStart (length hs) C R a ca b cb)) 0) h
+          ap (listing (splitRow parts counts acc work (base + rowStart (length hs) C R a ca b cb)) 0) h
           ∙ listing-same _ _ 0 R (λ v z l.
-          share-by rs R parts counts right (λ w. getD acc w 0) (λ w. getD work (base + rowStart (length hs) C R a ca b cb + w) 0) v (omega arith)
+          split-by rs R parts counts right (λ w. getD acc w 0) (λ w. getD work (base + rowStart (length hs) C R a ca b cb + w) 0) v (omega arith)
           ∙ least-cong topWord (suc v) _ _ (λ w k. ap (λ (z : ℕ). cond (below rs w v) (plus topWord (getD acc w 0) z) topWord) (word v w)))
         where
           word : (v w : ℕ) → getD work (base + rowStart (length hs) C R a ca b cb + (v - w)) 0

@@ -46,4 +46,4 @@ pub record TableFilled (q : Measures) (heights bounds radices draws parts counts
   pub rising : (j k : ℕ) → j < k → k < length heights → getD heights j 0 < getD heights k 0
   pub table : TableOf (instanceBy q heights bounds radices draws) (q .colours) (q .budgets) (pointsBy xs ys colours) work
   pub someBudget : 0 < q .budgets
-  pub room : length order < length out
+  pub answerFits : length order < length out

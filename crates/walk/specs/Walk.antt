@@ -36,7 +36,7 @@ pub record WalkArrays (q : Measures) (heights bounds radices draws parts counts 
 -- which the words hold and which is not none; and every step finds its slot
 pub record Standing (P : Instance) (q : Measures) (parts counts work : List ℕ) (points : List Point) (labels out : List ℕ) (j v here : ℕ) : Type 0 where
   pub tied : j ≤ length points
-  pub room : length points < length out
+  pub answerFits : length points < length out
   pub labelsLong : length labels ≡ P .slots .m
   pub coloured : (i : ℕ) → getD labels i 0 < q .colours + 1
   pub budget : v < q .budgets

@@ -1,6 +1,6 @@
 // Kind and fields of a word, and tests and sums as functions. Each is total: its contract is one equation and asks nothing.
-pub mod tied;
 pub mod drops;
+pub mod tied;
 
 ghost use mathlib.Core.Path.{_≡_};
 ghost use mathlib.Core.Bool.{cond, _&&_, _||_, not};
@@ -14,31 +14,43 @@ ghost use Rattle.search.specs.Cost.{plus};
 // The cost of "none".
 pub const NONE: u32 = 4294967295;
 
+// The limits of a sheet and the bounds of its fields: sheet/specs/Limits has them for definitions.
+pub const MOST_SLOTS: usize = 48;
+pub const MOST_COLOURS: usize = 8;
+pub const MOST_SITES: usize = 32;
+pub const MOST_BUDGETS: u32 = 64;
+pub const MOST_WORDS: usize = 89;
+pub const UNBOUNDED: u32 = 255;
+pub const KIND_TOP: u32 = 268435456;
+pub const NUMBER_TOP: u32 = 16384;
+pub const BYTE_TOP: u32 = 256;
+pub const LENGTH_TOP: u32 = 2097152;
+
 pub fn kind_of(w: u32) -> u32
     ensures { λ r. ⌜ r ≡ kindOf w ⌝ }
 {
-    w / 268435456
+    w / KIND_TOP
 }
 
 // Bits 13 to 0: a height, a site's y, the width.
 pub fn low_field(w: u32) -> u32
     ensures { λ r. ⌜ r ≡ bits w 0 14 ⌝ }
 {
-    w % 16384
+    w % NUMBER_TOP
 }
 
 // Bits 27 to 14: a site's x.
 pub fn high_field(w: u32) -> u32
     ensures { λ r. ⌜ r ≡ bits w 14 14 ⌝ }
 {
-    w / 16384 % 16384
+    w / NUMBER_TOP % NUMBER_TOP
 }
 
 // A site's rank: its x.
 pub fn rank_of(w: u32) -> u32
     ensures { λ r. ⌜ r ≡ rankIn w ⌝ }
 {
-    w / 16384 % 16384
+    w / NUMBER_TOP % NUMBER_TOP
 }
 
 // Bits 25 to 14: the gap.

@@ -15,7 +15,7 @@ use Rattle.labelling.specs.Counted.{allBefore, sumBefore, isFirst, anySite}
 use Rattle.labelling.proofs.Counted.{tied-is, count-counted, colour-counted, backbones-counted, drops-counted}
 use Rattle.labelling.proofs.Pairs.{rule-four-pairs, rule-five-pairs}
 use Rattle.labelling.proofs.Best.{below}
-use Rattle.labelling.proofs.Rules.{least-min}
+use Rattle.labelling.proofs.Rules.{lesser-min}
 use Rattle.decoding.specs.Decoding.{Decoded, headBy, boundsOf}
 use Rattle.words.specs.declared.tied.TiedSite.{TiedSite}
 use Rattle.judge.specs.declared.stored.pairs.Test.{Test}
@@ -55,7 +55,7 @@ least-is k w [] js l = unfold leastBefore in refl
 least-is k w (s ∷ ss) [] l = absurd (omega arith)
 least-is k w (s ∷ ss) (j ∷ js) l =
     least-front k w (λ i. getD (j ∷ js) i 0) (λ i. (getD (s ∷ ss) i noSite) .x) (length ss) ∙
-    rw (least-is k w ss js (omega arith)) (ap (λ (m : ℕ). cond (eqb j k) m (leastX k w (tiedOf ss js))) (sym (least-min (s .x) (leastX k w (tiedOf ss js)))))
+    rw (least-is k w ss js (omega arith)) (ap (λ (m : ℕ). cond (eqb j k) m (leastX k w (tiedOf ss js))) (sym (lesser-min (s .x) (leastX k w (tiedOf ss js)))))
 
 -- colour by colour
 bounds-are : (s : Sheet) (js : List ℕ) (f : ℕ → ℕ) (c : ℕ) (ks : List Colour) → ((i : ℕ) → f i ≡ length (usedOf s (slotsOf (c + i) (tied s js)))) →

@@ -11,25 +11,25 @@ read-sheet-requires c κs = search needs
 cast-needed : tie.Need-cast-needed
 cast-needed c = search needs
 
-cast-room-fault : tie.Need-cast-room-fault
-cast-room-fault c = search needs
+cast-area-fault : tie.Need-cast-area-fault
+cast-area-fault c = search needs
 
-room-fault-requires : tie.Need-room-fault-requires
-room-fault-requires c κs = search needs
+area-fault-requires : tie.Need-area-fault-requires
+area-fault-requires c κs = search needs
 
 returns : tie.Need-returns
 returns c =
     let a = c .before .before .before .before .before .before .before .before .args in
     let r = c .before .before .before .before .read-sheet in
-    let f = c .before .room-fault in
+    let f = c .before .area-fault in
     refused (a .sheet .now) (a .work .now) (a .out .now) (r .result) (r .ensures) (f .result) (f .ensures) (λ (z : f .result ≡ 0). omega (arith, z, c .if1 .taken))
 
-lay-loosened-requires : tie.Need-lay-loosened-requires
-lay-loosened-requires c κs =
+lay-binding-requires : tie.Need-lay-binding-requires
+lay-binding-requires c κs =
     let a = c .before .before .before .before .before .before .before .before .before .before .args in
     let w = c .before .before .before .before .before .before .before .before .before .shared-slice-known in
     let r = c .before .before .before .before .before .before .read-sheet in
-    let f = c .before .before .before .room-fault in
+    let f = c .before .before .before .area-fault in
     taken (a .sheet .now) (a .work .now) (a .out .now) (r .result) (r .ensures) (f .result) (f .ensures) (λ i. omega (arith, w .given i)) (omega (arith, c .before .before .if1 .left))
 
 same-length : tie.Need-same-length
@@ -40,7 +40,7 @@ same-length-2 c = search needs
 
 returns-2 : tie.Need-returns-2
 returns-2 c =
-    let f = c .before .before .before .before .lay-loosened .ensures in (f .0, (f .1 .0, f .1 .1))
+    let f = c .before .before .before .before .lay-binding .ensures in (f .0, (f .1 .0, f .1 .1))
 
 pub make-layout-spec : {M : Type 1} → statement M
 make-layout-spec =
@@ -48,10 +48,10 @@ make-layout-spec =
     (tie.spec
     read-sheet-requires
     cast-needed
-    cast-room-fault
-    room-fault-requires
+    cast-area-fault
+    area-fault-requires
     returns
-    lay-loosened-requires
+    lay-binding-requires
     same-length
     same-length-2
     returns-2)

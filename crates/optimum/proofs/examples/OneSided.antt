@@ -5,7 +5,7 @@ use mathlib.Core.List.{[], _∷_}
 use mathlib.Core.Option.{some}
 use Rattle.search.specs.Cost.{plus, least, first}
 use Rattle.search.specs.Semi.{sum, prod}
-use Rattle.search.specs.Share.{conv, cheaper, never, just}
+use Rattle.search.specs.Split.{conv, cheaper, never, just}
 use Rattle.search.specs.Strips.{table, rest}
 use Rattle.search.specs.Radix.{below, place}
 use Rattle.search.specs.Sums.{listing}
@@ -16,7 +16,7 @@ use Rattle.labelling.specs.Promise.{a}
 use Rattle.labelling.specs.Layout.{siteShare, tiedOf, isUsed, usedFrom, leastX, slotsOf, boundsKept, backbones, drops, byRank, slotAt, comesFirst}
 use Rattle.optimum.specs.Slots.{over, under, farFrom, clearFrom, farEnough}
 use Rattle.optimum.specs.Strips.{marked, inside, opens, joinsUp, joinsDown, cost, draw, children, stripsFrom, strips, holdFrom, hold, price, next, value, walked}
-use Rattle.optimum.specs.Cells.{cellOf, stripAt, shareAt, shareCells, stepCell, entryOf, level, joinCells, foldCells, startCells, valueCells, oneSidedCells}
+use Rattle.optimum.specs.Cells.{cellOf, stripAt, budgetAt, splitCells, stepCell, entryOf, level, joinCells, foldCells, startCells, valueCells, oneSidedCells}
 use Rattle.optimum.specs.Examples.{Starred, Telling}
 use Rattle.optimum.specs.OneSided.{leadOf, mayOpen, tipClear, turnOf, heldOf, radicesOf, drawsOf, wordOf, nextRank, siteOf, orderFrom, order, pointsAt, scatter, oneSided}
 
@@ -28,5 +28,5 @@ examples = (
 )
 
 pub cells-a : oneSidedCells (sheetIn a) ≡ some (0 ∷ 0 ∷ 2 ∷ [])
-unfolding plus least first just below place chooseBy walkBy answerBy slotsIn coloursIn sitesRun sitesIn productOf over under inside farFrom clearFrom opens joinsUp joinsDown cost draw holdFrom hold marked price next farEnough siteShare leadOf mayOpen tipClear turnOf heldOf all radicesOf drawsOf wordOf nextRank rankOf siteOf orderFrom order pointsAt scatter listing conv cellOf stripAt shareAt shareCells stepCell entryOf level joinCells foldCells startCells valueCells oneSidedCells
+unfolding plus least first just below place chooseBy walkBy answerBy slotsIn coloursIn sitesRun sitesIn productOf over under inside farFrom clearFrom opens joinsUp joinsDown cost draw holdFrom hold marked price next farEnough siteShare leadOf mayOpen tipClear turnOf heldOf all radicesOf drawsOf wordOf nextRank rankOf siteOf orderFrom order pointsAt scatter listing conv cellOf stripAt budgetAt splitCells stepCell entryOf level joinCells foldCells startCells valueCells oneSidedCells
 cells-a = refl

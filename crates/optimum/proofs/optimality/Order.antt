@@ -13,7 +13,8 @@ use Rattle.search.specs.Cost.{least}
 use Rattle.search.proofs.Cost.{least-le, least-is, first-le, first-is}
 use Rattle.search.specs.Sums.{sum}
 use Rattle.search.proofs.Sums.{sum-cong, sum-add, sum-zero, sum-point, sum-pos, sum-ones}
-use Rattle.sheet.specs.Sheet.{numberTop, Site, Sheet, rankOf, rankTop, hasRank, ranksDiffer}
+use Rattle.sheet.specs.Limits.{numberTop}
+use Rattle.sheet.specs.Sheet.{Site, Sheet, rankOf, rankTop, hasRank, ranksDiffer}
 use Rattle.sheet.proofs.Accepted.{Sound, lowX, lowY, rank-low}
 use Rattle.labelling.specs.Layout.{isUsed}
 use Rattle.labelling.proofs.Counted.{sumOver}

@@ -21,7 +21,7 @@ use Rattle.labelling.proofs.Maker.{First, best-some-iff, best-none-iff}
 use Rattle.search.specs.Sums.{listing}
 use Rattle.search.proofs.Sums.{listing-of, listing-same, listing-at, length-listing, tally-le}
 use Rattle.optimum.specs.UsedSlots.{value, capAll, ties, answer}
-use Rattle.optimum.specs.Steady.{Steady}
+use Rattle.optimum.specs.CapsMonotone.{CapsMonotone}
 use Rattle.optimum.specs.CostWord.{topWord, countIn, lengthIn, layoutCost}
 use Rattle.optimum.specs.TwoSided.{instanceOf, twoSided}
 use Rattle.optimum.proofs.optimality.CostWord.{better-costs, layout-count, layout-length}
@@ -128,8 +128,8 @@ module _ (s : Sheet) (o : Sound s) (two : s .isTwoSided ≡ true) (coloured : al
             (sym (ap (countIn s) (sym w) ∙ layout-count s o js), sym (ap (lengthIn s) (sym w) ∙ layout-length s o js))
 
     -- at the states that the walk meets, a slot need not be found by trying all before it
-    pub steady : Steady (instanceOf s) least
-    steady =
+    pub monotone : CapsMonotone (instanceOf s) least
+    monotone =
         record {
           on = λ caps i k l h z v e q. passes-on (instanceOf s) (Obeys s) price slots-low low attained differ least below caps i k l h z v e q;
           last = λ caps i k h z v e. passes-last (instanceOf s) (Obeys s) price slots-low low attained differ least below caps i k h z v e;

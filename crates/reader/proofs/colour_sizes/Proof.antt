@@ -49,23 +49,23 @@ bound-of-requires : tie.Need-bound-of-requires Inv-loop μ-loop
 bound-of-requires c κs = search needs
 
 -- a colour here is one of at most eight
-room : (c : tie.After-bound-of Inv-loop μ-loop) → c .before .before .before .before .before .before .loop .c < 8
-room c =
+colour-low : (c : tie.After-bound-of Inv-loop μ-loop) → c .before .before .before .before .before .before .loop .c < 8
+colour-low c =
     let s = c .before .before .before .before .before .before .before .before .before .args .body .now in
     let l = c .before .before .before .before .before .before .loop in
     omega (arith, ap length (colours-yes s (l .i) (c .before .before .before .before .before .loop-test .taken) (omega arith)), l .inv .count, c .before .before .before .before .before .before .before .before .before .pre)
 
 mul-colours : tie.Need-mul-colours Inv-loop μ-loop
 mul-colours c =
-    omega (arith, room c)
+    omega (arith, colour-low c)
 
 array-set-from-colours : tie.Need-array-set-from-colours Inv-loop μ-loop
 array-set-from-colours c =
-    room c
+    colour-low c
 
 add-c : tie.Need-add-c Inv-loop μ-loop
 add-c c =
-    omega (arith, room c)
+    omega (arith, colour-low c)
 
 add-i : tie.Need-add-i Inv-loop μ-loop
 add-i c = search needs

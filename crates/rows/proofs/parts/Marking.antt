@@ -12,7 +12,7 @@ use Rattle.optimum.specs.Strips.{Point, Strip}
 use Rattle.arrays.specs.declared.Measures.{Measures}
 use Rattle.rows.specs.Rows.{rowOf, rowsOf, rowIn, Lies, upperPart, lowerPart}
 use Rattle.rows.proofs.Places.{row-fits, upper-lies, lower-lies}
-use Rattle.rows.specs.Parts.{partsCost, Marked, Marking, PartsMarked, Room}
+use Rattle.rows.specs.Parts.{partsCost, Marked, Marking, PartsMarked, LevelFits}
 
 pub marking-none : (old : List ℕ) (low size : ℕ) → Marking old old low size
 marking-none old low size = record { others = record { before = λ i h. refl; after = λ i h. refl }; kept = λ i e. e }
@@ -33,32 +33,32 @@ marking-set old low size at l u h = record {
 }
 
 -- a strip's row in a level with room
-module _ {q : Measures} {m low area : ℕ} (r : Room q m low area) (p : Strip) (l : Lies m (q .colours) p) where
+module _ {q : Measures} {m low area : ℕ} (r : LevelFits q m low area) (p : Strip) (l : Lies m (q .colours) p) where
   pub own-low : low + rowOf m (q .colours) p * q .budgets < low + rowsOf m (q .colours) * q .budgets
   own-low = omega (arith, row-fits m (q .colours) (q .budgets) p l, r .budgetsSome)
 
-  pub own-room : low + rowOf m (q .colours) p * q .budgets < area
-  own-room = omega (arith, own-low, r .within)
+  pub own-within : low + rowOf m (q .colours) p * q .budgets < area
+  own-within = omega (arith, own-low, r .within)
 
   pub own-marking : (old : List ℕ) (at : ℕ) → area ≡ length old → at ≡ low + rowOf m (q .colours) p * q .budgets
       → Marking old (set old at 1) low (rowsOf m (q .colours) * q .budgets)
-  own-marking old at a e = marking-set old low _ at (omega (arith, e)) (omega (arith, e, own-low)) (omega (arith, e, a, own-room))
+  own-marking old at a e = marking-set old low _ at (omega (arith, e)) (omega (arith, e, own-low)) (omega (arith, e, a, own-within))
 
   pub own-marked : (old : List ℕ) (at : ℕ) → area ≡ length old → at ≡ low + rowOf m (q .colours) p * q .budgets → Marked (set old at 1) low m (q .colours) (q .budgets) p
-  own-marked old at a e = rw (← e) (getD-set-same old at 1 0 (omega (arith, e, a, own-room)))
+  own-marked old at a e = rw (← e) (getD-set-same old at 1 0 (omega (arith, e, a, own-within)))
 
 -- what is marked stays so
 pub parts-kept : (q : Measures) (old new : List ℕ) (low m size : ℕ) (p : Strip) (s : Point) {k : ℕ} → Marking old new low size → PartsMarked q old low m p s k → PartsMarked q new low m p s k
 parts-kept q old new low m size p s f h = record { upper = f .kept _ (h .upper); lower = f .kept _ (h .lower) }
 
 -- the rows of the two parts that a label at slot k leaves of a strip
-module _ {q : Measures} {m low area : ℕ} (r : Room q m low area) (p : Strip) (s : Point) (k : ℕ) (l : Lies m (q .colours) p) (c : s .c < q .colours) (b : k + 1 < p .b) (upper lower : ℕ)
+module _ {q : Measures} {m low area : ℕ} (r : LevelFits q m low area) (p : Strip) (s : Point) (k : ℕ) (l : Lies m (q .colours) p) (c : s .c < q .colours) (b : k + 1 < p .b) (upper lower : ℕ)
     (u : upper ≡ low + rowOf m (q .colours) (upperPart p s k) * q .budgets) (w : lower ≡ low + rowOf m (q .colours) (lowerPart p s k) * q .budgets) where
-  pub upper-room : upper < area
-  upper-room = omega (arith, u, own-room r (upperPart p s k) (upper-lies m (q .colours) p s k l c b))
+  pub upper-within : upper < area
+  upper-within = omega (arith, u, own-within r (upperPart p s k) (upper-lies m (q .colours) p s k l c b))
 
-  pub lower-room : lower < area
-  lower-room = omega (arith, w, own-room r (lowerPart p s k) (lower-lies m (q .colours) p s k l c b))
+  pub lower-within : lower < area
+  lower-within = omega (arith, w, own-within r (lowerPart p s k) (lower-lies m (q .colours) p s k l c b))
 
   pub parts-cost : (work : List ℕ) (t : ℕ) → t ≡ plus topWord (getD work upper 0) (getD work lower 0) → t ≡ partsCost (rowIn work low m (q .colours) (q .budgets)) p s k
   parts-cost work t f =

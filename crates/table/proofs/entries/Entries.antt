@@ -12,25 +12,25 @@ use borrow.Author.Tests.{lt-ltb, le-ltb, ltb-true, eqb-true}
 use Rattle.lists.proofs.Tests.{by-test, by-order, by-either, and-both, or-e}
 use Rattle.search.specs.Cost.{plus, least}
 use Rattle.search.proofs.Cost.{plus-top, top-plus, plus-le, least-le, least-le-top, least-most}
-use Rattle.search.specs.Share.{conv}
+use Rattle.search.specs.Split.{conv}
 use Rattle.search.specs.Radix.{below}
 use Rattle.optimum.specs.Strips.{Point, Strip, Instance, inside, opens, joinsUp, joinsDown}
 use Rattle.optimum.specs.OneSided.{topWord}
-use Rattle.optimum.specs.Cells.{cellOf, shareCells, stepCell}
+use Rattle.optimum.specs.Cells.{cellOf, splitCells, stepCell}
 use Rattle.optimum.proofs.Loops.{at-drop}
 use Rattle.arrays.specs.declared.Measures.{Measures}
 use Rattle.arrays.specs.Arrays.{instanceBy}
 use Rattle.strips.specs.Strips.{instanceOn, gapLeft, siteOpens, openCost, joinCost, joinLeast}
 use Rattle.strips.proofs.Decisions.{inside-on, opens-on, joins-up-on, joins-down-on}
-use Rattle.rows.specs.Budgets.{Within, Splits, partAt, shareBy, leftBy}
-use Rattle.rows.proofs.Sharing.{share-by}
+use Rattle.rows.specs.Budgets.{Within, Splits, partAt, splitBy, leftBy}
+use Rattle.rows.proofs.Splitting.{split-by}
 use Rattle.rows.proofs.Places.{upper-is, lower-is}
 use Rattle.strips.proofs.Joining.{opening, opens-of, shut, up-at, down-at, up-least, down-least}
 use Rattle.table.specs.Entries.{openBy, noPart, slotTerm, slotsLeast, insideEntry, entryBy, entryIn}
 use Rattle.rows.specs.Rows.{rowOf, rowIn, Lies, upperPart, lowerPart}
 
 -- the place of a cell, by its row
-pub cell-row : (P : Instance) (C R : ℕ) (p : Strip) (v : ℕ) → P .kinds ≡ 1 → p .d ≡ 0 → cellOf P C R p v ≡ rowOf (P .slots .m) C p * R + v
+pub cell-row : (P : Instance) (C R : ℕ) (p : Strip) (v : ℕ) → P .markCount ≡ 1 → p .d ≡ 0 → cellOf P C R p v ≡ rowOf (P .slots .m) C p * R + v
 unfolding cellOf
 cell-row P C R p v k d = rw (k, d) (ap (λ (z : ℕ). z * R + v) (omega arith))
 
@@ -53,7 +53,7 @@ open-none parts counts n c u f g l h =
         (λ e. rw (e (partAt parts u i) (omega (arith, w))) (top-plus topWord _))
         (λ e. rw (e (u - partAt parts u i) (omega arith)) (plus-top topWord _))
 
-    shared : u < n → shareBy parts counts f g u ≡ topWord
+    shared : u < n → splitBy parts counts f g u ≡ topWord
     shared k = le-antisymm (least-le-top topWord (getD counts u 0) _) (least-most topWord (getD counts u 0) _ topWord (omega arith) (λ i j. let e = each k i j in omega arith))
 
 module _ (q : Measures) (hs bs rs ds work parts counts left : List ℕ) (low : ℕ) (p : Strip) (s : Point) (v : ℕ)
@@ -78,18 +78,18 @@ module _ (q : Measures) (hs bs rs ds work parts counts left : List ℕ) (low : �
       (let e = cell-row P (q .colours) (q .budgets) x w refl d in omega arith)
 
   -- two rows share a budget as their cells do
-  shared : (x y : Strip) (u : ℕ) → x .d ≡ 0 → y .d ≡ 0 → u < q .budgets → shareCells P (q .colours) (q .budgets) (drop low work) x y u ≡ shareBy parts counts (row x) (row y) u
-  unfolding shareCells conv
+  shared : (x y : Strip) (u : ℕ) → x .d ≡ 0 → y .d ≡ 0 → u < q .budgets → splitCells P (q .colours) (q .budgets) (drop low work) x y u ≡ splitBy parts counts (row x) (row y) u
+  unfolding splitCells conv
   shared x y u d e h =
       ap₂ (λ (f g : ℕ → ℕ). conv topWord (below rs) f g u) (fun-ext (λ w. cell x w d)) (fun-ext (λ w. cell y w e))
-      ∙ sym (share-by rs (q .budgets) parts counts splits (row x) (row y) u h)
+      ∙ sym (split-by rs (q .budgets) parts counts splits (row x) (row y) u h)
 
   own-is : record { a = p .a; ca = p .ca; b = p .b; cb = p .cb; d = 0 } ≡ p
   own-is = ap (λ (d : ℕ). record { a = p .a; ca = p .ca; b = p .b; cb = p .cb; d = d }) (sym (lies .dLow))
 
   -- a label whose draw the budget has, or has not
   by-draw : (k : ℕ) (t : Bool) → below rs (getD ds (s .c) 0) v ≡ t
-      → cond t (plus topWord (openCost q hs s k) (shareCells P (q .colours) (q .budgets) (drop low work) (upperPart p s k) (lowerPart p s k) (v - getD ds (s .c) 0))) topWord
+      → cond t (plus topWord (openCost q hs s k) (splitCells P (q .colours) (q .budgets) (drop low work) (upperPart p s k) (lowerPart p s k) (v - getD ds (s .c) 0))) topWord
       ≡ openBy parts counts (q .budgets) (openCost q hs s k) (getD left v 0) (row (upperPart p s k)) (row (lowerPart p s k))
   by-draw k true e =
       let u : getD left v 0 ≡ v - getD ds (s .c) 0 = drawn ∙ rw e in

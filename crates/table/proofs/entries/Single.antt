@@ -19,7 +19,7 @@ use Rattle.optimum.specs.OneSided.{topWord}
 use Rattle.arrays.specs.declared.Measures.{Measures}
 use Rattle.strips.specs.declared.Window.{Window}
 use Rattle.strips.specs.Strips.{instanceOn, WindowOf, gapLeft, openCost}
-use Rattle.rows.specs.Budgets.{Others, partAt, shareBy}
+use Rattle.rows.specs.Budgets.{Others, partAt, splitBy}
 use Rattle.table.specs.Entries.{openBy, noPart, slotTerm, slotsLeast, singleTerm, Single, isSingle}
 use Rattle.rows.specs.Rows.{rowIn, upperPart, lowerPart}
 use Rattle.table.proofs.entries.Terms.{window-gap, window-shut}
@@ -43,7 +43,7 @@ single-none old f h = omega arith
 
 module _ (q : Measures) (hs bs parts counts left : List ℕ) (row : Strip → ℕ → ℕ) (p : Strip) (s : Point) (one : Single (q .budgets) parts counts left) where
   -- the whole of the budget goes to both parts
-  shared : (f g : ℕ → ℕ) → shareBy parts counts f g 0 ≡ plus topWord (f 0) (g 0)
+  shared : (f g : ℕ → ℕ) → splitBy parts counts f g 0 ≡ plus topWord (f 0) (g 0)
   unfolding least
   shared f g =
       let e : partAt parts 0 0 ≡ 0 = one .own in

@@ -1,5 +1,5 @@
 use Rattle.table.proofs.Filling.{others-of}
-use Rattle.table.proofs.marks.Levels.{next-level, level-room, place-small}
+use Rattle.table.proofs.marks.Levels.{next-level, level-within, place-small}
 use Rattle.table.proofs.Right.{level-right, site-stands}
 use Prim.Native.Nat.{_+_, _-_}
 use native.Mathlib.Omega.{arith}
@@ -49,7 +49,7 @@ fill-level-requires : tie.Need-fill-level-requires
 fill-level-requires c κs =
     let a = c .before .before .before .before .before .before .before .before .before .before .before .before .before .before .before .before .before .before .args in
     let p = c .before .before .before .before .before .before .before .before .before .before .before .before .before .before .before .before .before .before .pre in
-    let r = level-room (a .j) _ (a .size) _ _ (p .1 .1 .1) (p .1 .1 .0) (p .0 .within) in
+    let r = level-within (a .j) _ (a .size) _ _ (p .1 .1 .1) (p .1 .1 .0) (p .0 .within) in
     record {
       framed = p .0 .framed;
       listed = p .1 .0 .within;

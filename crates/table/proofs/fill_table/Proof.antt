@@ -1,6 +1,6 @@
 use Rattle.rows.specs.Rows.{levelSize}
-use Rattle.table.proofs.marks.Levels.{level-small, place-small, last-room}
-use Rattle.table.specs.Rows.{Given}
+use Rattle.table.proofs.marks.Levels.{level-small, place-small, last-within}
+use Rattle.table.specs.Levels.{Given}
 use Rattle.table.proofs.Right.{Done, done-last, done-more, done-all, given-area}
 use mathlib.Core.Path.{_≡_, refl, ap, _∙_}
 use Prim.Native.Nat.{ℕ, _-_, _*_, _≤_}
@@ -47,7 +47,7 @@ zero-level-requires : tie.Need-zero-level-requires Inv-loop μ-loop
 zero-level-requires c κs =
     let g = c .before .before .before .before .before .before .before .before .before .before .before .before .before .before .before .before .before .pre .0 in
     let a = c .before .before .before .before .before .before .before .before .before .before .before .before .before .before .before .before .before .args in
-    last-room (length (a .xs .now)) _ _ _ _ (ap (λ (z : ℕ). z * a .q .budgets) (c .before .before .before .before .before .before .rows-of .ensures)) (g .within) (c .before .before .before .mark-table .kept .0)
+    last-within (length (a .xs .now)) _ _ _ _ (ap (λ (z : ℕ). z * a .q .budgets) (c .before .before .before .before .before .before .rows-of .ensures)) (g .within) (c .before .before .before .mark-table .kept .0)
 
 loop-holds : tie.Need-loop-holds Inv-loop μ-loop
 loop-holds c =

@@ -14,7 +14,7 @@ use Rattle.strips.specs.Strips.{instanceOn}
 use Rattle.rows.specs.Rows.{rowOf, levelSize, Lies, endPlace, upperEnd}
 use Rattle.rows.proofs.Places.{row-fits}
 use Rattle.table.specs.Marks.{Ready, Shaped, Led}
-use Rattle.rows.specs.Parts.{Marked, Marking, Room}
+use Rattle.rows.specs.Parts.{Marked, Marking, LevelFits}
 use Rattle.rows.proofs.parts.Marking.{marking-none, marking-join}
 
 -- ---- ends by their places
@@ -139,8 +139,8 @@ pub start-lies : (m C a ca : ℕ) → a ≤ m → ca ≤ C → Lies m C (record 
 start-lies m C a ca h k = record { aLow = omega arith; caLow = omega arith; bLow = omega arith; cbLow = omega arith; dLow = refl }
 
 module _ {q : Measures} {hs bs : List ℕ} {area base low : ℕ} {s : Point} (r : Ready q hs bs area base low s) where
-  pub room-of : Room q (length hs) low area
-  room-of = record { slotsFew = r .framed .slotsFew; coloursFew = r .framed .coloursFew; budgetsFew = r .framed .budgetsFew; budgetsSome = r .framed .budgetsSome; within = r .within }
+  pub fits-of : LevelFits q (length hs) low area
+  fits-of = record { slotsFew = r .framed .slotsFew; coloursFew = r .framed .coloursFew; budgetsFew = r .framed .budgetsFew; budgetsSome = r .framed .budgetsSome; within = r .within }
 
   -- a row of the upper level
   pub at-low : (p : Strip) → Lies (length hs) (q .colours) p → (at : ℕ) → at ≡ base + rowOf (length hs) (q .colours) p * q .budgets → at + q .budgets ≤ low

@@ -14,8 +14,8 @@ pub next-level : (j size : ℕ) → (j + 1) * size ≡ j * size + size
 next-level j size = omega arith
 
 -- a level and the one below it stand in an area that has n + 1 of them
-pub level-room : (j n size level area : ℕ) → size ≡ level → j < n → (n + 1) * level ≤ area → (j * size + size ≤ area) × ((j + 1) * size + size ≤ area)
-level-room j n size level area s h l =
+pub level-within : (j n size level area : ℕ) → size ≡ level → j < n → (n + 1) * level ≤ area → (j * size + size ≤ area) × ((j + 1) * size + size ≤ area)
+level-within j n size level area s h l =
     let e : n + 1 ≡ suc (suc j) + (n - suc j) = omega arith in
     let f = ap (λ (z : ℕ). z * level) e in
     rw s (omega arith, omega arith)
@@ -28,8 +28,8 @@ module _ (q : Measures) (hs bs : List ℕ) (f : Framed q hs bs) where
   place-small j size h e = mul-le-mul {n₂ = 33} {m₂ = 12960000} h (omega (arith, level-small))
 
 -- a row among so many
-pub row-room : (r rows n : ℕ) → r < rows → r * n + n ≤ rows * n
-row-room r rows n h =
+pub row-within : (r rows n : ℕ) → r < rows → r * n + n ≤ rows * n
+row-within r rows n h =
     let e : rows ≡ suc r + (rows - suc r) = omega arith in
     omega (arith, ap (λ (z : ℕ). z * n) e)
 
@@ -37,12 +37,12 @@ pub count-words : (k rows n level area : ℕ) → rows * n ≡ level → k * lev
 count-words k rows n level area e h = omega (arith, h, ap (λ (z : ℕ). k * z) e)
 
 -- the first level stands in an area that has some
-pub first-room : (n level area : ℕ) → (n + 1) * level ≤ area → 0 + level ≤ area
-first-room n level area h = omega (arith, h)
+pub first-within : (n level area : ℕ) → (n + 1) * level ≤ area → 0 + level ≤ area
+first-within n level area h = omega (arith, h)
 
 -- a level below the first so many lies before what is past them
 pub past-level : (j n size i : ℕ) → j < n → (n + 1) * size ≤ i → (j + 1) * size + size ≤ i
-past-level j n size i h l = level-room j n size size i refl h l .1
+past-level j n size i h l = level-within j n size size i refl h l .1
 
 pub enough : (n size level area now : ℕ) → size ≡ level → (n + 1) * level ≤ area → now ≡ area → (n + 1) * size ≤ now
 enough n size level area now e h l = rw (e, l) h
@@ -54,5 +54,5 @@ pub few-rows : (rows r most : ℕ) → rows ≡ r → r ≤ most → rows ≤ mo
 few-rows rows r most e h = rw e h
 
 -- the last level stands in an area that has n + 1 of them
-pub last-room : (n size level area now : ℕ) → size ≡ level → (n + 1) * level ≤ area → now ≡ area → n * size + size ≤ now
-last-room n size level area now e h l = rw (e, l) (omega (arith, h))
+pub last-within : (n size level area now : ℕ) → size ≡ level → (n + 1) * level ≤ area → now ≡ area → n * size + size ≤ now
+last-within n size level area now e h l = rw (e, l) (omega (arith, h))

@@ -1,5 +1,5 @@
 use lib.Seq.{length-take-le}
-use Rattle.two_marking.proofs.Rows.{none-marked}
+use Rattle.two_marking.proofs.MarkedRows.{none-marked}
 use Rattle.two_tablewords.proofs.Words.{words-low}
 use lib.ListN.{replicate, length-replicate}
 use mathlib.Core.Path.{sym, _∙_}

@@ -1,4 +1,4 @@
-use Rattle.two_links.proofs.Rows.{Blockwise, blocks-none, blocks-more, block-fits}
+use Rattle.two_links.proofs.BudgetRows.{Blockwise, blocks-none, blocks-more, block-fits}
 use mathlib.Core.Path.{_≡_, refl, _∙_}
 use Prim.Native.Nat.{_+_, _-_, _≤_}
 use native.Mathlib.Omega.{arith}

@@ -1,5 +1,5 @@
 use Rattle.search.specs.Cost.{plus}
-use Rattle.two_links.proofs.Rows.{cost-low}
+use Rattle.two_links.proofs.BudgetRows.{cost-low}
 use Prim.Native.Nat.{_-_}
 use native.Mathlib.Omega.{arith}
 use borrow.Author.Needs.{needs}

@@ -1,6 +1,6 @@
 use Prim.Native.Nat.{min}
-use Rattle.two_links.specs.Rows.{relaxed}
-use Rattle.two_links.proofs.Rows.{run-none, run-more}
+use Rattle.two_links.specs.BudgetRows.{relaxed}
+use Rattle.two_links.proofs.BudgetRows.{run-none, run-more}
 use mathlib.Core.Path.{_≡_, refl, ap, _∙_}
 use Prim.Native.Nat.{ℕ, _+_, _-_, _≤_}
 use native.Mathlib.Omega.{arith}

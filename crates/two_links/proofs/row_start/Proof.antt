@@ -1,4 +1,4 @@
-use Rattle.two_links.proofs.Rows.{start-low}
+use Rattle.two_links.proofs.BudgetRows.{start-low}
 use Prim.Native.Nat.{_-_}
 use native.Mathlib.Omega.{arith}
 use borrow.Author.Needs.{needs}

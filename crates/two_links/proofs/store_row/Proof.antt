@@ -1,5 +1,5 @@
-use Rattle.two_links.specs.Rows.{Stored}
-use Rattle.two_links.proofs.Rows.{stored-none, stored-more}
+use Rattle.two_links.specs.BudgetRows.{Stored}
+use Rattle.two_links.proofs.BudgetRows.{stored-none, stored-more}
 use mathlib.Core.Path.{_≡_, refl, _∙_}
 use Prim.Native.Nat.{_+_, _-_, _≤_}
 use native.Mathlib.Omega.{arith}

@@ -1,8 +1,8 @@
-use Rattle.two_marking.proofs.Rows.{row-ends}
+use Rattle.two_marking.proofs.MarkedRows.{row-ends}
 use Rattle.two_marking.specs.Marked.{RowTo}
 use Rattle.two_stripcosts.specs.Table.{tableBy, capsIn}
 use Rattle.two_bands.proofs.Bands.{barred-none, barred-more, barred-down}
-use Rattle.two_bands.specs.Bands.{Barred, Ends}
+use Rattle.two_bands.specs.Bands.{Excluded, Ends}
 use mathlib.Core.Path.{_≡_, refl, _∙_}
 use mathlib.Core.List.{List}
 use Prim.Native.Nat.{ℕ, _+_, _-_, _<_, _≤_}
@@ -15,7 +15,7 @@ use Rattle.two_marking.proofs.mark_below.Tie as tie
 
 abbrev Inv-loop : tie.InvT-loop
 Inv-loop q heights bounds radices draws ys colours caps bands ends work marks₀ a code start m other₀ j₀ marks other j =
-    (length marks ≡ length marks₀) × (a + j ≤ length heights) × ((old : List ℕ) → RowTo (tableBy q heights bounds radices ys colours) (capsIn caps) (q .budgets) old marks₀ a code 0 0 → RowTo (tableBy q heights bounds radices ys colours) (capsIn caps) (q .budgets) old marks a code j 0) × (a + j < length heights → Barred heights ys colours a code (a + j) other)
+    (length marks ≡ length marks₀) × (a + j ≤ length heights) × ((old : List ℕ) → RowTo (tableBy q heights bounds radices ys colours) (capsIn caps) (q .budgets) old marks₀ a code 0 0 → RowTo (tableBy q heights bounds radices ys colours) (capsIn caps) (q .budgets) old marks a code j 0) × (a + j < length heights → Excluded heights ys colours a code (a + j) other)
 
 abbrev μ-loop : tie.MeasureT-loop
 μ-loop q heights bounds radices draws ys colours caps bands ends work marks₀ a code start m other₀ j₀ marks other j =

@@ -1,5 +1,5 @@
 use Rattle.two_marking.proofs.Search.{place-none, place-more, place-last}
-use Rattle.two_marking.proofs.Rows.{place-over, place-in, rows-few}
+use Rattle.two_marking.proofs.MarkedRows.{place-over, place-in, rows-few}
 use Rattle.two_marking.specs.Marked.{PlaceTo}
 use Rattle.two_stripcosts.specs.Table.{tableBy, capsIn}
 use Rattle.lists.proofs.Tests.{clash}

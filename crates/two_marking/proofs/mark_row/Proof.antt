@@ -1,5 +1,5 @@
 use Rattle.two_bands.proofs.Bands.{ends-last}
-use Rattle.two_marking.proofs.Rows.{row-none, row-ended, row-passed, row-in}
+use Rattle.two_marking.proofs.MarkedRows.{row-none, row-ended, row-passed, row-in}
 use Rattle.lists.proofs.Tests.{clash}
 use borrow.Author.Tests.{not-true}
 use mathlib.Core.Path.{refl}

@@ -1,7 +1,7 @@
 use Rattle.two_stripcosts.specs.Table.{tableBy, capsIn, tableWords}
 use Rattle.two_stripcosts.proofs.Links.{colours-last, product-of, size-of, blocks-of, row-there}
 use Rattle.two_marking.specs.Marked.{RowTo}
-use Rattle.two_marking.proofs.Rows.{colours-to, colours-from, row-near, row-lost, row-linked, rows-apart}
+use Rattle.two_marking.proofs.MarkedRows.{colours-to, colours-from, row-near, row-lost, row-linked, rows-apart}
 use mathlib.Core.Path.{_≡_, refl, _∙_}
 use mathlib.Core.List.{List}
 use Prim.Native.Nat.{ℕ, _+_, _-_, _<_, _≤_}

@@ -1,4 +1,4 @@
-use Rattle.two_links.proofs.Rows.{one-linked, one-left}
+use Rattle.two_links.proofs.BudgetRows.{one-linked, one-left}
 use Prim.Native.Nat.{_-_}
 use native.Mathlib.Omega.{arith}
 use borrow.Author.Needs.{needs}

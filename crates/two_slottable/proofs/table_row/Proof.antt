@@ -1,4 +1,4 @@
-use Rattle.two_bands.specs.Bands.{Barred, Ends}
+use Rattle.two_bands.specs.Bands.{Excluded, Ends}
 use Rattle.two_stripcosts.specs.Table.{tableBy, capsIn, RowTo}
 use Rattle.two_bands.proofs.Bands.{ends-last, barred-none, barred-down, barred-more}
 use Rattle.two_stripcosts.proofs.Links.{row-first, row-whole, row-ends}
@@ -12,7 +12,7 @@ use Rattle.two_slottable.proofs.table_row.Statement.{statement}
 use Rattle.two_slottable.proofs.table_row.Tie as tie
 
 abbrev Inv-loop : tie.InvT-loop
-Inv-loop q heights bounds radices draws ys colours caps bands ends work row₀ a code start m all last other₀ j₀ row other j = (length row ≡ length row₀) × (a + j ≤ length heights) × RowTo (tableBy q heights bounds radices ys colours) (capsIn caps) row (q .budgets) a code j 0 × (a + j < length heights → Barred heights ys colours a code (a + j) other)
+Inv-loop q heights bounds radices draws ys colours caps bands ends work row₀ a code start m all last other₀ j₀ row other j = (length row ≡ length row₀) × (a + j ≤ length heights) × RowTo (tableBy q heights bounds radices ys colours) (capsIn caps) row (q .budgets) a code j 0 × (a + j < length heights → Excluded heights ys colours a code (a + j) other)
 
 abbrev μ-loop : tie.MeasureT-loop
 μ-loop q heights bounds radices draws ys colours caps bands ends work row₀ a code start m all last other₀ j₀ row other j = length heights - (a + j)

@@ -84,7 +84,7 @@ module _ (q : Measures) (hs bs rs ds parts counts work xs ys cs order L out : Li
       rw z
       (record {
         tied = omega arith;
-        room = rw (length-set out 0 x) (omega (arith, f .room, long));
+        answerFits = rw (length-set out 0 x) (omega (arith, f .answerFits, long));
         labelsLong = length-replicate (length hs) 0;
         coloured = λ i. omega (arith, zeros (length hs) i);
         budget = omega (arith, f .someBudget);

@@ -72,7 +72,7 @@ step-of-requires c κs =
 write-tie-requires : tie.Need-write-tie-requires
 write-tie-requires c κs =
     let p = c .before .before .before .before .before .before .before .before .before .before .before .before .before .before .before .before .before .before .before .before .before .before .before .pre in let a = c .before .before .before .before .before .before .before .before .before .before .before .before .before .before .before .before .before .before .before .before .before .before .before .args in
-    (p .1 .1, omega (arith, p .0 .orderLow _ (p .1 .1), p .1 .0 .room, long (a .q) (a .heights .now) (a .bounds .now) (a .radices .now) (a .draws .now) (a .parts .now) (a .counts .now) (a .work .now) (a .xs .now) (a .ys .now) (a .colours .now) (a .order .now) (p .0)), omega (arith, mid (c .before .before) .slotLow, p .0 .sheet .fewSlots))
+    (p .1 .1, omega (arith, p .0 .orderLow _ (p .1 .1), p .1 .0 .answerFits, long (a .q) (a .heights .now) (a .bounds .now) (a .radices .now) (a .draws .now) (a .parts .now) (a .counts .now) (a .work .now) (a .xs .now) (a .ys .now) (a .colours .now) (a .order .now) (p .0)), omega (arith, mid (c .before .before) .slotLow, p .0 .sheet .fewSlots))
 
 cast-slot : tie.Need-cast-slot
 cast-slot c =

@@ -38,16 +38,16 @@ returns-3 : tie.Need-returns-3
 returns-3 c =
     rw (rise (c .before .before .before .before), inside (c .before .before), sym (c .before .ranks-differ .ensures) ∙ not-true _ (c .if3 .taken)) refl
 
-is-over-requires : tie.Need-is-over-requires
-is-over-requires c κs = search needs
+exceeds-budgets-requires : tie.Need-exceeds-budgets-requires
+exceeds-budgets-requires c κs = search needs
 
 returns-4 : tie.Need-returns-4
 returns-4 c =
-    rw (rise (c .before .before .before .before .before .before), inside (c .before .before .before .before), differ (c .before .before), sym (c .before .is-over .ensures) ∙ c .if4 .taken) refl
+    rw (rise (c .before .before .before .before .before .before), inside (c .before .before .before .before), differ (c .before .before), sym (c .before .exceeds-budgets .ensures) ∙ c .if4 .taken) refl
 
 returns-5 : tie.Need-returns-5
 returns-5 c =
-    rw (rise (c .before .before .before .before .before .before), inside (c .before .before .before .before), differ (c .before .before), sym (c .before .is-over .ensures) ∙ c .if4 .left) refl
+    rw (rise (c .before .before .before .before .before .before), inside (c .before .before .before .before), differ (c .before .before), sym (c .before .exceeds-budgets .ensures) ∙ c .if4 .left) refl
 
 pub body-fault-spec : {M : Type 1} → statement M
 body-fault-spec =
@@ -59,6 +59,6 @@ body-fault-spec =
     returns-2
     ranks-differ-requires
     returns-3
-    is-over-requires
+    exceeds-budgets-requires
     returns-4
     returns-5)

@@ -1,5 +1,5 @@
 use Rattle.rows.specs.Rows.{stripOf, pointOf}
-use Rattle.rows.proofs.parts.Marking.{upper-room, lower-room, parts-marked}
+use Rattle.rows.proofs.parts.Marking.{upper-within, lower-within, parts-marked}
 use mathlib.Core.Path.{refl}
 use Prim.Native.Nat.{_-_}
 use native.Mathlib.Omega.{arith}
@@ -21,25 +21,25 @@ mul-work : tie.Need-mul-work
 mul-work c =
     let p = c .before .before .pre in
     let a = c .before .before .args in
-    omega (arith, upper-room (p .0 .0) (stripOf (a .p)) (pointOf (a .s)) (a .k) (p .0 .1) (p .1 .0) (p .1 .1) _ _ (c .part-places .ensures .0) (c .part-places .ensures .1))
+    omega (arith, upper-within (p .0 .0) (stripOf (a .p)) (pointOf (a .s)) (a .k) (p .0 .1) (p .1 .0) (p .1 .1) _ _ (c .part-places .ensures .0) (c .part-places .ensures .1))
 
 slice-write-work : tie.Need-slice-write-work
 slice-write-work c =
     let p = c .before .before .pre in
     let a = c .before .before .args in
-    upper-room (p .0 .0) (stripOf (a .p)) (pointOf (a .s)) (a .k) (p .0 .1) (p .1 .0) (p .1 .1) _ _ (c .part-places .ensures .0) (c .part-places .ensures .1)
+    upper-within (p .0 .0) (stripOf (a .p)) (pointOf (a .s)) (a .k) (p .0 .1) (p .1 .0) (p .1 .1) _ _ (c .part-places .ensures .0) (c .part-places .ensures .1)
 
 mul-work-2 : tie.Need-mul-work-2
 mul-work-2 c =
     let p = c .before .before .pre in
     let a = c .before .before .args in
-    omega (arith, lower-room (p .0 .0) (stripOf (a .p)) (pointOf (a .s)) (a .k) (p .0 .1) (p .1 .0) (p .1 .1) _ _ (c .part-places .ensures .0) (c .part-places .ensures .1))
+    omega (arith, lower-within (p .0 .0) (stripOf (a .p)) (pointOf (a .s)) (a .k) (p .0 .1) (p .1 .0) (p .1 .1) _ _ (c .part-places .ensures .0) (c .part-places .ensures .1))
 
 slice-write-work-2 : tie.Need-slice-write-work-2
 slice-write-work-2 c =
     let p = c .before .before .pre in
     let a = c .before .before .args in
-    rw (length-set (a .work .now) (c .part-places .result .upper) 1) (lower-room (p .0 .0) (stripOf (a .p)) (pointOf (a .s)) (a .k) (p .0 .1) (p .1 .0) (p .1 .1) _ _ (c .part-places .ensures .0) (c .part-places .ensures .1))
+    rw (length-set (a .work .now) (c .part-places .result .upper) 1) (lower-within (p .0 .0) (stripOf (a .p)) (pointOf (a .s)) (a .k) (p .0 .1) (p .1 .0) (p .1 .1) _ _ (c .part-places .ensures .0) (c .part-places .ensures .1))
 
 same-length : tie.Need-same-length
 same-length c = search needs

@@ -1,5 +1,5 @@
 use Rattle.rows.specs.Rows.{stripOf, pointOf}
-use Rattle.rows.proofs.parts.Marking.{upper-room, lower-room, parts-cost}
+use Rattle.rows.proofs.parts.Marking.{upper-within, lower-within, parts-cost}
 use Prim.Native.Nat.{_-_}
 use native.Mathlib.Omega.{arith}
 use borrow.Author.Needs.{needs}
@@ -20,25 +20,25 @@ mul-plus-of : tie.Need-mul-plus-of
 mul-plus-of c =
     let p = c .before .before .pre in
     let a = c .before .before .args in
-    omega (arith, upper-room (p .0 .0) (stripOf (a .p)) (pointOf (a .s)) (a .k) (p .0 .1) (p .1 .0) (p .1 .1) _ _ (c .part-places .ensures .0) (c .part-places .ensures .1))
+    omega (arith, upper-within (p .0 .0) (stripOf (a .p)) (pointOf (a .s)) (a .k) (p .0 .1) (p .1 .0) (p .1 .1) _ _ (c .part-places .ensures .0) (c .part-places .ensures .1))
 
 shared-slice-read-plus-of : tie.Need-shared-slice-read-plus-of
 shared-slice-read-plus-of c =
     let p = c .before .before .before .pre in
     let a = c .before .before .before .args in
-    upper-room (p .0 .0) (stripOf (a .p)) (pointOf (a .s)) (a .k) (p .0 .1) (p .1 .0) (p .1 .1) _ _ (c .before .part-places .ensures .0) (c .before .part-places .ensures .1)
+    upper-within (p .0 .0) (stripOf (a .p)) (pointOf (a .s)) (a .k) (p .0 .1) (p .1 .0) (p .1 .1) _ _ (c .before .part-places .ensures .0) (c .before .part-places .ensures .1)
 
 mul-plus-of-2 : tie.Need-mul-plus-of-2
 mul-plus-of-2 c =
     let p = c .before .before .before .pre in
     let a = c .before .before .before .args in
-    omega (arith, lower-room (p .0 .0) (stripOf (a .p)) (pointOf (a .s)) (a .k) (p .0 .1) (p .1 .0) (p .1 .1) _ _ (c .before .part-places .ensures .0) (c .before .part-places .ensures .1))
+    omega (arith, lower-within (p .0 .0) (stripOf (a .p)) (pointOf (a .s)) (a .k) (p .0 .1) (p .1 .0) (p .1 .1) _ _ (c .before .part-places .ensures .0) (c .before .part-places .ensures .1))
 
 shared-slice-read-plus-of-2 : tie.Need-shared-slice-read-plus-of-2
 shared-slice-read-plus-of-2 c =
     let p = c .before .before .before .before .pre in
     let a = c .before .before .before .before .args in
-    lower-room (p .0 .0) (stripOf (a .p)) (pointOf (a .s)) (a .k) (p .0 .1) (p .1 .0) (p .1 .1) _ _ (c .before .before .part-places .ensures .0) (c .before .before .part-places .ensures .1)
+    lower-within (p .0 .0) (stripOf (a .p)) (pointOf (a .s)) (a .k) (p .0 .1) (p .1 .0) (p .1 .1) _ _ (c .before .before .part-places .ensures .0) (c .before .before .part-places .ensures .1)
 
 plus-of-requires : tie.Need-plus-of-requires
 plus-of-requires c κs = search needs

@@ -7,7 +7,7 @@ use Rattle.rows.proofs.rest.join_row.Statement.{statement}
 use Rattle.rows.proofs.rest.join_row.Tie as tie
 use Rattle.rows.proofs.rest.join_row.Reads as reads
 use Rattle.rows.proofs.rest.join_row.Lts as lts
-use Rattle.rows.proofs.budgets.least_share.Reads as least-share-reads
+use Rattle.rows.proofs.budgets.least_split.Reads as least-split-reads
 
 abbrev Inv-loop : tie.InvT-loop
 Inv-loop parts counts acc₀ work row n v₀ acc v = Joined parts counts acc₀ work row acc v
@@ -22,8 +22,8 @@ loop-holds c =
 sub-v : tie.Need-sub-v Inv-loop μ-loop
 sub-v c = search needs
 
-least-share-requires : tie.Need-least-share-requires Inv-loop μ-loop
-least-share-requires c κs =
+least-split-requires : tie.Need-least-split-requires Inv-loop μ-loop
+least-split-requires c κs =
     let j = c .before .before .loop .inv in let p = c .before .before .before .before .before .before .before .pre in
     (p .0, (omega (arith, j .within), omega (arith, j .long), p .1))
 
@@ -40,7 +40,7 @@ loop-less c = search needs
 
 loop-again : tie.Need-loop-again Inv-loop μ-loop
 loop-again c =
-    let l = c .before .before .before .loop in joined-more _ _ _ _ _ _ (l .v) _ _ (l .inv) (omega arith) (c .before .before .before .before .before .before .before .before .pre .0) (c .least-share .ensures)
+    let l = c .before .before .before .loop in joined-more _ _ _ _ _ _ (l .v) _ _ (l .inv) (omega arith) (c .before .before .before .before .before .before .before .before .pre .0) (c .least-split .ensures)
 
 same-length : tie.Need-same-length Inv-loop μ-loop
 same-length c =
@@ -60,7 +60,7 @@ join-row-spec =
     μ-loop
     loop-holds
     sub-v
-    least-share-requires
+    least-split-requires
     mul-acc
     slice-write-acc
     loop-less

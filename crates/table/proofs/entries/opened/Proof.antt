@@ -7,14 +7,14 @@ use Rattle.table.proofs.entries.opened.Statement.{statement}
 use Rattle.table.proofs.entries.opened.Tie as tie
 use Rattle.table.proofs.entries.opened.Reads as reads
 use Rattle.table.proofs.entries.opened.Lts as lts
-use Rattle.rows.proofs.budgets.least_share.Reads as least-share-reads
+use Rattle.rows.proofs.budgets.least_split.Reads as least-split-reads
 
 returns : tie.Need-returns
 returns c =
     opened-past _ _ _ _ (omega (arith, c .before .before .before .before .fits .old)) (c .if1 .taken)
 
-least-share-requires : tie.Need-least-share-requires
-least-share-requires c κs = search needs
+least-split-requires : tie.Need-least-split-requires
+least-split-requires c κs = search needs
 
 cast-t : tie.Need-cast-t
 cast-t c = search needs
@@ -29,16 +29,16 @@ returns-2 : tie.Need-returns-2
 returns-2 c =
     let a = c .before .before .before .before .before .before .args in
     let o : a .old ≤ 4294967295 = omega (arith, c .before .before .before .before .before .before .fits .old) in
-    let r : a .cost + c .before .least-share .result ≡ min (a .old) (a .cost + c .before .least-share .result) = omega arith in
-    r ∙ rw (c .before .least-share .ensures) (opened-by (a .old) (a .u) (a .n) (a .cost) _ o (c .before .before .if1 .left))
+    let r : a .cost + c .before .least-split .result ≡ min (a .old) (a .cost + c .before .least-split .result) = omega arith in
+    r ∙ rw (c .before .least-split .ensures) (opened-by (a .old) (a .u) (a .n) (a .cost) _ o (c .before .before .if1 .left))
 
 returns-3 : tie.Need-returns-3
 returns-3 c =
     let a = c .before .before .before .before .before .before .args in
     let o : a .old ≤ 4294967295 = omega (arith, c .before .before .before .before .before .before .fits .old) in
-    let r : a .old ≡ min (a .old) (a .cost + c .before .least-share .result) = omega arith in
-    r ∙ rw (c .before .least-share .ensures) (opened-by (a .old) (a .u) (a .n) (a .cost) _ o (c .before .before .if1 .left))
+    let r : a .old ≡ min (a .old) (a .cost + c .before .least-split .result) = omega arith in
+    r ∙ rw (c .before .least-split .ensures) (opened-by (a .old) (a .u) (a .n) (a .cost) _ o (c .before .before .if1 .left))
 
 pub opened-spec : {M : Type 1} → statement M
 opened-spec =
-    tie.close (tie.spec returns least-share-requires cast-t add-t cast-result returns-2 returns-3)
+    tie.close (tie.spec returns least-split-requires cast-t add-t cast-result returns-2 returns-3)

@@ -1,6 +1,6 @@
 use lib.Seq.{getD-set-same, getD-set-other}
 use Rattle.lists.proofs.Tests.{by-order}
-use Rattle.table.proofs.marks.Levels.{row-room}
+use Rattle.table.proofs.marks.Levels.{row-within}
 use mathlib.Core.Path.{_≡_, refl, ap, _∙_}
 use Prim.Native.Nat.{ℕ, _+_, _-_, _*_, _<_, _≤_}
 use native.Mathlib.Omega.{arith}
@@ -25,19 +25,19 @@ mul-work : tie.Need-mul-work Inv-loop μ-loop
 mul-work c =
     let l = c .before .loop in
     let p = c .before .before .pre in
-    omega (arith, l .inv .1, l .inv .2, p .0, p .1, row-room (l .r) (c .before .before .args .rows) (c .before .before .args .n) (c .loop-test .taken))
+    omega (arith, l .inv .1, l .inv .2, p .0, p .1, row-within (l .r) (c .before .before .args .rows) (c .before .before .args .n) (c .loop-test .taken))
 
 slice-write-work : tie.Need-slice-write-work Inv-loop μ-loop
 slice-write-work c =
     let l = c .before .loop in
     let p = c .before .before .pre in
-    omega (arith, l .inv .1, l .inv .2, p .0, p .1, row-room (l .r) (c .before .before .args .rows) (c .before .before .args .n) (c .loop-test .taken))
+    omega (arith, l .inv .1, l .inv .2, p .0, p .1, row-within (l .r) (c .before .before .args .rows) (c .before .before .args .n) (c .loop-test .taken))
 
 add-at : tie.Need-add-at Inv-loop μ-loop
 add-at c =
     let l = c .before .loop in
     let p = c .before .before .pre in
-    omega (arith, l .inv .1, p .0, row-room (l .r) (c .before .before .args .rows) (c .before .before .args .n) (c .loop-test .taken))
+    omega (arith, l .inv .1, p .0, row-within (l .r) (c .before .before .args .rows) (c .before .before .args .n) (c .loop-test .taken))
 
 add-r : tie.Need-add-r Inv-loop μ-loop
 add-r c = search needs
@@ -49,14 +49,14 @@ loop-again : tie.Need-loop-again Inv-loop μ-loop
 loop-again c =
     let l = c .before .loop in
     let a = c .before .before .args in
-    let k = row-room (l .r) (a .rows) (a .n) (c .loop-test .taken) in (
+    let k = row-within (l .r) (a .rows) (a .n) (c .loop-test .taken) in (
       omega (arith, c .loop-test .taken),
       ap (λ (z : ℕ). z + a .n) (l .inv .1) ∙ omega arith,
       simp length-set (l .inv .2),
       λ i h. getD-set-other (l .work) (l .at) i 0 0 (λ (e : i ≡ l .at). omega (arith, l .inv .1, k, c .before .before .pre .1)) ∙ l .inv .3 i h,
       λ j h. by-order (l .r) j
           (λ u. let e : j ≡ l .r = omega arith in rw (e, ← (l .inv .1)) (getD-set-same (l .work) (l .at) 0 0 (omega (arith, l .inv .1, l .inv .2, c .before .before .pre .0, c .before .before .pre .1, k))))
-          (λ u. getD-set-other (l .work) (l .at) (j * a .n) 0 0 (λ (e : j * a .n ≡ l .at). omega (arith, l .inv .1, row-room j (l .r) (a .n) u, c .before .before .pre .1)) ∙ l .inv .4 j u),
+          (λ u. getD-set-other (l .work) (l .at) (j * a .n) 0 0 (λ (e : j * a .n ≡ l .at). omega (arith, l .inv .1, row-within j (l .r) (a .n) u, c .before .before .pre .1)) ∙ l .inv .4 j u),
     )
 
 same-length : tie.Need-same-length Inv-loop μ-loop

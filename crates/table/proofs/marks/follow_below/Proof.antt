@@ -3,7 +3,7 @@ use Rattle.rows.specs.Rows.{Lies, stripOf, pointOf, rowOf, endPlace}
 use Rattle.lists.proofs.Tests.{not-f}
 use Rattle.rows.proofs.Places.{row-fits}
 use Rattle.rows.proofs.parts.Marking.{marking-none}
-use Rattle.table.proofs.marks.Followed.{ended, Followed, followed-none, followed-more, followed-all, next-row, next-slot, later-end, start-lies, lies-at, room-of, at-low}
+use Rattle.table.proofs.marks.Followed.{ended, Followed, followed-none, followed-more, followed-all, next-row, next-slot, later-end, start-lies, lies-at, fits-of, at-low}
 use Prim.Native.Nat.{ℕ, _+_, _-_, _*_, _≤_}
 use native.Mathlib.Omega.{arith}
 use lib.ListN.{length}
@@ -69,7 +69,7 @@ mark-row-requires c κs =
     let p = c .before .before .before .before .before .before .before .before .before .before .before .before .pre in
     let l = c .before .before .before .loop in
     let r = row-lies (c .before) in
-    ((p .0 .framed, p .0 .stands), ((rw (l .inv .5) (room-of (p .0)), r), omega (arith, at-low (p .0) _ r _ (l .inv .4), l .inv .5, p .0 .within)))
+    ((p .0 .framed, p .0 .stands), ((rw (l .inv .5) (fits-of (p .0)), r), omega (arith, at-low (p .0) _ r _ (l .inv .4), l .inv .5, p .0 .within)))
 
 add-at-2 : tie.Need-add-at-2 Inv-loop μ-loop
 add-at-2 c =

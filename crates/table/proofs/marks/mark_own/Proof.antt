@@ -1,5 +1,5 @@
 use Rattle.lists.proofs.Tests.{not-f, clash}
-use Rattle.rows.proofs.parts.Marking.{marking-none, own-room, own-marking, own-marked}
+use Rattle.rows.proofs.parts.Marking.{marking-none, own-within, own-marking, own-marked}
 use mathlib.Core.Path.{refl, ap}
 use Prim.Native.Nat.{ℕ, _+_, _-_}
 use native.Mathlib.Omega.{arith}
@@ -22,17 +22,17 @@ row-place-requires c κs =
 add-at : tie.Need-add-at
 add-at c =
     let p = c .before .before .before .pre in
-    omega (arith, c .row-place .ensures, own-room (p .0) _ (p .1))
+    omega (arith, c .row-place .ensures, own-within (p .0) _ (p .1))
 
 mul-work : tie.Need-mul-work
 mul-work c =
     let p = c .before .before .before .pre in
-    omega (arith, c .row-place .ensures, own-room (p .0) _ (p .1))
+    omega (arith, c .row-place .ensures, own-within (p .0) _ (p .1))
 
 slice-write-work : tie.Need-slice-write-work
 slice-write-work c =
     let p = c .before .before .before .pre in
-    omega (arith, c .row-place .ensures, own-room (p .0) _ (p .1))
+    omega (arith, c .row-place .ensures, own-within (p .0) _ (p .1))
 
 same-length : tie.Need-same-length
 same-length c = search needs

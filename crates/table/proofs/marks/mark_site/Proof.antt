@@ -1,5 +1,5 @@
 use Rattle.table.proofs.marks.Reach.{at-site}
-use Rattle.table.proofs.marks.Levels.{next-level, level-room}
+use Rattle.table.proofs.marks.Levels.{next-level, level-within}
 use Rattle.table.proofs.marks.Points.{point-at}
 use Rattle.strips.specs.Strips.{Stands}
 use mathlib.Core.Path.{refl, sym, _∙_, subst}
@@ -20,7 +20,7 @@ site-at-requires c κs =
 mul-follow-level : tie.Need-mul-follow-level
 mul-follow-level c =
     let p = c .before .before .before .before .before .before .before .before .pre in
-    omega (arith, level-room (c .before .before .before .before .before .before .before .before .args .j) (length (c .before .before .before .before .before .before .before .before .args .xs .now)) (c .before .before .before .before .before .before .before .before .args .size) _ _ refl (p .1 .2) (p .1 .1))
+    omega (arith, level-within (c .before .before .before .before .before .before .before .before .args .j) (length (c .before .before .before .before .before .before .before .before .args .xs .now)) (c .before .before .before .before .before .before .before .before .args .size) _ _ refl (p .1 .2) (p .1 .1))
 
 add-follow-level : tie.Need-add-follow-level
 add-follow-level c = search needs
@@ -28,13 +28,13 @@ add-follow-level c = search needs
 mul-follow-level-2 : tie.Need-mul-follow-level-2
 mul-follow-level-2 c =
     let p = c .before .before .before .before .before .before .before .before .pre in
-    omega (arith, level-room (c .before .before .before .before .before .before .before .before .args .j) (length (c .before .before .before .before .before .before .before .before .args .xs .now)) (c .before .before .before .before .before .before .before .before .args .size) _ _ refl (p .1 .2) (p .1 .1))
+    omega (arith, level-within (c .before .before .before .before .before .before .before .before .args .j) (length (c .before .before .before .before .before .before .before .before .args .xs .now)) (c .before .before .before .before .before .before .before .before .args .size) _ _ refl (p .1 .2) (p .1 .1))
 
 follow-level-requires : tie.Need-follow-level-requires
 follow-level-requires c κs =
     let p = c .before .before .before .before .before .before .before .before .pre in
     let a = c .before .before .before .before .before .before .before .before .args in
-    let r = level-room (a .j) (length (a .xs .now)) (a .size) _ _ refl (p .1 .2) (p .1 .1) in
+    let r = level-within (a .j) (length (a .xs .now)) (a .size) _ _ refl (p .1 .2) (p .1 .1) in
     record {
       framed = p .0 .0;
       stands = subst (Stands (a .q .colours)) (sym (c .before .site-at .ensures)) (record { colourLow = p .0 .1 .csLow (a .j) (p .1 .2); yLow = p .0 .1 .ysLow (a .j) (p .1 .2) });

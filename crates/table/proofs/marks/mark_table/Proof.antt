@@ -4,7 +4,7 @@ use Rattle.strips.specs.Strips.{instanceOn, Framed}
 use Rattle.rows.specs.Rows.{levelSize}
 use Rattle.rows.proofs.Places.{rows-few}
 use Rattle.table.specs.Marks.{Sites, ReachMarked}
-use Rattle.table.proofs.marks.Levels.{level-small, count-words, first-room, past-level, enough, few, few-rows}
+use Rattle.table.proofs.marks.Levels.{level-small, count-words, first-within, past-level, enough, few, few-rows}
 use Rattle.table.proofs.marks.Reach.{reach-first, reach-more, whole-marked, to-level}
 use mathlib.Core.Path.{_≡_, refl, ap, _∙_}
 use Prim.Native.Nat.{ℕ, _+_, _-_, _*_, _≤_}
@@ -64,7 +64,7 @@ mark-own-requires c κs =
         coloursFew = f .coloursFew;
         budgetsFew = f .budgetsFew;
         budgetsSome = f .budgetsSome;
-        within = rw (c .before .before .before .clear-marks .kept .0) (first-room _ _ _ (p .1 .1));
+        within = rw (c .before .before .before .clear-marks .kept .0) (first-within _ _ _ (p .1 .1));
       },
       record { aLow = omega arith; caLow = omega arith; bLow = omega arith; cbLow = omega arith; dLow = refl },
     )
@@ -116,7 +116,7 @@ returns c =
       to-level (instanceOn (a .q) (a .heights .now) (a .bounds .now)) (a .q) (pointsBy (a .xs .now) (a .ys .now) (a .cs .now)) (l .work) _ _ (l .j) (l .inv .0) z (l .inv .3 (p .0 .0) (p .0 .1)),
       λ i h.
           let e = ap (λ (z : ℕ). z * a .q .budgets) (p .1 .0) in
-          l .inv .4 i (rw (l .inv .0) h) ∙ c .before .before .before .before .mark-own .ensures .0 .others .after i (first-room _ _ _ h) ∙ c .before .before .before .before .before .before .before .before .clear-marks .ensures .1 i (count-words (length (a .xs .now) + 1) (a .rows) (a .q .budgets) _ _ e h),
+          l .inv .4 i (rw (l .inv .0) h) ∙ c .before .before .before .before .mark-own .ensures .0 .others .after i (first-within _ _ _ h) ∙ c .before .before .before .before .before .before .before .before .clear-marks .ensures .1 i (count-words (length (a .xs .now) + 1) (a .rows) (a .q .budgets) _ _ e h),
     )
 
 pub mark-table-spec : {M : Type 1} → statement M

@@ -1,4 +1,4 @@
-use Rattle.two_links.proofs.Rows.{block-fits}
+use Rattle.two_links.proofs.BudgetRows.{block-fits}
 use Rattle.two_marking.specs.Marks.{Linked}
 use Rattle.two_marking.proofs.Marks.{linked-none, linked-more}
 use mathlib.Core.Path.{_≡_, refl, _∙_}

@@ -1,0 +1,35 @@
+-- One word of a bindingOnly sheet, by its tests. Assumes nothing.
+use mathlib.Core.Path.{_≡_, refl}
+use mathlib.Core.List.{List, [], _∷_, _++_}
+use Prim.Native.Nat.{ℕ, _+_, _*_, _/_, _%_, _≤_, _<_}
+use native.Mathlib.Omega.{arith}
+use lib.ListN.{length, getD, drop, take, drop-of-length-le}
+use lib.Seq.{take-at}
+use borrow.Author.Tests.{eq-eqb, ne-eqb, le-leb, lt-leb}
+use Rattle.lists.proofs.Places.{at}
+use Rattle.sheet.specs.Sheet.{kindOf, bits, sitesRun}
+use Rattle.sheet.specs.Binding.{bindingWord, bindingOnly}
+use Rattle.sheet.proofs.Binding.{length-kept}
+
+module _ (w n k : ℕ) (e : k ≡ kindOf w) where
+  pub no-colour : (k ≡ 3 → ⊥) → w ≡ bindingWord w n
+  no-colour f = rw (ne-eqb (kindOf w) 3 (λ q. f (omega arith))) refl
+
+  module _ (f : k ≡ 3) where
+    pub binding : w % 256 < n → w ≡ bindingWord w n
+    binding h = rw (eq-eqb (kindOf w) 3 (omega arith), lt-leb n (bits w 0 8) (omega arith)) refl
+
+    pub slack : n ≤ w % 256 → w / 256 * 256 + 255 ≡ bindingWord w n
+    slack h = rw (eq-eqb (kindOf w) 3 (omega arith), le-leb n (bits w 0 8) (omega arith)) refl
+
+-- the words from a place on
+pub binding-at : (s : List ℕ) (i n v : ℕ) → i < length s → n ≡ sitesRun (drop (i + 1) s) → v ≡ bindingWord (getD s i 0) n → bindingOnly (drop i s) ≡ v ∷ bindingOnly (drop (i + 1) s)
+unfolding bindingOnly
+binding-at s i n v h e f = rw (at s i h, f, e) refl
+
+pub binding-end : (s : List ℕ) (i : ℕ) → length s ≤ i → bindingOnly (drop i s) ≡ []
+unfolding bindingOnly
+binding-end s i h = rw (drop-of-length-le s h) refl
+
+pub front : (s r d : List ℕ) → r ≡ bindingOnly s ++ drop (length s) d → take (length s) r ≡ bindingOnly s
+front s r d e = rw e (take-at (bindingOnly s) (drop (length s) d) (length s) (length-kept s))

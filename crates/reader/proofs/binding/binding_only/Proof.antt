@@ -1,0 +1,17 @@
+use Rattle.reader.proofs.binding.Steps.{front}
+use borrow.Author.Needs.{needs}
+use Rattle.reader.proofs.binding.binding_only.Statement.{statement}
+use Rattle.reader.proofs.binding.binding_only.Tie as tie
+
+slice-aggregate-binding-into : tie.Need-slice-aggregate-binding-into
+slice-aggregate-binding-into c = search needs
+
+binding-into-requires : tie.Need-binding-into-requires
+binding-into-requires c κs = search needs
+
+returns : tie.Need-returns
+returns c =
+    front (c .before .before .before .before .args .sheet .now) _ _ (c .before .binding-into .ensures)
+
+pub binding-only-spec : {M : Type 1} → statement M
+binding-only-spec = tie.close (tie.spec slice-aggregate-binding-into binding-into-requires returns)

@@ -1,0 +1,43 @@
+-- The numbers of document 01, each named once: limits, bit places, and bounds that arithmetic needs. Definitions.
+use Prim.Native.Nat.{ℕ}
+
+-- LIMITS of a sheet: "at most 48 slots, 8 colours and 32 sites"; P is at most 64
+abbrev pub mostSlots : ℕ
+mostSlots = 48
+
+abbrev pub mostColours : ℕ
+mostColours = 8
+
+abbrev pub mostSites : ℕ
+mostSites = 32
+
+abbrev pub mostBudgets : ℕ
+mostBudgets = 64
+
+-- the words of an accepted sheet: one head, and as many slots, colours and sites as there may be
+abbrev pub mostWords : ℕ
+mostWords = 89
+
+-- the bound that means unbounded
+abbrev pub unbounded : ℕ
+unbounded = 255
+
+-- FIELDS: the kind is in bits 31 to 28, so a word's other bits are below 2^28
+abbrev pub kindTop : ℕ
+kindTop = 268435456
+
+-- a word is below 2^32
+abbrev pub wordTop : ℕ
+wordTop = 4294967296
+
+-- a number above every x, y, height and width: they have 14 bits (2^14)
+abbrev pub numberTop : ℕ
+numberTop = 16384
+
+-- a bound or a slot in a word has 8 bits (2^8)
+abbrev pub byteTop : ℕ
+byteTop = 256
+
+-- a layout's length is in bits 20 to 0 of its first word (2^21), and its count above it
+abbrev pub lengthTop : ℕ
+lengthTop = 2097152
