@@ -6,6 +6,7 @@ mod exit;
 mod help;
 mod input;
 mod output;
+mod progress;
 mod subcommand;
 
 use arguments::Arguments;

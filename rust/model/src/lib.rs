@@ -9,6 +9,7 @@
 //! - [`maker`]: the best layout by a table and a walk, in the caller's areas;
 //! - [`program`]: what the program prints;
 //! - [`random`]: random sheets, and damage to them;
+//! - [`nested`]: random sheets that are aimed at a depth;
 //! - [`depth`]: how many cuts are nested in a layout;
 //! - [`rounding`]: a rival that rounds at each cut.
 
@@ -16,6 +17,7 @@ mod budgets;
 mod costs;
 pub mod depth;
 pub mod maker;
+pub mod nested;
 mod one_sided;
 mod places;
 pub mod program;
