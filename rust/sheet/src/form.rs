@@ -1,7 +1,8 @@
 //! The forms of a file, told apart by what it holds.
 
+use crate::text::CLAIM;
 use crate::tokens::TextError;
-use crate::{parse, show_number, show_record, Record};
+use crate::{parse, parse_json, show_json, show_number, show_record, Record};
 use std::fmt;
 
 /// How a sheet is written.
@@ -13,6 +14,8 @@ pub enum Form {
     Words,
     /// Four bytes a word, the lowest first.
     Binary,
+    /// An object; see [`crate::parse_json`].
+    Json,
 }
 
 /// Why bytes hold no list of words.
@@ -21,6 +24,8 @@ pub enum ReadError {
     Text(TextError),
     /// Not whole words.
     Bytes(usize),
+    /// Text in another encoding.
+    Encoding(&'static str),
 }
 
 impl fmt::Display for ReadError {
@@ -28,6 +33,7 @@ impl fmt::Display for ReadError {
         match self {
             ReadError::Text(error) => error.fmt(out),
             ReadError::Bytes(bytes) => write!(out, "{bytes} bytes are not whole words of four bytes"),
+            ReadError::Encoding(name) => write!(out, "the text is {name}; UTF-8 is read"),
         }
     }
 }
@@ -35,16 +41,37 @@ impl fmt::Display for ReadError {
 impl std::error::Error for ReadError {}
 
 impl Form {
-    /// The form of these bytes. Text has no zero byte; words in bytes that begin with a head have 0x10 to 0x1F in
-    /// the fourth place, where text has none.
+    /// The form of these bytes. Words in bytes that begin with a head have 0x10 to 0x1F in the fourth place, where
+    /// text has none; other words in bytes have a zero byte, which text has none of; JSON begins with a brace.
     pub fn of(bytes: &[u8]) -> Form {
         let is_head = bytes.get(3).is_some_and(|byte| byte >> 4 == 1);
-        if is_head || bytes.contains(&0) {
-            Form::Binary
+        if is_head || (bytes.contains(&0) && other_encoding(bytes).is_none()) {
+            return Form::Binary;
+        }
+        let first = without_mark(bytes).iter().find(|byte| !byte.is_ascii_whitespace());
+        if first == Some(&b'{') {
+            Form::Json
         } else {
             Form::Text
         }
     }
+}
+
+/// The bytes without UTF-8's byte order mark.
+fn without_mark(bytes: &[u8]) -> &[u8] {
+    bytes.strip_prefix(b"\xEF\xBB\xBF").unwrap_or(bytes)
+}
+
+/// UTF-16 by its byte order mark, or where every second byte is zero and the others are those of text.
+fn other_encoding(bytes: &[u8]) -> Option<&'static str> {
+    let zeros = |first: usize| bytes.iter().skip(first).step_by(2).all(|byte| *byte == 0);
+    let text = |first: usize| {
+        let mut others = bytes.iter().skip(first).step_by(2);
+        others.all(|byte| byte.is_ascii_graphic() || byte.is_ascii_whitespace())
+    };
+    let is_wide = bytes.len() > 1 && bytes.len() % 2 == 0 && (zeros(0) && text(1) || zeros(1) && text(0));
+    let is_marked = bytes.starts_with(b"\xFF\xFE") || bytes.starts_with(b"\xFE\xFF");
+    (is_wide || is_marked).then_some("UTF-16")
 }
 
 /// What bytes of any form hold.
@@ -55,7 +82,8 @@ pub fn read(bytes: &[u8]) -> Result<Record, ReadError> {
 /// What bytes of this form hold.
 pub fn read_as(form: Form, bytes: &[u8]) -> Result<Record, ReadError> {
     match form {
-        Form::Text | Form::Words => parse(&decoded(bytes)?).map_err(ReadError::Text),
+        Form::Text | Form::Words => parse(decoded(bytes)?).map_err(ReadError::Text),
+        Form::Json => parse_json(decoded(bytes)?).map_err(ReadError::Text),
         Form::Binary if bytes.len() % 4 != 0 => Err(ReadError::Bytes(bytes.len())),
         Form::Binary => {
             let word = |four: &[u8]| u32::from_le_bytes([four[0], four[1], four[2], four[3]]);
@@ -65,22 +93,35 @@ pub fn read_as(form: Form, bytes: &[u8]) -> Result<Record, ReadError> {
 }
 
 /// UTF-8, with a byte order mark or without.
-fn decoded(bytes: &[u8]) -> Result<String, ReadError> {
-    let bytes = bytes.strip_prefix(b"\xEF\xBB\xBF").unwrap_or(bytes);
-    String::from_utf8(bytes.to_vec()).map_err(|error| {
-        let before = String::from_utf8_lossy(&bytes[..error.utf8_error().valid_up_to()]);
+fn decoded(bytes: &[u8]) -> Result<&str, ReadError> {
+    if let Some(name) = other_encoding(bytes) {
+        return Err(ReadError::Encoding(name));
+    }
+    let bytes = without_mark(bytes);
+    std::str::from_utf8(bytes).map_err(|error| {
+        let (before, after) = bytes.split_at(error.valid_up_to());
+        let before = String::from_utf8_lossy(before);
         let line = before.matches('\n').count() + 1;
         let column = before.rsplit('\n').next().map_or(0, |last| last.chars().count()) + 1;
-        let byte = bytes[error.utf8_error().valid_up_to()];
-        ReadError::Text(TextError { line, column, message: format!("the text is not UTF-8: byte 0x{byte:02X}") })
+        let byte = after.first().map_or_else(String::new, |byte| format!(": byte 0x{byte:02X}"));
+        ReadError::Text(TextError { line, column, message: format!("the text is not UTF-8{byte}") })
     })
 }
 
-/// The bytes of a record in a form.
-pub fn write(record: &Record, form: Form) -> Vec<u8> {
-    match form {
-        Form::Text => show_record(record).into_bytes(),
-        Form::Words => record.words.iter().map(|word| show_number(*word) + "\n").collect::<String>().into_bytes(),
-        Form::Binary => record.words.iter().flat_map(|word| word.to_le_bytes()).collect(),
-    }
+/// The bytes of a record in a form; none if the record claims that there is no layout, and the form has no place
+/// for that.
+pub fn write(record: &Record, form: Form) -> Option<Vec<u8>> {
+    let text = match form {
+        Form::Text => show_record(record),
+        Form::Json => show_json(record),
+        Form::Words => {
+            let words: String = record.words.iter().map(|word| show_number(*word) + "\n").collect();
+            words + if record.claims_no_layout { CLAIM } else { "" }
+        }
+        Form::Binary => {
+            let bytes = record.words.iter().flat_map(|word| word.to_le_bytes()).collect();
+            return (!record.claims_no_layout).then_some(bytes);
+        }
+    };
+    Some(text.into_bytes())
 }

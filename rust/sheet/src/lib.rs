@@ -1,4 +1,4 @@
-//! A sheet, a layout or a stored sheet as text, as hexadecimal words and as bytes, and back.
+//! A sheet, a layout or a stored sheet as text, as hexadecimal words, as bytes and as JSON, and back.
 //!
 //! ```text
 //! head one-sided fewest gap 2 width 8
@@ -16,13 +16,16 @@
 //! that encodes to the same list.
 
 mod form;
+pub mod json;
+mod json_form;
 mod names;
 mod record;
 mod text;
 mod tokens;
 
 pub use form::{read, read_as, write, Form, ReadError};
+pub use json_form::{parse_json, show_json};
 pub use names::Names;
-pub use record::Record;
+pub use record::{has_layout, Record};
 pub use text::{encode, parse, show, show_number, show_record};
 pub use tokens::TextError;

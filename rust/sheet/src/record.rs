@@ -30,3 +30,8 @@ impl Record {
         }
     }
 }
+
+/// Whether a list of words has a layout's first word.
+pub fn has_layout(words: &[u32]) -> bool {
+    !backbone::split_stored(words).1.is_empty()
+}

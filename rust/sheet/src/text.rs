@@ -1,8 +1,11 @@
 //! The text form: one line a word.
 
-use crate::tokens::{quote, TextError, Tokens};
-use crate::Record;
+use crate::tokens::{quote, shown, TextError, Tokens};
+use crate::{has_layout, Record};
 use backbone::{Aim, Side, Word};
+
+/// The line of a claim that a sheet has no layout.
+pub const CLAIM: &str = "refused 10\n";
 
 /// The text of a list of words.
 ///
@@ -40,7 +43,7 @@ pub fn show_record(record: &Record) -> String {
         }
         text.push('\n');
     }
-    text + if record.claims_no_layout { "refused 10\n" } else { "" }
+    text + if record.claims_no_layout { CLAIM } else { "" }
 }
 
 fn show_word(word: u32) -> String {
@@ -121,21 +124,37 @@ fn parse_line(tokens: &mut Tokens, record: &mut Record) -> Result<(), TextError>
         },
         "tie" => Word::Tie { slot: tokens.small_number("slot")? },
         "refused" => return parse_claim(tokens, record),
-        _ => {
-            let word = raw_number(name);
-            let word = word.ok_or_else(|| tokens.error(column, format!("{NAMES}, not '{name}'")))?;
-            record.push(word, None);
-            return Ok(());
-        }
+        _ if name.starts_with("0x") => return parse_numbers(tokens, (column, name), record),
+        _ => return Err(tokens.error(column, format!("{NAMES}, not '{}'", shown(name)))),
     };
     let name = if matches!(word, Word::Colour { .. } | Word::Site { .. }) { tokens.name() } else { None };
     record.push(word.encode(), name);
     Ok(())
 }
 
+/// A line of words as numbers, with blanks or commas between them.
+fn parse_numbers(tokens: &mut Tokens, first: (usize, &str), record: &mut Record) -> Result<(), TextError> {
+    let mut next = Some(first);
+    while let Some((column, token)) = next {
+        for part in token.split(',').filter(|part| !part.is_empty()) {
+            let wrong =
+                || tokens.error(column, format!("0x and 1 to 8 hexadecimal digits are a word, not '{}'", shown(part)));
+            record.push(raw_number(part).ok_or_else(wrong)?, None);
+        }
+        next = if tokens.is_empty() { None } else { Some(tokens.next("a word")?) };
+    }
+    Ok(())
+}
+
 /// An engine's word that the sheet has no layout.
 fn parse_claim(tokens: &mut Tokens, record: &mut Record) -> Result<(), TextError> {
-    tokens.choice(&[("10", ())])?;
+    let (column, number) = tokens.next("10")?;
+    if number != "10" {
+        return Err(tokens.error(column, format!("of refusals 10 alone is a claim, not '{}'", shown(number))));
+    }
+    if has_layout(&record.words) {
+        return Err(tokens.error(column, "a sheet with a layout can't be refused 10".to_string()));
+    }
     record.claims_no_layout = true;
     Ok(())
 }
@@ -150,7 +169,8 @@ fn parse_colour(tokens: &mut Tokens) -> Result<Word, TextError> {
     Ok(Word::Colour { bound })
 }
 
-fn raw_number(token: &str) -> Option<u32> {
+/// The word that 0x and 1 to 8 hexadecimal digits are.
+pub fn raw_number(token: &str) -> Option<u32> {
     let digits = token.strip_prefix("0x")?;
     let is_number = (1..=8).contains(&digits.len()) && digits.bytes().all(|digit| digit.is_ascii_hexdigit());
     is_number.then(|| u32::from_str_radix(digits, 16).ok()).flatten()

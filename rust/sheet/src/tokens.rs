@@ -95,7 +95,7 @@ impl<'a> Tokens<'a> {
         match self.rest.next() {
             None => Ok(()),
             Some((column, Token::Bare(token))) => {
-                Err(self.error(column, format!("the line should end before '{token}'")))
+                Err(self.error(column, format!("the line should end before '{}'", shown(token))))
             }
             Some((column, Token::Name(_))) => {
                 Err(self.error(column, "a name stands after a colour or a site alone".to_string()))
@@ -107,7 +107,7 @@ impl<'a> Tokens<'a> {
         let names = choices.iter().map(|(name, _)| *name).collect::<Vec<_>>().join(" or ");
         let (column, token) = self.next(&names)?;
         let found = choices.iter().find(|(name, _)| *name == token).map(|(_, value)| *value);
-        found.ok_or_else(|| self.error(column, format!("{names} should stand here, not '{token}'")))
+        found.ok_or_else(|| self.error(column, format!("{names} should stand here, not '{}'", shown(token))))
     }
 
     /// A number after its name.
@@ -124,7 +124,7 @@ impl<'a> Tokens<'a> {
         match word(number).checked_encode() {
             Ok(_) => Ok(number),
             Err(FormError::OutOfRange { least, most, .. }) => {
-                Err(self.error(column, format!("{name} must be from {least} to {most}, not '{token}'")))
+                Err(self.error(column, format!("{name} must be from {least} to {most}, not '{}'", shown(token))))
             }
             Err(other) => Err(self.error(column, other.to_string())),
         }
@@ -133,13 +133,24 @@ impl<'a> Tokens<'a> {
     pub fn small_number(&mut self, name: &str) -> Result<u8, TextError> {
         let (column, token) = self.next(name)?;
         let number = decimal(token).and_then(|number| u8::try_from(number).ok());
-        number.ok_or_else(|| self.error(column, format!("{name} must be from 0 to 255, not '{token}'")))
+        number.ok_or_else(|| self.error(column, format!("{name} must be from 0 to 255, not '{}'", shown(token))))
     }
 }
 
 /// Digits alone, without a sign.
 fn decimal(token: &str) -> Option<u32> {
     token.bytes().all(|digit| digit.is_ascii_digit()).then(|| token.parse().ok()).flatten()
+}
+
+/// A token for a message: no control characters, and its front alone if it is long.
+pub fn shown(token: &str) -> String {
+    const MOST: usize = 40;
+    let front: String = token.chars().take(MOST).flat_map(char::escape_debug).collect();
+    if token.chars().count() > MOST {
+        front + ".."
+    } else {
+        front
+    }
 }
 
 /// What stands in the quotes at the front of a text, and the bytes that it takes with them; or the place of an
@@ -150,18 +161,28 @@ fn quoted(text: &str) -> Result<(String, usize), (usize, &'static str)> {
     while let Some((place, character)) = characters.next() {
         match character {
             '"' => return Ok((name, place + 1)),
-            '\\' => match characters.next() {
-                Some((_, '"')) => name.push('"'),
-                Some((_, '\\')) => name.push('\\'),
-                Some((_, 'n')) => name.push('\n'),
-                Some((_, 'r')) => name.push('\r'),
-                Some((_, 't')) => name.push('\t'),
-                _ => return Err((place, "after a backslash stands \", \\, n, r or t")),
-            },
+            '\\' => name.push(escaped(&mut characters).ok_or((place, ESCAPES))?),
             other => name.push(other),
         }
     }
     Err((text.len(), "the name's closing quote is missing"))
+}
+
+const ESCAPES: &str = "after a backslash stands \", \\, n, r, t or u{..}";
+
+/// The character that stands after a backslash.
+fn escaped(characters: &mut impl Iterator<Item = (usize, char)>) -> Option<char> {
+    match characters.next()?.1 {
+        'n' => Some('\n'),
+        'r' => Some('\r'),
+        't' => Some('\t'),
+        'u' => {
+            characters.next().filter(|(_, brace)| *brace == '{')?;
+            let digits: String = characters.map(|(_, digit)| digit).take_while(|digit| *digit != '}').collect();
+            u32::from_str_radix(&digits, 16).ok().and_then(char::from_u32)
+        }
+        itself => matches!(itself, '"' | '\\').then_some(itself),
+    }
 }
 
 /// A name in quotes, as `quoted` reads it.
@@ -174,6 +195,7 @@ pub fn quote(name: &str) -> String {
             '\n' => text.push_str("\\n"),
             '\r' => text.push_str("\\r"),
             '\t' => text.push_str("\\t"),
+            control if control.is_control() => text.push_str(&format!("\\u{{{:X}}}", control as u32)),
             other => text.push(other),
         }
     }
