@@ -2,11 +2,13 @@
 
 mod arguments;
 mod commands;
+mod corpus;
 mod exit;
 mod help;
 mod input;
 mod output;
 mod progress;
+mod shard;
 mod subcommand;
 
 use arguments::Arguments;

@@ -11,6 +11,16 @@ impl Random {
         Random(seed)
     }
 
+    /// A stream of its own for each list of numbers.
+    pub fn of(numbers: &[u64]) -> Random {
+        let mut state = 0;
+        for number in numbers {
+            let mut mixed = Random(state ^ number);
+            state = u64::from(mixed.word()) << 32 | u64::from(mixed.word());
+        }
+        Random(state)
+    }
+
     pub fn word(&mut self) -> u32 {
         self.0 = self.0.wrapping_add(0x9E37_79B9_7F4A_7C15);
         let mut mixed = self.0;

@@ -2,5 +2,6 @@
 
 pub mod check;
 pub mod convert;
+pub mod corpus;
 pub mod draw;
 pub mod lay_out;
