@@ -11,7 +11,7 @@ use backbone::Layout;
 use model::nested::MOST_DEPTH;
 use model::rounding::Rounding;
 use model::sheet::Sheet;
-use sheet::{Form, Record};
+use sheet::Record;
 use std::ops::RangeInclusive;
 use std::path::{Path, PathBuf};
 
@@ -165,7 +165,7 @@ fn depth_name(depth: u32) -> String {
 
 fn write_stored(path: &Path, sheet: &Sheet, layout: &Layout) -> Result<(), Failure> {
     let record = Record::of_words([sheet.words(), layout.words()].concat());
-    write_file(path, &sheet::write(&record, Form::Text))
+    write_file(path, sheet::show_record(&record).as_bytes())
 }
 
 /// One depth or a range of them, both ends included.
