@@ -24,11 +24,13 @@
 //!
 //! [`read`], [`make`] and [`judge`] are the library's own operations, on lists of words. [`Sheet`] builds such
 //! lists, [`Layout`] takes answers apart, [`Word`] names the fields of one word. [`labels`] are a layout's used slots,
-//! [`faults`] the places at which it breaks a rule.
+//! [`faults`] the places at which it breaks a rule, [`causes`] the words that a refusal comes from. [`WorkArea`] lays out
+//! many sheets in one area.
 //!
 //! One unit of length is an eighth of a printer's point. x counts from the left edge, heights downwards from the
 //! top.
 
+mod cause;
 mod fault;
 mod label;
 mod layout;
@@ -38,7 +40,9 @@ mod refusal;
 mod rule;
 mod sheet;
 mod word;
+mod work_area;
 
+pub use cause::{causes, Cause};
 pub use fault::{faults, Fault};
 pub use label::{labels, true_numbers, Label};
 pub use layout::{split_stored, Layout};
@@ -47,6 +51,7 @@ pub use refusal::Refusal;
 pub use rule::Rule;
 pub use sheet::{Sheet, Site};
 pub use word::{Aim, FormError, Side, Word};
+pub use work_area::{NotLaidOut, WorkArea};
 
 /// The most slots that a sheet may have.
 pub const MOST_SLOTS: usize = 48;
@@ -54,3 +59,5 @@ pub const MOST_SLOTS: usize = 48;
 pub const MOST_COLOURS: usize = 8;
 /// The most sites that a sheet may have.
 pub const MOST_SITES: usize = 32;
+/// The most that the product of bound plus one over the bounded colours may be.
+pub const MOST_BUDGETS: u64 = 64;
