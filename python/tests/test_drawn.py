@@ -60,6 +60,10 @@ class Drawn(unittest.TestCase):
         self.assertEqual(read([HEAD, 0x30000007, 0x30000007]).budgets, 64)
         self.assert_refused(Refusal.TOO_MANY_BUDGETS, read, [HEAD, 0x30000007, 0x30000008])
 
+    def test_four_bounded_colours(self):
+        self.assertEqual(read([HEAD] + [0x30000000 + bound for bound in (3, 3, 1, 1)]).budgets, 64)
+        self.assert_refused(Refusal.TOO_MANY_BUDGETS, read, [HEAD] + [0x30000000 + bound for bound in (3, 3, 3, 1)])
+
     def test_refusals_of_lists(self):
         self.assert_refused(Refusal.NO_HEAD, read, [])
         self.assert_refused(Refusal.NO_HEAD, judge, [])

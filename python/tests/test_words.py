@@ -8,7 +8,8 @@ from pathlib import Path
 import backbone
 from backbone import Layout, Refusal, Rule, colour, head, site, slot
 
-RUST = Path(__file__).resolve().parents[2] / "rust" / "backbone" / "src"
+ROOT = Path(__file__).resolve().parents[2]
+RUST = ROOT / "rust" / "backbone" / "src"
 
 
 def meanings_in_rust(file):
@@ -60,6 +61,13 @@ class Words(unittest.TestCase):
 
     def test_example(self):
         self.assertEqual(doctest.testmod(backbone)[0], 0)
+
+    def test_lines_of_the_readme(self):
+        text = (ROOT / "README.md").read_text(encoding="utf-8")
+        names = {}
+        for lines in re.findall(r"^```python\n(.*?)^```$", text, re.MULTILINE | re.DOTALL):
+            exec(lines, names)
+        self.assertEqual((names["layout"], names["lawful"]), ((2, 19, (0, 0, 2)), True))
 
 
 if __name__ == "__main__":

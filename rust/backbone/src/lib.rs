@@ -61,3 +61,8 @@ pub const MOST_COLOURS: usize = 8;
 pub const MOST_SITES: usize = 32;
 /// The most that the product of bound plus one over the bounded colours may be.
 pub const MOST_BUDGETS: u64 = 64;
+
+/// The Rust lines of the README, which are compiled and run as those of this crate's own pages are.
+#[cfg(doctest)]
+#[doc = include_str!("../../../README.md")]
+pub struct Readme;

@@ -1,6 +1,6 @@
 //! The library's operations on slices. All code of this crate that is not safe stands here.
 
-use crate::{Layout, Refusal, Rule, MOST_COLOURS, MOST_SITES};
+use crate::{Layout, NotLaidOut, Refusal, Rule, WorkArea, MOST_COLOURS};
 
 /// A colour's label bound (255: unbounded) and its number of sites.
 #[repr(C)]
@@ -136,13 +136,13 @@ pub fn make(sheet: &[u32], work: &mut [u32], answer: &mut [u32]) -> Result<(), R
     refusal(number)
 }
 
-/// Lays out a sheet in areas of its own: the best layout, or one of the refusals 1 to 7 and 10.
+/// Lays out a sheet in areas of its own: the best layout, or one of the refusals 1 to 7 and 10, and 8 where there is
+/// no memory for the work area.
 ///
-/// The work area of the largest sheets is 427 million words; see [`Sizes::work_words`].
+/// The work area of the largest sheets is 427 million words. [`WorkArea`] serves many sheets, and says what it lacks.
 pub fn lay_out(sheet: &[u32]) -> Result<Layout, Refusal> {
-    let sizes = read(sheet)?;
-    let mut work = vec![0; sizes.work_words];
-    let mut answer = [0; MOST_SITES + 1];
-    make(sheet, &mut work, &mut answer)?;
-    Layout::from_words(&answer[..sizes.answer_words()]).ok_or(Refusal::BadLayout)
+    WorkArea::new().lay_out(sheet).map_err(|not_laid_out| match not_laid_out {
+        NotLaidOut::Refused(refusal) => refusal,
+        NotLaidOut::NoMemory { .. } => Refusal::WorkTooShort,
+    })
 }
