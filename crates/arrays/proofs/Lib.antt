@@ -1,3 +1,4 @@
 pub mod Instances
 pub mod Ordered
 pub mod Standing
+pub mod Narrowed
