@@ -174,6 +174,26 @@ fn bad_layout(stored: &[u32]) -> Vec<Cause> {
     causes
 }
 
+impl Cause {
+    /// The sites that it is about.
+    pub fn sites(&self) -> Vec<usize> {
+        match self {
+            Cause::BeyondWidth { site, .. } | Cause::NoSlot { site, .. } => vec![*site],
+            Cause::EqualX { sites, .. } => sites.to_vec(),
+            _ => Vec::new(),
+        }
+    }
+
+    /// The slots that it is about.
+    pub fn slots(&self) -> Vec<usize> {
+        match self {
+            Cause::NotRising { slots, .. } => slots.to_vec(),
+            Cause::NoSlot { slot, .. } => vec![usize::from(*slot)],
+            _ => Vec::new(),
+        }
+    }
+}
+
 /// What is there.
 impl fmt::Display for Cause {
     fn fmt(&self, out: &mut fmt::Formatter) -> fmt::Result {

@@ -1,6 +1,7 @@
 //! The command `backbone`: lays out, checks, draws and converts parts sheets.
 
 mod arguments;
+mod check;
 mod commands;
 mod corpus;
 mod exit;

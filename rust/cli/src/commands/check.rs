@@ -1,33 +1,66 @@
 //! `backbone check`: whether stored sheets have the best layout.
 
-use crate::arguments::Arguments;
+use crate::arguments::{Arguments, Setting};
+use crate::check::{in_order, Counts, Finding, FORMATS};
 use crate::exit::{Exit, Failure};
 use crate::input::sources;
-use crate::output::Output;
+use crate::output::{message, Output};
+use crate::progress::Progress;
 use crate::subcommand::Subcommand;
 
 pub const SUBCOMMAND: Subcommand = Subcommand {
     name: "check",
     operands: "FILE|FOLDER|-...",
     about: "whether stored sheets have the best layout",
-    text: "Judges each stored sheet.",
-    settings: &[],
-    exits: &[(Exit::Done, "no findings"), (Exit::Found, "findings")],
+    text: "\
+Judges each stored sheet, lays its sheet out anew with the proved maker, and compares. A file holds one stored sheet: a
+sheet followed by a layout, or by the line 'refused 10' where its writer found no layout. Of a folder, and of the
+folders in it, every file is taken whose name ends in .txt, .words, .bin or .json. Each sheet has one finding:
+
+    best             the layout is the answer
+    equal            lawful, with the best count and length, but not the first in the order of equals
+    not best         lawful; by how many labels and how much length it is worse
+    unlawful         it breaks a rule; at which sites and slots
+    false no layout  'refused 10', and there is a layout
+    true no layout   'refused 10', and there is none
+    refused N        it is no stored sheet; which words, slots or sites it comes from
+    unreadable       the file can't be read, or there is no memory to lay it out
+
+Findings are told in the order of the files, however many threads there are. A table of counts ends them; with tsv and
+junit, which have no place for it, tsv's goes to standard error.",
+    settings: &[
+        Setting { name: "--format", value: "FORM", about: "text (where it is not given), json, tsv or junit" },
+        Setting { name: "--jobs", value: "N", about: "threads, each with a work area of its own; 1 where not given" },
+    ],
+    exits: &[
+        (Exit::Done, "every sheet is best, equal or truly without a layout"),
+        (Exit::Found, "findings: some sheet is not best, unlawful, refused, or falsely said to have no layout"),
+    ],
     run,
 };
 
+const MOST_JOBS: u64 = 1024;
+
 fn run(arguments: &Arguments, output: &mut Output) -> Result<Exit, Failure> {
-    let mut exit = Exit::Done;
-    for source in sources(&arguments.operands)? {
-        let verdict = match backbone::judge(&source.record()?.words) {
-            Ok(None) => "lawful".to_string(),
-            Ok(Some(rule)) => format!("unlawful, rule {}", rule.number()),
-            Err(refusal) => format!("refused {}", refusal.number()),
-        };
-        if verdict != "lawful" {
-            exit = Exit::Found;
-        }
-        output.text(&format!("{source}: {verdict}\n"))?;
+    let mut format = arguments.choice("--format", &FORMATS)?();
+    let jobs = arguments.number("--jobs", 1, MOST_JOBS)?.unwrap_or(1) as usize;
+    if arguments.operands.is_empty() {
+        return Err(Failure::WrongUse("a file or a folder is missing; - is standard input".to_string()));
     }
-    Ok(exit)
+    let sources = sources(&arguments.operands)?;
+    let progress = Progress::new("check", sources.len() as u64);
+    let mut counts = Counts::default();
+    format.begin(output)?;
+    let told = in_order(&sources, jobs, &mut |checked| {
+        counts.add(&checked);
+        progress.step();
+        if let Finding::Unreadable(failure) = &checked.finding {
+            message(&failure.to_string());
+        }
+        format.sheet(&checked, output)
+    });
+    progress.finish();
+    told?;
+    format.end(&counts, output)?;
+    Ok(counts.exit())
 }

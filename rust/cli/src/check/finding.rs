@@ -1,0 +1,250 @@
+//! What is found of one stored sheet.
+
+use crate::exit::Failure;
+use crate::input::Source;
+use backbone::{causes, faults, judge, split_stored, Cause, Fault, Layout, NotLaidOut, Refusal, Rule, Sheet, WorkArea};
+use sheet::Record;
+use std::fmt;
+
+/// What is found of a stored sheet.
+#[derive(Clone, Debug, PartialEq, Eq)]
+pub enum Finding {
+    /// It is the answer.
+    Best,
+    /// Lawful, with the count and length of the best, but not the first in the order; where it first differs.
+    Equal { site: usize, slot: u8, first: u8 },
+    /// Lawful, and worse than the best.
+    NotBest(Difference),
+    /// It breaks a rule, at these places.
+    Unlawful { rule: Rule, faults: Vec<Fault> },
+    /// Its writer found no layout, and there is one.
+    FalseNoLayout,
+    /// Its writer found no layout, and there is none.
+    TrueNoLayout,
+    /// It is no stored sheet.
+    Refused { refusal: Refusal, causes: Vec<Cause> },
+    /// It can't be read, or there is no memory to lay it out.
+    Unreadable(Failure),
+}
+
+/// By how much a layout has more than the best one; less than 0 where it has less.
+#[derive(Clone, Copy, Debug, PartialEq, Eq)]
+pub struct Difference {
+    pub labels: i64,
+    pub length: i64,
+}
+
+impl Difference {
+    fn of(given: &Layout, best: &Layout) -> Difference {
+        let more = |given: u32, best: u32| i64::from(given) - i64::from(best);
+        Difference { labels: more(given.labels, best.labels), length: more(given.length, best.length) }
+    }
+
+    /// A unit is an eighth of a point.
+    pub fn points(&self) -> f64 {
+        self.length as f64 / 8.0
+    }
+
+    /// A point is 1/72 of an inch, an inch 25.4 millimetres.
+    pub fn millimetres(&self) -> f64 {
+        self.points() * 25.4 / 72.0
+    }
+}
+
+impl fmt::Display for Difference {
+    fn fmt(&self, out: &mut fmt::Formatter) -> fmt::Result {
+        let than = |number: i64, more: &'static str, less: &'static str| if number < 0 { less } else { more };
+        let labels = self.labels.unsigned_abs();
+        let noun = if labels == 1 { "label" } else { "labels" };
+        if self.labels != 0 {
+            write!(out, "{labels} {noun} {}, ", than(self.labels, "more", "fewer"))?;
+        }
+        let (length, units) = (self.length.unsigned_abs(), if self.length.abs() == 1 { "unit" } else { "units" });
+        let (points, millimetres) = (self.points().abs(), self.millimetres().abs());
+        write!(out, "{length} {units} ({points} points, {millimetres:.3} mm) ")?;
+        out.write_str(than(self.length, "longer", "shorter"))
+    }
+}
+
+impl Finding {
+    /// The name, one of eight.
+    pub fn name(&self) -> &'static str {
+        match self {
+            Finding::Best => "best",
+            Finding::Equal { .. } => "equal",
+            Finding::NotBest(_) => "not best",
+            Finding::Unlawful { .. } => "unlawful",
+            Finding::FalseNoLayout => "false no layout",
+            Finding::TrueNoLayout => "true no layout",
+            Finding::Refused { .. } => "refused",
+            Finding::Unreadable(_) => "unreadable",
+        }
+    }
+
+    /// All names, in the order of the table.
+    pub const NAMES: [&'static str; 8] =
+        ["best", "equal", "not best", "unlawful", "false no layout", "true no layout", "refused", "unreadable"];
+
+    /// Whether the engine that wrote the sheet is at fault. An equal is not: it has the best count and length.
+    pub fn is_fault(&self) -> bool {
+        match self {
+            Finding::NotBest(_) | Finding::Unlawful { .. } | Finding::FalseNoLayout | Finding::Refused { .. } => true,
+            Finding::Best | Finding::Equal { .. } | Finding::TrueNoLayout | Finding::Unreadable(_) => false,
+        }
+    }
+
+    /// The sites that it names.
+    pub fn sites(&self) -> Vec<usize> {
+        match self {
+            Finding::Equal { site, .. } => vec![*site],
+            Finding::Unlawful { faults, .. } => united(faults.iter().flat_map(Fault::sites)),
+            Finding::Refused { causes, .. } => united(causes.iter().flat_map(Cause::sites)),
+            _ => Vec::new(),
+        }
+    }
+
+    /// The slots that it names.
+    pub fn slots(&self) -> Vec<usize> {
+        match self {
+            Finding::Unlawful { faults, .. } => united(faults.iter().flat_map(Fault::slots)),
+            Finding::Refused { causes, .. } => united(causes.iter().flat_map(Cause::slots)),
+            _ => Vec::new(),
+        }
+    }
+}
+
+fn united(numbers: impl Iterator<Item = usize>) -> Vec<usize> {
+    let mut numbers: Vec<usize> = numbers.collect();
+    numbers.sort_unstable();
+    numbers.dedup();
+    numbers
+}
+
+/// A stored sheet that was checked.
+#[derive(Clone, Debug, PartialEq, Eq)]
+pub struct Checked {
+    pub source: Source,
+    pub record: Record,
+    /// The layout that it has.
+    pub given: Option<Layout>,
+    /// The best layout of its sheet; none where there is none, and where the sheet is refused.
+    pub best: Option<Layout>,
+    pub finding: Finding,
+}
+
+impl Checked {
+    /// The finding in words, with all that is known of it.
+    pub fn text(&self) -> String {
+        let best = self.best.as_ref().map_or("the sheet has no layout".to_string(), |best| format!("best: {best}"));
+        match &self.finding {
+            Finding::Best | Finding::TrueNoLayout => String::new(),
+            Finding::Equal { site, slot, first } => {
+                format!("site {site} has slot {slot}, in the first of the equals slot {first}")
+            }
+            Finding::NotBest(difference) => format!("{difference}; {best}"),
+            Finding::Unlawful { rule, faults } => format!("rule {}: {}; {best}", rule.number(), listed(faults)),
+            Finding::FalseNoLayout => best,
+            Finding::Refused { refusal, causes } if causes.is_empty() => refusal.to_string(),
+            Finding::Refused { refusal, causes } => format!("{refusal}: {}", listed(causes)),
+            Finding::Unreadable(failure) => failure.to_string(),
+        }
+    }
+
+    /// The name of the finding, with a refusal's number.
+    pub fn heading(&self) -> String {
+        match &self.finding {
+            Finding::Refused { refusal, .. } => format!("refused {}", refusal.number()),
+            finding => finding.name().to_string(),
+        }
+    }
+}
+
+/// The first few of a list, and how many more there are.
+fn listed<T: fmt::Display>(items: &[T]) -> String {
+    const MOST: usize = 4;
+    let mut shown: Vec<String> = items.iter().take(MOST).map(T::to_string).collect();
+    if items.len() > MOST {
+        shown.push(format!("and {} more", items.len() - MOST));
+    }
+    shown.join("; ")
+}
+
+/// Checks stored sheets in one work area.
+#[derive(Default)]
+pub struct Checker {
+    area: WorkArea,
+}
+
+impl Checker {
+    /// What a source holds, checked.
+    pub fn source(&mut self, source: &Source) -> Checked {
+        match source.record() {
+            Ok(record) => self.record(source.clone(), record),
+            Err(failure) => Checked {
+                source: source.clone(),
+                record: Record::default(),
+                given: None,
+                best: None,
+                finding: Finding::Unreadable(failure),
+            },
+        }
+    }
+
+    /// A record, checked.
+    pub fn record(&mut self, source: Source, record: Record) -> Checked {
+        let (sheet_words, layout_words) = split_stored(&record.words);
+        let given = Layout::from_words(layout_words);
+        let (best, finding) = match self.area.lay_out(sheet_words) {
+            Err(NotLaidOut::Refused(refusal)) if refusal != Refusal::NoLayout => (None, refused(sheet_words, refusal)),
+            Err(stopped @ NotLaidOut::NoMemory { .. }) => {
+                (None, Finding::Unreadable(Failure::about(&source, &stopped)))
+            }
+            laid_out => {
+                let best = laid_out.ok();
+                let finding = finding(&source, &record, given.as_ref(), best.as_ref());
+                (best, finding)
+            }
+        };
+        Checked { source, record, given, best, finding }
+    }
+}
+
+fn refused(words: &[u32], refusal: Refusal) -> Finding {
+    Finding::Refused { refusal, causes: causes(words, refusal) }
+}
+
+/// What is found of an accepted sheet whose best layout is known, none where there is none.
+fn finding(source: &Source, record: &Record, given: Option<&Layout>, best: Option<&Layout>) -> Finding {
+    if record.claims_no_layout {
+        return if best.is_some() { Finding::FalseNoLayout } else { Finding::TrueNoLayout };
+    }
+    match (judge(&record.words), given, best) {
+        (Err(refusal), _, _) => refused(&record.words, refusal),
+        (Ok(Some(rule)), Some(given), _) => unlawful(&record.words, given, rule),
+        (Ok(None), Some(given), Some(best)) => compared(&record.words, given, best),
+        // The library judged a layout lawful, and found none for its sheet; or judged one that is not there.
+        (Ok(_), _, _) => Finding::Unreadable(Failure::about(source, &"the judge and the maker contradict each other")),
+    }
+}
+
+fn unlawful(words: &[u32], given: &Layout, rule: Rule) -> Finding {
+    let faults = match Sheet::from_words(split_stored(words).0) {
+        Ok(sheet) => faults(&sheet, given, rule),
+        Err(_) => Vec::new(),
+    };
+    Finding::Unlawful { rule, faults }
+}
+
+/// A lawful layout beside the best one.
+fn compared(words: &[u32], given: &Layout, best: &Layout) -> Finding {
+    let difference = Difference::of(given, best);
+    if difference != (Difference { labels: 0, length: 0 }) {
+        return Finding::NotBest(difference);
+    }
+    let sites = Sheet::from_words(split_stored(words).0).map_or_else(|_| Vec::new(), |sheet| sheet.sites().to_vec());
+    let differing = (0..sites.len()).filter(|site| given.slots[*site] != best.slots[*site]);
+    match differing.min_by_key(|site| sites[*site].x) {
+        None => Finding::Best,
+        Some(site) => Finding::Equal { site, slot: given.slots[site], first: best.slots[site] },
+    }
+}
