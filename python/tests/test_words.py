@@ -1,9 +1,11 @@
 """The words of a sheet from their fields, and the meanings of numbers, which the Rust crate has too."""
 
 import doctest
+import inspect
 import re
 import unittest
 from pathlib import Path
+from typing import get_type_hints
 
 import backbone
 from backbone import Layout, Refusal, Rule, colour, head, site, slot
@@ -58,6 +60,12 @@ class Words(unittest.TestCase):
     def test_meanings_are_those_of_rust(self):
         self.assertEqual(in_rust(Refusal), meanings_in_rust("refusal.rs"))
         self.assertEqual(in_rust(Rule), meanings_in_rust("rule.rs"))
+
+    def test_every_open_function_is_typed(self):
+        for function in (backbone.read, backbone.make, backbone.judge, head, slot, colour, site, Layout.from_words, Layout.words):
+            with self.subTest(function=function.__name__):
+                names = [name for name in inspect.signature(function).parameters if name != "self"]
+                self.assertEqual(sorted(get_type_hints(function)), sorted(names + ["return"]))
 
     def test_example(self):
         self.assertEqual(doctest.testmod(backbone)[0], 0)
