@@ -1,53 +1,117 @@
 //! A sheet and its layout as an SVG picture.
 //!
 //! ```
+//! use draw::Options;
 //! let words = sheet::encode("
 //!     head one-sided fewest gap 2 width 8
 //!     slot 2
 //!     colour unbounded
 //!     site 6 4
 //! ").unwrap();
-//! let picture = draw::picture(&words, None).unwrap();
+//! let sheet = backbone::Sheet::from_words(&words).unwrap();
+//! let layout = sheet.lay_out().unwrap();
+//! let picture = draw::picture(&sheet, Some(&layout), &Options::default()).unwrap();
 //! assert!(picture.starts_with("<svg "));
 //! ```
+//!
+//! A picture is true to scale: one scale holds for x and y, and its size is in millimetres. The strokes are given in
+//! the sheet's own units. No two texts overlap. It has neither scripts nor styles nor ids, so that any number of
+//! pictures may stand in one page.
 
+mod area;
+mod balloons;
+mod column;
 pub mod examples;
 mod frame;
+mod heading;
+mod marks;
+mod page;
+mod paint;
 mod parts;
 mod plan;
-pub mod rounded;
+mod rounded;
+mod scale;
+mod spread;
+mod strokes;
+mod text;
 
-pub use plan::Plan;
+pub use plan::sheet_and_layout;
+pub use rounded::{rounded, CannotRound};
+pub use scale::millimetres;
 
-use backbone::Refusal;
-use frame::{document, Panel};
+use backbone::{Layout, Refusal, Sheet};
+use page::{document, Panel};
+use plan::Plan;
+use sheet::Names;
 
-/// The picture of a stored sheet, or of a sheet by laying it out first. `background` is drawn below it: the
-/// inside of an SVG picture whose unit is the sheet's.
-pub fn picture(words: &[u32], background: Option<&str>) -> Result<String, Refusal> {
-    let plan = Plan::of_words(words)?;
-    Ok(document(&[Panel { plan: &plan, title: None }], background))
+/// What a picture shows besides the sheet and the layout.
+#[derive(Clone, Debug, Default)]
+pub struct Options {
+    pub names: Names,
+    /// The heading, in place of the count and the length.
+    pub title: Option<String>,
+    /// Sentences below the heading.
+    pub remarks: Vec<String>,
+    /// Sites that are marked.
+    pub marked: Vec<usize>,
+    /// The inside of an SVG picture in the sheet's units, drawn below the sheet.
+    pub background: Option<String>,
+    /// Whether heights have a scale of their own. The picture is not true to scale then, and says so.
+    pub is_stretched: bool,
 }
 
-/// Two pictures side by side: the best layout, and the one that lengths rounded at each cut give.
-pub fn rounded_picture(words: &[u32]) -> Result<String, Refusal> {
-    let best = Plan::of_words(words)?;
-    let rounded = rounded::lay_out(&best.sheet).ok_or(Refusal::NoLayout)?;
-    let points = |length: u32| f64::from(length) / 8.0;
-    let best_layout = best.layout.as_ref().ok_or(Refusal::NoLayout)?;
-    let best_title = format!(
-        "exact: {} units, {} points ({:.1} when rounded at each cut)",
-        best_layout.length,
-        points(best_layout.length),
-        rounded::points_of(&best.sheet, best_layout)
-    );
-    let rounded_title = format!(
-        "rounded to tenths at each cut: {:.1} points; in truth {} units, {}",
-        rounded::points_of(&best.sheet, &rounded),
-        rounded.length,
-        points(rounded.length)
-    );
-    let second = Plan::of_layout(best.sheet.clone(), rounded);
-    let panels = [Panel { plan: &best, title: Some(best_title) }, Panel { plan: &second, title: Some(rounded_title) }];
-    Ok(document(&panels, None))
+/// The picture of a sheet with a layout, or of a sheet that is known to have none. A sheet that the reader does not
+/// accept is refused, and so is a layout that is not in form.
+pub fn picture(sheet: &Sheet, layout: Option<&Layout>, options: &Options) -> Result<String, Refusal> {
+    let plan = Plan::of(sheet, layout)?;
+    let panel = Panel {
+        plan: &plan,
+        title: options.title.clone(),
+        remarks: options.remarks.clone(),
+        marked: options.marked.clone(),
+    };
+    Ok(document(&[panel], options))
+}
+
+/// A layout with a title, to be shown beside another one. Without a layout the title says who claims that there is none.
+#[derive(Clone, Debug)]
+pub struct Side<'a> {
+    pub title: &'a str,
+    pub layout: Option<&'a Layout>,
+}
+
+/// Two layouts of one sheet side by side. Ties that differ are marked in both.
+pub fn compare(sheet: &Sheet, sides: [Side; 2], options: &Options) -> Result<String, Refusal> {
+    let plans = [Plan::of(sheet, sides[0].layout)?, Plan::of(sheet, sides[1].layout)?];
+    let marked = differing(sides[0].layout, sides[1].layout);
+    let panels: Vec<Panel> = plans.iter().zip(&sides).map(|(plan, side)| plan.panel(side, &marked)).collect();
+    Ok(document(&panels, options))
+}
+
+/// The sites that two layouts tie to different slots.
+fn differing(one: Option<&Layout>, other: Option<&Layout>) -> Vec<usize> {
+    match (one, other) {
+        (Some(one), Some(other)) => {
+            let ties = one.slots.iter().zip(&other.slots).enumerate();
+            ties.filter(|(_, (one, other))| one != other).map(|(site, _)| site).collect()
+        }
+        _ => Vec::new(),
+    }
+}
+
+/// A coordinate with at most two decimal places.
+fn number(coordinate: f64) -> String {
+    let digits = format!("{coordinate:.2}");
+    let short = digits.trim_end_matches('0').trim_end_matches('.');
+    if short == "-0" { "0" } else { short }.to_string()
+}
+
+/// `site 3`, `sites 1, 3 and 5`.
+fn listed_sites(sites: &[usize]) -> String {
+    let numbers: Vec<String> = sites.iter().map(usize::to_string).collect();
+    match numbers.split_last() {
+        Some((last, [])) => format!("site {last}"),
+        Some((last, rest)) => format!("sites {} and {last}", rest.join(", ")),
+        None => "no site".to_string(),
+    }
 }

@@ -1,6 +1,8 @@
 //! What is drawn: a sheet, its layout if there is one, its labels, and the judge's verdict.
 
-use backbone::{faults, judge, labels, lay_out, split_stored, Fault, Label, Layout, Refusal, Rule, Sheet};
+use crate::page::Panel;
+use crate::{listed_sites, Side};
+use backbone::{faults, judge, labels, lay_out, read, split_stored, Fault, Label, Layout, Refusal, Rule, Sheet};
 
 pub struct Plan {
     pub sheet: Sheet,
@@ -11,30 +13,44 @@ pub struct Plan {
 }
 
 impl Plan {
-    /// A stored sheet as it is; a sheet alone with the library's layout, or with none where it has none.
-    pub fn of_words(words: &[u32]) -> Result<Plan, Refusal> {
-        let (sheet_words, layout_words) = split_stored(words);
-        let sheet = Sheet::from_words(sheet_words)?;
-        if !layout_words.is_empty() {
-            judge(words)?;
-            let layout = Layout::from_words(layout_words).ok_or(Refusal::BadLayout)?;
-            return Ok(Plan::of_layout(sheet, layout));
-        }
-        match lay_out(sheet_words) {
-            Ok(layout) => Ok(Plan::of_layout(sheet, layout)),
-            Err(Refusal::NoLayout) => {
-                Ok(Plan { sheet, layout: None, labels: Vec::new(), broken: None, faults: Vec::new() })
-            }
-            Err(refusal) => Err(refusal),
-        }
+    pub fn of(sheet: &Sheet, layout: Option<&Layout>) -> Result<Plan, Refusal> {
+        let words = sheet.words();
+        let Some(layout) = layout else {
+            read(&words)?;
+            return Ok(Plan {
+                sheet: sheet.clone(),
+                layout: None,
+                labels: Vec::new(),
+                broken: None,
+                faults: Vec::new(),
+            });
+        };
+        let broken = judge(&[words, layout.words()].concat())?;
+        let labels = labels(sheet, layout);
+        let faults = broken.map_or_else(Vec::new, |rule| faults(sheet, layout, rule));
+        Ok(Plan { sheet: sheet.clone(), layout: Some(layout.clone()), labels, broken, faults })
     }
 
-    /// A layout of the sheet, one tie to a slot of it for each site.
-    pub fn of_layout(sheet: Sheet, layout: Layout) -> Plan {
-        let stored = [sheet.words(), layout.words()].concat();
-        let broken = judge(&stored).expect("a layout of an accepted sheet");
-        let labels = labels(&sheet, &layout);
-        let faults = broken.map_or_else(Vec::new, |rule| faults(&sheet, &layout, rule));
-        Plan { sheet, layout: Some(layout), labels, broken, faults }
+    /// One side of a comparison.
+    pub fn panel(&self, side: &Side, marked: &[usize]) -> Panel<'_> {
+        let remarks = match marked {
+            [] => Vec::new(),
+            _ => vec![format!("ties that differ: {}", listed_sites(marked))],
+        };
+        Panel { plan: self, title: Some(side.title.to_string()), remarks, marked: marked.to_vec() }
+    }
+}
+
+/// The sheet and the layout of a stored sheet; of a sheet alone the library's layout, or none where it has none.
+pub fn sheet_and_layout(words: &[u32]) -> Result<(Sheet, Option<Layout>), Refusal> {
+    let (sheet_words, layout_words) = split_stored(words);
+    let sheet = Sheet::from_words(sheet_words)?;
+    if !layout_words.is_empty() {
+        return Ok((sheet, Some(Layout::from_words(layout_words).ok_or(Refusal::BadLayout)?)));
+    }
+    match lay_out(sheet_words) {
+        Ok(layout) => Ok((sheet, Some(layout))),
+        Err(Refusal::NoLayout) => Ok((sheet, None)),
+        Err(refusal) => Err(refusal),
     }
 }

@@ -1,14 +1,13 @@
-//! The pictures of the examples are those that the code draws; what the judge finds is marked.
+//! Pictures are held to the layouts that they show, stroke by stroke, and to what they promise a reader.
 
-use backbone::{judge, Layout, Sheet};
-use draw::{examples, rounded, Plan};
-use model::random::{small_sheet, Random};
-use model::rules::{layout_words, Ties};
-use std::path::PathBuf;
+mod common;
 
-fn folder() -> PathBuf {
-    PathBuf::from(env!("CARGO_MANIFEST_DIR")).join("../../examples")
-}
+use backbone::{judge, Layout, Rule, Sheet};
+use common::{elements, example_names, example_picture, folder, hold_texts_apart, strokes, Element};
+use draw::{compare, examples, picture, sheet_and_layout, Options, Side};
+use model::random::{sheet_of, small_sheet, Random, Shape};
+use model::rules::layout_words;
+use model::sheet::read;
 
 #[test]
 fn examples_are_as_drawn() {
@@ -16,75 +15,282 @@ fn examples_are_as_drawn() {
     assert!(files.len() >= 24, "a dozen sheets, as words and as pictures: {}", files.len());
     for (path, content) in files {
         let stored = std::fs::read_to_string(&path).unwrap_or_default();
-        assert!(stored == content, "{} is not as drawn: run `draw --all examples`", path.display());
+        assert!(stored == content, "{} is not as drawn: run `backbone draw --all examples`", path.display());
     }
 }
 
-#[test]
-fn rounding_at_each_cut_goes_wrong() {
-    let text = std::fs::read_to_string(folder().join("rounding.txt")).unwrap();
-    let words = sheet::encode(&text).unwrap();
-    let sheet = Sheet::from_words(&words).unwrap();
-    let (best, rounded) = (sheet.lay_out().unwrap(), rounded::lay_out(&sheet).unwrap());
-    assert_eq!(judge(&[words, rounded.words()].concat()), Ok(None), "it is lawful");
-    assert!(rounded.length > best.length);
-    assert!(rounded::points_of(&sheet, &rounded) <= rounded::points_of(&sheet, &best));
-}
-
-/// Where nothing is rounded away, the rounding maker has the best length: its steps are the right ones.
-#[test]
-fn rounding_alone_goes_wrong() {
-    let mut random = Random::new(81);
-    let mut laid_out = 0;
-    for _ in 0..3_000 {
-        let mut sheet = small_sheet(&mut random);
-        if sheet.width > 1000 {
-            continue;
+/// The strokes that a layout asks for, by the definitions of document 01.
+fn wanted(words: &[u32], slots: &[u8]) -> (Vec<[u32; 4]>, Vec<[u32; 4]>) {
+    let sheet = read(backbone::split_stored(words).0).unwrap();
+    let tied = || sheet.sites.iter().zip(slots.iter().map(|slot| sheet.slots[usize::from(*slot)]));
+    let mut drops: Vec<[u32; 4]> = tied().map(|(site, height)| [site.x, site.y, site.x, height]).collect();
+    let mut backbones: Vec<[u32; 4]> = Vec::new();
+    for (slot, height) in sheet.slots.iter().enumerate() {
+        let own = sheet.sites.iter().zip(slots).filter(|(_, own)| usize::from(**own) == slot);
+        if let Some(least) = own.map(|(site, _)| site.x).min() {
+            let left = if sheet.two_sided { 0 } else { least };
+            backbones.push([left, *height, sheet.width, *height]);
         }
-        sheet.two_sided = false;
-        sheet.bounds.fill(255);
-        // Four units are five tenths of a point.
-        sheet.width *= 4;
-        sheet.gap *= 4;
-        sheet.slots.iter_mut().for_each(|height| *height *= 4);
-        sheet.sites.iter_mut().for_each(|site| (site.x, site.y) = (site.x * 4, site.y * 4));
-        let built = Sheet::from_words(&sheet.words()).unwrap();
-        let best = built.lay_out().ok();
-        let rounded = rounded::lay_out(&built);
-        let numbers = |layout: &Layout| (layout.labels, layout.length);
-        assert_eq!(rounded.as_ref().map(numbers), best.as_ref().map(numbers), "{sheet:?}");
-        laid_out += usize::from(best.is_some());
     }
-    assert!(laid_out > 500, "{laid_out}");
+    drops.sort_unstable();
+    backbones.sort_unstable();
+    (backbones, drops)
+}
+
+/// Both panels of a picture, or the one.
+fn hold_strokes(name: &str, panel: &[Element], words: &[u32], slots: &[u8]) {
+    let (backbones, drops) = wanted(words, slots);
+    assert_eq!(strokes(panel, "backbone"), backbones, "{name}");
+    assert_eq!(strokes(panel, "drop"), drops, "{name}");
 }
 
 #[test]
-fn every_broken_rule_has_its_place() {
-    let mut random = Random::new(82);
+fn examples_have_the_strokes_of_their_layouts() {
+    let mut seen = 0;
+    for name in example_names() {
+        let record = sheet::parse(&std::fs::read_to_string(folder().join(&name).with_extension("txt")).unwrap());
+        let words = record.unwrap().words;
+        let (_, layout) = sheet_and_layout(&words).unwrap();
+        let elements = elements(&example_picture(&name));
+        // A comparison has a frame for each panel; the first is the best layout's.
+        let frames: Vec<usize> = (0..elements.len()).filter(|index| elements[*index].is("frame")).collect();
+        let end = frames.get(1).copied().unwrap_or(elements.len());
+        match &layout {
+            Some(layout) => hold_strokes(&name, &elements[..end], &words, &layout.slots),
+            None => assert!(strokes(&elements, "backbone").is_empty() && strokes(&elements, "drop").is_empty()),
+        }
+        seen += strokes(&elements[..end], "drop").len();
+    }
+    assert!(seen >= 50, "{seen}");
+}
+
+/// A unit is 25.4/576 mm on paper, and as many times as large in the picture as that says.
+#[test]
+fn pictures_are_true_to_scale() {
+    for name in example_names() {
+        let picture = example_picture(&name);
+        let elements = elements(&picture);
+        let view: Vec<f64> = elements[0].text("viewBox").split(' ').map(|number| number.parse().unwrap()).collect();
+        let in_pixel = elements[0].number("width") / view[2];
+        assert!((in_pixel - elements[0].number("height") / view[3]).abs() < 1e-5, "{name}");
+        let said = common::text_boxes(&picture)
+            .into_iter()
+            .find_map(|(words, _)| Some(words.split_once("drawn ")?.1.to_string()));
+        let (times, one) = said.as_deref().and_then(|said| said.split_once(" : ")).expect("a scale");
+        let times = times.parse::<f64>().unwrap() / one.parse::<f64>().unwrap();
+        let scales: Vec<&str> = picture.split(" scale(").skip(1).map(|rest| rest.split(')').next().unwrap()).collect();
+        for scale in scales {
+            let millimetres = scale.parse::<f64>().unwrap() * in_pixel;
+            assert!((millimetres / (times * 25.4 / 576.0) - 1.0).abs() < 1e-4, "{name}: {millimetres} and {times}");
+        }
+    }
+}
+
+/// The scale bar is as long as it says: its pixels, in millimetres of the sheet.
+#[test]
+fn scale_bars_are_true() {
+    for name in example_names() {
+        let picture = example_picture(&name);
+        let elements = elements(&picture);
+        let bar = elements.iter().find(|element| element.is("bar")).expect("a scale bar");
+        let pixels: f64 = bar.text("d").split('h').nth(1).unwrap().split('m').next().unwrap().parse().unwrap();
+        let (words, _) =
+            common::text_boxes(&picture).into_iter().find(|(words, _)| words.contains(" mm, drawn")).unwrap();
+        let (millimetres, rest) = words.split_once(" mm, drawn ").unwrap();
+        let (times, one) = rest.split_once(" : ").unwrap();
+        let times = times.parse::<f64>().unwrap() / one.parse::<f64>().unwrap();
+        let wanted = millimetres.parse::<f64>().unwrap() * times * 96.0 / 25.4;
+        assert!((pixels - wanted).abs() < 0.01, "{name}: {pixels} {wanted}");
+    }
+}
+
+#[test]
+fn texts_of_examples_do_not_overlap() {
+    example_names().iter().for_each(|name| hold_texts_apart(&example_picture(name)));
+}
+
+/// A sheet with 32 sites and a layout with 21 labels: sites on their backbones, which are `apart` units apart.
+fn crowded(width: u32, apart: u32, x: impl Fn(u32) -> u32) -> (Sheet, Layout) {
+    let mut text = format!("head one-sided fewest gap 1 width {width}\n");
+    (0..21).for_each(|slot| text += &format!("slot {}\n", 5 + slot * apart));
+    // Slot and colour go together, so that the layout is lawful; each eighth slot has the same colour.
+    let mut sites: Vec<(u32, u32, u32)> = (0..32).map(|site| (site % 21 % 8, x(site), site % 21)).collect();
+    sites.sort_unstable();
+    for colour in 0..8 {
+        text += &format!("colour unbounded \"kind {colour}\"\n");
+        let own = sites.iter().filter(|(its, _, _)| *its == colour);
+        own.for_each(|(_, x, slot)| text += &format!("site {x} {}\n", 5 + slot * apart));
+    }
+    let sheet = Sheet::from_words(&sheet::encode(&text).unwrap()).unwrap();
+    let slots = sites.iter().map(|(_, _, slot)| *slot as u8).collect();
+    let mut layout = Layout { labels: 21, length: 0, slots };
+    layout.length = backbone::true_numbers(&backbone::labels(&sheet, &layout)).1;
+    (sheet, layout)
+}
+
+fn names_of(sheet: &Sheet) -> sheet::Names {
+    let names = |count: usize, what: &str| -> Vec<Option<String>> {
+        (0..count).map(|number| Some(format!("the {what} of number {number}"))).collect()
+    };
+    sheet::Names { colours: names(sheet.bounds().len(), "kind"), sites: names(sheet.sites().len(), "part") }
+}
+
+#[test]
+fn texts_of_32_sites_and_21_labels_do_not_overlap() {
+    let crowds = [
+        crowded(1600, 40, |site| 40 + site * 47),
+        // All backbones and sites within a few pixels of each other: flat, narrow, and in a corner.
+        crowded(16383, 1, |site| site),
+        crowded(16383, 2, |site| 16383 - site),
+        crowded(31, 800, |site| site),
+        crowded(31, 1, |site| site),
+        crowded(16383, 700, |site| 8000 + site),
+    ];
+    for (sheet, layout) in crowds {
+        assert_eq!(judge(&[sheet.words(), layout.words()].concat()), Ok(None), "it is lawful");
+        for is_stretched in [false, true] {
+            let options = Options { names: names_of(&sheet), is_stretched, ..Options::default() };
+            let drawn = picture(&sheet, Some(&layout), &options).unwrap();
+            hold_texts_apart(&drawn);
+            let elements = elements(&drawn);
+            assert_eq!(strokes(&elements, "backbone").len(), 21);
+            assert_eq!(elements.iter().filter(|element| element.is("site")).count(), 32);
+            hold_strokes("crowd", &elements, &sheet.words(), &layout.slots);
+        }
+    }
+}
+
+/// Stored sheets with any ties, broken rules and all.
+#[test]
+fn texts_of_any_layout_do_not_overlap() {
+    let mut random = Random::new(83);
+    for round in 0..300 {
+        let shape = Shape {
+            slots: random.between(1, 48) as usize,
+            colours: random.between(1, 8) as usize,
+            sites: random.between(0, 32) as usize,
+            width: random.pick(&[31, 100, 255, 1600, 16383]),
+            gap: random.between(1, 40),
+            height: random.pick(&[60, 400, 900, 16383]),
+        };
+        let plain = sheet_of(shape, &mut random);
+        let slot_of: Vec<usize> = plain.sites.iter().map(|_| random.below(shape.slots as u32) as usize).collect();
+        let words = [plain.words(), layout_words(&plain, &slot_of)].concat();
+        let (sheet, layout) = sheet_and_layout(&words).unwrap();
+        let options = Options { names: names_of(&sheet), is_stretched: round % 3 == 0, ..Options::default() };
+        let drawn = picture(&sheet, layout.as_ref(), &options).unwrap();
+        hold_texts_apart(&drawn);
+        hold_strokes("any", &elements(&drawn), &words, &layout.unwrap().slots);
+    }
+}
+
+#[test]
+fn a_picture_may_stand_in_any_page() {
+    for name in example_names() {
+        let picture = example_picture(&name);
+        assert!(!picture.contains(" id=") && !picture.contains("<script") && !picture.contains("<style"), "{name}");
+        assert!(!picture.contains("href") && !picture.contains("url("), "{name}");
+        assert!(picture.len() < 40_000, "{name} is small: {}", picture.len());
+    }
+}
+
+#[test]
+fn names_are_escaped_and_shown() {
+    let text = "head one-sided fewest gap 2 width 8\nslot 2\ncolour unbounded \"nuts & <bolts>\"\nsite 6 4 \"a 'b' \\\"c\\\"\"\n";
+    let record = sheet::parse(text).unwrap();
+    let (sheet, layout) = sheet_and_layout(&record.words).unwrap();
+    let mut options = Options { names: record.names, ..Options::default() };
+    let drawn = picture(&sheet, layout.as_ref(), &options).unwrap();
+    let texts: Vec<String> = common::text_boxes(&drawn).into_iter().map(|(words, _)| words).collect();
+    assert!(texts.iter().any(|words| words == "nuts &amp; &lt;bolts&gt;"), "{texts:?}");
+    assert!(texts.iter().any(|words| words == "a &#39;b&#39; &quot;c&quot;"), "{texts:?}");
+    options.names.sites[0] = Some("bell \u{7} and \u{FFFF}".to_string());
+    let drawn = picture(&sheet, layout.as_ref(), &options).unwrap();
+    assert!(drawn.contains("bell \u{FFFD} and \u{FFFD}"), "what XML has no form for is replaced");
+}
+
+#[test]
+fn each_label_has_its_length() {
+    let drawn = example_picture("a");
+    // Sheet A by hand: 8 - 2 and drops of 2 and 4; 8 - 4 and a drop of 3.
+    assert!(drawn.contains(">slot 0, length 12<") && drawn.contains(">slot 2, length 7<"));
+    assert!(drawn.contains(">labels 2, length 19 (0.838 mm)<"));
+}
+
+#[test]
+fn broken_rules_say_what_is_wrong_in_red() {
+    const RED: &str = "#d4001a";
+    let words_in_red = |name: &str| {
+        let elements = elements(&example_picture(name));
+        let texts = elements.into_iter().filter(|element| element.name == "text" && element.text("fill") == RED);
+        texts.map(|text| text.inside).collect::<Vec<String>>().join(" ")
+    };
+    assert!(!example_picture("tractor").contains(RED));
+    assert!(words_in_red("crossing").contains("rule 4 is broken: the vertical of site 1 meets the backbone at slot 1"));
+    assert!(words_in_red("near_site").contains("site 1 lies 12 above the backbone at slot 1, less than the gap 20"));
+    assert!(words_in_red("false_length").contains("states 2 labels and length 499, but has 2 labels and length 500"));
+    assert!(words_in_red("no_layout").contains("no layout obeys rules 1 to 5"));
+}
+
+/// Each broken rule is named with its first place, whatever the ties.
+#[test]
+fn every_broken_rule_is_told() {
+    let mut random = Random::new(84);
     let mut met = [0; 7];
-    for _ in 0..50_000 {
-        let sheet = small_sheet(&mut random);
-        if sheet.slots.is_empty() {
+    for _ in 0..2_000 {
+        let plain = small_sheet(&mut random);
+        if plain.slots.is_empty() {
             continue;
         }
-        let slots = sheet.slots.len() as u32;
-        let spread = random.between(1, slots);
-        let slot_of: Vec<usize> = sheet.sites.iter().map(|_| random.below(spread) as usize).collect();
-        let mut words = layout_words(&sheet, &slot_of);
-        words[0] ^= u32::from(random.one_in(3));
-        let rule = Ties::new(&sheet, &slot_of).broken();
-        let plan = Plan::of_words(&[sheet.words(), words].concat()).unwrap();
-        let found = plan.broken.map_or(0, |rule| rule.number());
-        assert!(found == rule || (rule == 0 && found == 6));
-        assert_eq!(found == 0, plan.faults.is_empty(), "rule {found}: {sheet:?} {slot_of:?}");
-        met[usize::from(found)] += 1;
+        let spread = random.between(1, plain.slots.len() as u32);
+        let slot_of: Vec<usize> = plain.sites.iter().map(|_| random.below(spread) as usize).collect();
+        let mut stored = layout_words(&plain, &slot_of);
+        stored[0] ^= u32::from(random.one_in(3));
+        let words = [plain.words(), stored].concat();
+        let rule = judge(&words).unwrap().map_or(0, Rule::number);
+        let (sheet, layout) = sheet_and_layout(&words).unwrap();
+        let drawn = picture(&sheet, layout.as_ref(), &Options::default()).unwrap();
+        for number in 1..=6 {
+            assert_eq!(drawn.contains(&format!("rule {number} is broken: ")), rule == number);
+        }
+        hold_texts_apart(&drawn);
+        met[usize::from(rule)] += 1;
     }
-    assert!(met.iter().all(|times| *times > 100), "{met:?}");
+    assert!(met.iter().all(|times| *times > 10), "{met:?}");
 }
 
 #[test]
-fn red_is_for_broken_rules() {
-    let picture = |name: &str| std::fs::read_to_string(folder().join(name)).unwrap();
-    assert!(!picture("tractor.svg").contains("#d4001a"));
-    assert!(picture("crossing.svg").contains("#d4001a") && picture("crossing.svg").contains("rule 4 is broken"));
+fn a_comparison_marks_the_ties_that_differ() {
+    let words = sheet::encode(&std::fs::read_to_string(folder().join("a.txt")).unwrap()).unwrap();
+    let sheet = Sheet::from_words(&words).unwrap();
+    let best = sheet.lay_out().unwrap();
+    // Document 01: slots 2, 2, 0 give the same count and length, and come later.
+    let other = Layout { slots: vec![2, 2, 0], ..best.clone() };
+    let sides = |one, other| [Side { title: "engine", layout: one }, Side { title: "best", layout: other }];
+    let drawn = compare(&sheet, sides(Some(&other), Some(&best)), &Options::default()).unwrap();
+    hold_texts_apart(&drawn);
+    let parts = elements(&drawn);
+    let second = parts.iter().rposition(|element| element.is("frame")).unwrap();
+    hold_strokes("engine", &parts[..second], &words, &other.slots);
+    hold_strokes("best", &parts[second..], &words, &best.slots);
+    assert_eq!(strokes(&parts[..second], "differs"), wanted(&words, &other.slots).1);
+    assert_eq!(strokes(&parts[second..], "differs"), wanted(&words, &best.slots).1);
+    let mut one_apart = best.clone();
+    one_apart.slots[1] = 1;
+    let drawn = compare(&sheet, sides(Some(&one_apart), Some(&best)), &Options::default()).unwrap();
+    assert_eq!(strokes(&elements(&drawn), "differs"), [[6, 6, 6, 2], [6, 6, 6, 5]], "site 1 alone");
+    assert_eq!(elements(&drawn).iter().filter(|element| element.is("ring")).count(), 2);
+    let drawn = compare(&sheet, sides(None, Some(&best)), &Options::default()).unwrap();
+    assert!(strokes(&elements(&drawn), "differs").is_empty());
+    assert_eq!(strokes(&elements(&drawn), "backbone").len(), 2, "a claim that there is none has no strokes");
+}
+
+#[test]
+fn a_layout_that_is_not_in_form_is_refused() {
+    let words = sheet::encode(&std::fs::read_to_string(folder().join("a.txt")).unwrap()).unwrap();
+    let sheet = Sheet::from_words(&words).unwrap();
+    for slots in [vec![], vec![0, 0], vec![0, 0, 3], vec![0; 4]] {
+        let layout = Layout { labels: 1, length: 1, slots };
+        assert_eq!(picture(&sheet, Some(&layout), &Options::default()), Err(backbone::Refusal::BadLayout));
+    }
 }

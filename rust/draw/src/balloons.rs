@@ -1,0 +1,179 @@
+//! Where the sites' numbers stand: on their sites, or near by with a thin line where sites lie too close together.
+//! Places are in pixels from the drawing's upper left corner.
+
+use crate::area::Area;
+use crate::paint::reach;
+use crate::plan::Plan;
+use crate::scale::Scale;
+
+type Point = (f64, f64);
+type Segment = (Point, Point);
+
+pub const RADIUS: f64 = 7.5;
+/// How far numbers may stand outside of the drawing.
+pub const MARGIN: f64 = 11.0;
+/// Free room around a site's point that no other site's number may cover.
+const POINT: f64 = 3.0;
+/// Free room between two numbers.
+const SPACING: f64 = 1.0;
+/// How far from its site a number is tried, and in how many directions.
+const DISTANCES: [f64; 9] = [14.0, 17.0, 20.0, 24.0, 29.0, 35.0, 42.0, 50.0, 60.0];
+const DIRECTIONS: usize = 16;
+
+/// A site's number: where the site is, and where the number stands.
+#[derive(Clone, Copy, Debug)]
+pub struct Balloon {
+    pub site: Point,
+    pub centre: Point,
+    pub reach: f64,
+}
+
+impl Balloon {
+    pub fn area(&self) -> Area {
+        Area::around(self.centre, self.reach)
+    }
+
+    pub fn is_moved(&self) -> bool {
+        self.site != self.centre
+    }
+}
+
+/// The numbers of all sites, and how many pixels they take right of the drawing and below it.
+pub struct Balloons {
+    pub places: Vec<Balloon>,
+    pub more: f64,
+}
+
+/// What numbers have to keep clear of, and what they should not cover.
+struct Surroundings {
+    points: Vec<Point>,
+    strokes: Vec<Segment>,
+    room: Area,
+}
+
+/// Places all numbers. Where the room is too small it grows, until each has a place.
+pub fn place(plan: &Plan, scale: &Scale, width: f64, height: f64) -> Balloons {
+    let points = plan.sheet.sites().iter().map(|site| point(scale, site.x, site.y)).collect();
+    let room = Area { left: -MARGIN, top: -MARGIN, right: width + MARGIN, bottom: height };
+    let mut around = Surroundings { points, strokes: strokes(plan, scale), room };
+    let mut more = 0.0;
+    loop {
+        if let Some(places) = around.place_all(plan) {
+            return Balloons { places, more };
+        }
+        more += 40.0;
+        around.room = Area { right: room.right + more, bottom: room.bottom + more, ..room };
+    }
+}
+
+fn point(scale: &Scale, x: u32, y: u32) -> Point {
+    (f64::from(x) * scale.unit_across(), f64::from(y) * scale.unit_down())
+}
+
+fn strokes(plan: &Plan, scale: &Scale) -> Vec<Segment> {
+    let mut strokes = Vec::new();
+    for label in &plan.labels {
+        strokes.push((point(scale, label.left_end, label.height), point(scale, plan.sheet.width(), label.height)));
+        for site in label.sites.iter().map(|site| plan.sheet.sites()[*site]) {
+            strokes.push((point(scale, site.x, site.y), point(scale, site.x, label.height)));
+        }
+    }
+    strokes
+}
+
+impl Surroundings {
+    /// First the sites that have room for their numbers, then the others.
+    fn place_all(&self, plan: &Plan) -> Option<Vec<Balloon>> {
+        let mut places: Vec<Option<Balloon>> = vec![None; self.points.len()];
+        for is_moved in [false, true] {
+            for (index, site) in plan.sheet.sites().iter().enumerate() {
+                let reach = RADIUS * reach(site.colour);
+                if is_moved && places[index].is_none() {
+                    places[index] = Some(self.moved(index, reach, &places)?);
+                } else if !is_moved {
+                    let at_site = Balloon { site: self.points[index], centre: self.points[index], reach };
+                    places[index] = self.is_free(index, &at_site, &places).then_some(at_site);
+                }
+            }
+        }
+        places.into_iter().collect()
+    }
+
+    /// Whether a number overlaps no other, and covers no other site.
+    fn is_free(&self, site: usize, balloon: &Balloon, places: &[Option<Balloon>]) -> bool {
+        let area = Area::around(balloon.centre, balloon.reach + SPACING);
+        let covers = |(other, point): (usize, &Point)| other != site && Area::around(*point, POINT).overlaps(&area);
+        !self.points.iter().enumerate().any(covers)
+            && !places.iter().flatten().any(|other| other.area().overlaps(&area))
+    }
+
+    /// The best free place around a site, or else any free place in the room.
+    fn moved(&self, site: usize, reach: f64, places: &[Option<Balloon>]) -> Option<Balloon> {
+        let at = self.points[site];
+        let free = |centre: &Point| {
+            let balloon = Balloon { site: at, centre: *centre, reach };
+            let is_off = !Area::around(at, POINT).overlaps(&balloon.area());
+            (is_off && self.room.contains(&balloon.area()) && self.is_free(site, &balloon, places)).then_some(balloon)
+        };
+        let near = around(at).filter_map(|centre| free(&centre)).map(|balloon| (self.cost(&balloon, places), balloon));
+        let best = near.min_by(|one, other| one.0.total_cmp(&other.0)).map(|(_, balloon)| balloon);
+        best.or_else(|| self.cells(reach).find_map(|centre| free(&centre)))
+    }
+
+    /// How far off a number is, and how many strokes it and its thin line meet.
+    fn cost(&self, balloon: &Balloon, places: &[Option<Balloon>]) -> f64 {
+        let line = (balloon.site, balloon.centre);
+        let covered = self.strokes.iter().filter(|stroke| meets(&balloon.area(), stroke)).count() as f64;
+        let crossed = self.strokes.iter().filter(|stroke| crosses(stroke, &line)).count() as f64;
+        let moved = places.iter().flatten().filter(|other| other.is_moved());
+        let tangled = moved.filter(|other| crosses(&(other.site, other.centre), &line)).count() as f64;
+        let over = places.iter().flatten().filter(|other| passes(&other.area(), &line)).count() as f64;
+        distance(balloon.site, balloon.centre) + 14.0 * covered + 5.0 * crossed + 40.0 * (tangled + over)
+    }
+
+    /// The room in cells of one number each.
+    fn cells(&self, reach: f64) -> impl Iterator<Item = Point> + '_ {
+        let step = 2.0 * reach + SPACING;
+        let count = |length: f64| (length / step) as usize;
+        let (across, down) = (count(self.room.right - self.room.left), count(self.room.bottom - self.room.top));
+        let place = move |from: f64, index: usize| from + step * (index as f64 + 0.5);
+        (0..down).flat_map(move |row| {
+            (0..across).map(move |column| (place(self.room.left, column), place(self.room.top, row)))
+        })
+    }
+}
+
+fn around((x, y): Point) -> impl Iterator<Item = Point> {
+    let angle = |direction: usize| direction as f64 * std::f64::consts::TAU / DIRECTIONS as f64;
+    let directions = (0..DIRECTIONS).map(move |direction| angle(direction).sin_cos());
+    directions.flat_map(move |(sine, cosine)| DISTANCES.map(|far| (x + far * cosine, y - far * sine)))
+}
+
+fn distance(from: Point, to: Point) -> f64 {
+    (from.0 - to.0).hypot(from.1 - to.1)
+}
+
+/// Whether a stroke, which is level or upright, meets an area.
+fn meets(area: &Area, (from, to): &Segment) -> bool {
+    let (left, right, top, bottom) = (from.0.min(to.0), from.0.max(to.0), from.1.min(to.1), from.1.max(to.1));
+    area.overlaps(&Area { left: left - 0.5, right: right + 0.5, top: top - 0.5, bottom: bottom + 0.5 })
+}
+
+/// Whether a thin line, which may slant, passes through an area: nine points of it are looked at.
+fn passes(area: &Area, (from, to): &Segment) -> bool {
+    let mut points = (0..=8).map(|eighths| along(*from, *to, f64::from(eighths) / 8.0));
+    points.any(|point| area.overlaps(&Area::around(point, 0.5)))
+}
+
+fn along(from: Point, to: Point, part: f64) -> Point {
+    (from.0 + part * (to.0 - from.0), from.1 + part * (to.1 - from.1))
+}
+
+/// Whether two lines cross, ends left out.
+fn crosses(one: &Segment, other: &Segment) -> bool {
+    let side = |line: &Segment, point: Point| {
+        let (from, to) = line;
+        (to.0 - from.0) * (point.1 - from.1) - (to.1 - from.1) * (point.0 - from.0)
+    };
+    side(one, other.0) * side(one, other.1) < 0.0 && side(other, one.0) * side(other, one.1) < 0.0
+}

@@ -1,0 +1,99 @@
+//! The sites with their numbers, and marks: at what is wrong, and at ties that differ.
+
+use crate::balloons::{Balloon, RADIUS};
+use crate::column::colour_name;
+use crate::frame::Frame;
+use crate::number;
+use crate::paint::{paint, site_shape, text_in_site, HIGHLIGHT, RED};
+use crate::plan::Plan;
+use crate::text::{escape, Anchor, Text};
+use backbone::Fault;
+use sheet::Names;
+use std::fmt::Write;
+
+const SIZE: f64 = 9.0;
+const RING: f64 = 10.5;
+
+/// The sites, each with its number and what a reader who points at it is told.
+pub fn sites(plan: &Plan, frame: &Frame, balloons: &[Balloon], names: &Names) -> String {
+    let mut svg = String::new();
+    for (site, balloon) in balloons.iter().enumerate().filter(|(_, balloon)| balloon.is_moved()) {
+        svg.push_str(&thin_line(balloon, frame, paint(plan.sheet.sites()[site].colour)));
+    }
+    for (number, balloon) in balloons.iter().enumerate() {
+        let site = plan.sheet.sites()[number];
+        let centre = (frame.left + balloon.centre.0, frame.top + balloon.centre.1);
+        let name = names.site(number).map(|name| format!(" {name}")).unwrap_or_default();
+        let told = format!("site {number}{name}: {}, x {}, y {}", colour_name(names, site.colour), site.x, site.y);
+        let _ = write!(svg, "<g class=\"site\"><title>{}</title>", escape(&told));
+        svg.push_str(site_shape(site.colour, centre, RADIUS).trim_end());
+        let text = Text {
+            words: &number.to_string(),
+            x: centre.0,
+            y: centre.1 + 0.355 * SIZE,
+            size: SIZE,
+            anchor: Anchor::Middle,
+            is_bold: true,
+            fill: text_in_site(site.colour),
+        };
+        let _ = writeln!(svg, "{}</g>", text.svg().trim_end());
+    }
+    svg
+}
+
+/// From a site to its number, where that stands elsewhere.
+fn thin_line(balloon: &Balloon, frame: &Frame, stroke: &str) -> String {
+    let place = |(x, y): (f64, f64)| (number(frame.left + x), number(frame.top + y));
+    let ((x, y), (to_x, to_y)) = (place(balloon.site), place(balloon.centre));
+    format!(
+        "<path d=\"M{x} {y}L{to_x} {to_y}\" stroke=\"{stroke}\" stroke-width=\"0.8\"/>\
+         <circle cx=\"{x}\" cy=\"{y}\" r=\"2.2\" fill=\"{stroke}\" stroke=\"#ffffff\" stroke-width=\"0.5\"/>\n"
+    )
+}
+
+/// A ring around the number of each marked site.
+pub fn rings(frame: &Frame, balloons: &[Balloon], marked: &[usize]) -> String {
+    let of_site = |site: &usize| balloons.get(*site).map(|balloon| ring(frame, balloon, HIGHLIGHT, 4.0));
+    marked.iter().filter_map(of_site).collect()
+}
+
+fn ring(frame: &Frame, balloon: &Balloon, stroke: &str, width: f64) -> String {
+    let radius = RING + (balloon.reach - RADIUS);
+    format!(
+        "<circle class=\"ring\" cx=\"{}\" cy=\"{}\" r=\"{}\" fill=\"none\" stroke=\"{stroke}\" stroke-width=\"{width}\"/>\n",
+        number(frame.left + balloon.centre.0),
+        number(frame.top + balloon.centre.1),
+        number(radius)
+    )
+}
+
+/// The places at which the rule is broken, in red.
+pub fn faults(plan: &Plan, frame: &Frame, balloons: &[Balloon]) -> String {
+    plan.faults.iter().map(|fault| mark(fault, plan, frame, balloons)).collect()
+}
+
+fn mark(fault: &Fault, plan: &Plan, frame: &Frame, balloons: &[Balloon]) -> String {
+    let height = |slot: usize| frame.y(plan.sheet.slots()[slot]);
+    match fault {
+        Fault::MixedColours { sites, .. } => sites.iter().map(|site| ring(frame, &balloons[*site], RED, 2.2)).collect(),
+        Fault::NearSite { site, slot, .. } => {
+            let (x, y) = (frame.x(plan.sheet.sites()[*site].x), frame.y(plan.sheet.sites()[*site].y));
+            ring(frame, &balloons[*site], RED, 2.2) + &distance(x + 17.0, y, height(*slot))
+        }
+        Fault::CloseBackbones { upper, lower, .. } => distance(frame.right - 14.0, height(*upper), height(*lower)),
+        Fault::Crossing { x, slot, .. } => cross(frame.x(*x), height(*slot)),
+        Fault::TooManyLabels { .. } | Fault::FalseNumbers { .. } => String::new(),
+    }
+}
+
+fn cross(x: f64, y: f64) -> String {
+    let (left, top) = (number(x - 6.5), number(y - 6.5));
+    let bottom = number(y + 6.5);
+    format!("<path d=\"M{left} {top}l13 13M{left} {bottom}l13 -13\" stroke=\"{RED}\" stroke-width=\"2.6\"/>\n")
+}
+
+/// A distance that is too small.
+fn distance(x: f64, from: f64, to: f64) -> String {
+    let (left, x, from, to) = (number(x - 5.0), number(x), number(from), number(to));
+    format!("<path d=\"M{x} {from}V{to}M{left} {from}h10M{left} {to}h10\" stroke=\"{RED}\" stroke-width=\"2.2\"/>\n")
+}

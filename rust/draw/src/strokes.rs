@@ -1,0 +1,92 @@
+//! Backbones and drops, in the sheet's own units.
+
+use crate::frame::Frame;
+use crate::paint::{paint, HIGHLIGHT};
+use crate::plan::Plan;
+use crate::text::escape;
+use crate::{listed_sites, number};
+use backbone::Label;
+use sheet::Names;
+use std::fmt::Write;
+
+const BACKBONE: f64 = 2.6;
+const DROP: f64 = 1.6;
+const HIGHLIGHTED: f64 = 7.0;
+const DOT: f64 = 2.6;
+
+/// All strokes of a layout. A level stroke is as thick as the scale down makes it, an upright one as that across.
+pub fn strokes(plan: &Plan, frame: &Frame, names: &Names, marked: &[usize]) -> String {
+    if plan.labels.is_empty() {
+        return String::new();
+    }
+    let mut inside = highlights(plan, frame, marked);
+    for label in &plan.labels {
+        inside.push_str(&label_strokes(plan, frame, label, &title(plan, label, names)));
+    }
+    frame.in_units(" fill=\"none\"", &inside) + &dots(plan, frame)
+}
+
+fn thickness(pixels: f64, unit: f64) -> String {
+    let digits = format!("{:.4}", pixels / unit);
+    digits.trim_end_matches('0').trim_end_matches('.').to_string()
+}
+
+/// What a reader who points at a label is told.
+fn title(plan: &Plan, label: &Label, names: &Names) -> String {
+    let name = names.colour(label.colour).map_or_else(|| format!("colour {}", label.colour), str::to_string);
+    let backbone = plan.sheet.width() - label.left_end;
+    let drops = label.length - backbone;
+    format!(
+        "{name}, slot {}: {}; backbone {backbone}, drops {drops}, length {}",
+        label.slot,
+        listed_sites(&label.sites),
+        label.length
+    )
+}
+
+fn label_strokes(plan: &Plan, frame: &Frame, label: &Label, title: &str) -> String {
+    let (left, width, height) = (label.left_end, plan.sheet.width(), label.height);
+    let mut svg = format!(
+        "<g stroke=\"{}\"><title>{}</title>\n<path class=\"backbone\" d=\"M{left} {height}H{width}\" \
+         stroke-width=\"{}\"/>\n",
+        paint(label.colour),
+        escape(title),
+        thickness(BACKBONE, frame.scale.unit_down())
+    );
+    let drops: String = label.sites.iter().map(|site| drop_path(plan, *site, height)).collect();
+    let thick = thickness(DROP, frame.scale.unit_across());
+    let _ = writeln!(svg, "<path class=\"drop\" d=\"{drops}\" stroke-width=\"{thick}\"/></g>");
+    svg
+}
+
+fn drop_path(plan: &Plan, site: usize, height: u32) -> String {
+    let site = plan.sheet.sites()[site];
+    format!("M{} {}V{height}", site.x, site.y)
+}
+
+/// Broad lines below the drops of marked sites.
+fn highlights(plan: &Plan, frame: &Frame, marked: &[usize]) -> String {
+    let of_label = |label: &Label| {
+        let sites: Vec<usize> = label.sites.iter().copied().filter(|site| marked.contains(site)).collect();
+        sites.into_iter().map(|site| drop_path(plan, site, label.height)).collect::<String>()
+    };
+    let paths: String = plan.labels.iter().map(of_label).collect();
+    if paths.is_empty() {
+        return paths;
+    }
+    let thick = thickness(HIGHLIGHTED, frame.scale.unit_across());
+    format!("<path class=\"differs\" d=\"{paths}\" stroke=\"{HIGHLIGHT}\" stroke-width=\"{thick}\"/>\n")
+}
+
+/// A dot where a drop meets its backbone.
+fn dots(plan: &Plan, frame: &Frame) -> String {
+    let mut svg = String::new();
+    for label in &plan.labels {
+        let y = number(frame.y(label.height));
+        for site in label.sites.iter().map(|site| plan.sheet.sites()[*site]) {
+            let (x, fill) = (number(frame.x(site.x)), paint(label.colour));
+            let _ = writeln!(svg, "<circle cx=\"{x}\" cy=\"{y}\" r=\"{DOT}\" fill=\"{fill}\"/>");
+        }
+    }
+    svg
+}

@@ -1,0 +1,107 @@
+//! Lines of text, and the room that they take.
+
+use crate::number;
+
+/// The widths of the characters from blank to `~` in Helvetica and Arial, in thousandths of the size.
+#[rustfmt::skip]
+const WIDTHS: [u16; 95] = [
+    278, 278, 355, 556, 556, 889, 667, 191, 333, 333, 389, 584, 278, 333, 278, 278, 556, 556, 556, 556, 556, 556, 556,
+    556, 556, 556, 278, 278, 584, 584, 584, 556, 1015, 667, 667, 722, 722, 667, 611, 778, 722, 278, 500, 667, 556, 833,
+    722, 778, 667, 778, 722, 667, 611, 722, 667, 944, 667, 667, 611, 278, 278, 278, 469, 556, 333, 556, 556, 500, 556,
+    556, 278, 556, 556, 222, 222, 500, 222, 833, 556, 556, 556, 556, 333, 500, 278, 556, 500, 722, 500, 500, 500, 334,
+    260, 334, 584,
+];
+/// Scripts from here on have characters as wide as they are high.
+const FIRST_WIDE: char = '\u{2E80}';
+/// What bold text takes more.
+const BOLD: f64 = 1.06;
+/// The room that a text takes across. Each text states it as its `textLength`, so that every font keeps to it.
+pub fn width(words: &str, size: f64, is_bold: bool) -> f64 {
+    let one = |letter: char| match letter {
+        ' '..='~' => f64::from(WIDTHS[letter as usize - ' ' as usize]) / 1000.0,
+        FIRST_WIDE.. => 1.0,
+        _ => 0.6,
+    };
+    words.chars().map(one).sum::<f64>() * size * if is_bold { BOLD } else { 1.0 }
+}
+
+/// A text as XML holds it. Characters that XML has no form for are replaced.
+pub fn escape(words: &str) -> String {
+    let one = |letter: char| match letter {
+        '&' => "&amp;".to_string(),
+        '<' => "&lt;".to_string(),
+        '>' => "&gt;".to_string(),
+        '"' => "&quot;".to_string(),
+        '\'' => "&#39;".to_string(),
+        _ if letter.is_control() || ('\u{FFFE}'..='\u{FFFF}').contains(&letter) => '\u{FFFD}'.to_string(),
+        _ => letter.to_string(),
+    };
+    words.chars().map(one).collect()
+}
+
+/// The text if it has the room, else its beginning and three dots.
+pub fn shortened(words: &str, size: f64, is_bold: bool, room: f64) -> String {
+    if width(words, size, is_bold) <= room {
+        return words.to_string();
+    }
+    let mut kept: String = words.to_string();
+    while !kept.is_empty() && width(&kept, size, is_bold) + width("...", size, is_bold) > room {
+        kept.pop();
+    }
+    kept.trim_end().to_string() + "..."
+}
+
+/// The text in lines that have the room.
+pub fn wrapped(words: &str, size: f64, is_bold: bool, room: f64) -> Vec<String> {
+    let mut lines: Vec<String> = Vec::new();
+    for word in words.split_whitespace() {
+        let word = shortened(word, size, is_bold, room);
+        match lines.last_mut() {
+            Some(line) if width(&format!("{line} {word}"), size, is_bold) <= room => {
+                line.push(' ');
+                line.push_str(&word);
+            }
+            _ => lines.push(word),
+        }
+    }
+    lines
+}
+
+#[derive(Clone, Copy, Debug, PartialEq, Eq)]
+pub enum Anchor {
+    Start,
+    Middle,
+    End,
+}
+
+/// One line of text: its anchor on the line that the letters stand on.
+#[derive(Clone, Debug)]
+pub struct Text<'a> {
+    pub words: &'a str,
+    pub x: f64,
+    pub y: f64,
+    pub size: f64,
+    pub anchor: Anchor,
+    pub is_bold: bool,
+    pub fill: &'a str,
+}
+
+impl Text<'_> {
+    pub fn svg(&self) -> String {
+        let anchor = match self.anchor {
+            Anchor::Start => "",
+            Anchor::Middle => " text-anchor=\"middle\"",
+            Anchor::End => " text-anchor=\"end\"",
+        };
+        format!(
+            "<text x=\"{}\" y=\"{}\" font-size=\"{}\" textLength=\"{}\" fill=\"{}\"{anchor}{}>{}</text>\n",
+            number(self.x),
+            number(self.y),
+            number(self.size),
+            number(width(self.words, self.size, self.is_bold)),
+            self.fill,
+            if self.is_bold { " font-weight=\"bold\"" } else { "" },
+            escape(self.words)
+        )
+    }
+}
