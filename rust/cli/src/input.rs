@@ -1,6 +1,7 @@
 //! What is read: a file, standard input, or every sheet of a folder.
 
 use crate::exit::Failure;
+use crate::streams::is_input_closed;
 use sheet::Record;
 use std::ffi::{OsStr, OsString};
 use std::fmt;
@@ -35,12 +36,16 @@ impl Source {
 
     /// All bytes of it.
     pub fn bytes(&self) -> Result<Vec<u8>, Failure> {
-        let mut bytes = Vec::new();
         let read = match self {
-            Source::Standard => std::io::stdin().read_to_end(&mut bytes),
-            Source::File(path) => std::fs::File::open(path).and_then(|mut file| file.read_to_end(&mut bytes)),
+            Source::Standard if is_input_closed() => return Err(Failure::about(self, &"it is closed")),
+            Source::Standard => all_of(std::io::stdin()),
+            Source::File(path) => std::fs::File::open(path).and_then(all_of),
         };
-        read.map(|_| bytes).map_err(|error| Failure::about(self, &error))
+        let bytes = read.map_err(|error| Failure::about(self, &error))?;
+        if bytes.len() as u64 > MOST_BYTES {
+            return Err(Failure::about(self, &format!("it is longer than {MOST_BYTES} bytes, so it is no sheet")));
+        }
+        Ok(bytes)
     }
 
     /// The sheet that it holds, in whichever form.
@@ -49,12 +54,24 @@ impl Source {
     }
 }
 
+/// The largest sheet has 89 words; remarks and names may be long. What never ends is not read to its end.
+const MOST_BYTES: u64 = 1 << 24;
+
+fn all_of(from: impl Read) -> std::io::Result<Vec<u8>> {
+    let mut bytes = Vec::new();
+    from.take(MOST_BYTES + 1).read_to_end(&mut bytes)?;
+    Ok(bytes)
+}
+
 /// The names of files in a folder that are taken for sheets.
 pub const SHEET_ENDINGS: [&str; 4] = ["txt", "words", "bin", "json"];
 
 /// The sheets that the operands name: a file as it is, of a folder and the folders in it every file with one of
 /// the known endings, by name.
 pub fn sources(operands: &[OsString]) -> Result<Vec<Source>, Failure> {
+    if operands.iter().filter(|operand| *operand == "-").count() > 1 {
+        return Err(Failure::WrongUse("standard input can be read once, and - is given twice".to_string()));
+    }
     let mut sources = Vec::new();
     for operand in operands {
         let source = Source::of(operand);

@@ -10,6 +10,7 @@ mod input;
 mod output;
 mod progress;
 mod shard;
+mod streams;
 mod subcommand;
 
 use arguments::Arguments;

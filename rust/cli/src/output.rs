@@ -1,6 +1,7 @@
 //! What is written, with every error seen: a closed pipe and a full disk end the run with exit code 3.
 
 use crate::exit::Failure;
+use crate::streams::is_output_closed;
 use std::io::{BufWriter, Stdout, Write};
 use std::path::{Path, PathBuf};
 
@@ -19,6 +20,9 @@ impl Output {
     }
 
     pub fn bytes(&mut self, bytes: &[u8]) -> Result<(), Failure> {
+        if is_output_closed() {
+            return Err(Failure::about(&"standard output", &"it is closed"));
+        }
         self.to.write_all(bytes).map_err(|error| Failure::about(&"standard output", &error))
     }
 

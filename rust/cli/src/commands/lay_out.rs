@@ -1,40 +1,80 @@
 //! `backbone lay-out`: the best layout of a sheet.
 
-use crate::arguments::Arguments;
+use crate::arguments::{Arguments, Setting};
 use crate::exit::{Exit, Failure};
 use crate::input::Source;
 use crate::output::{message, Output};
 use crate::subcommand::Subcommand;
-use backbone::{split_stored, Layout, Refusal, Sheet};
+use backbone::{causes, split_stored, Cause, Layout, NotLaidOut, Refusal, Sheet, WorkArea};
+use sheet::json::quote;
+use sheet::{Form, Record};
 
 pub const SUBCOMMAND: Subcommand = Subcommand {
     name: "lay-out",
     operands: "FILE|-",
     about: "the best layout of a sheet, or why it is refused",
-    text: "Prints the labels, the length, and each site with its colour and its slot.",
-    settings: &[],
+    text: "\
+Lays out the sheet in FILE, or on standard input for -, with the proved maker. Of a stored sheet the sheet is laid out
+anew. The form of the input, text, hexadecimal words, words in bytes or JSON, is told by what it holds. Prints the
+number of labels and the length, then each site's number, colour and slot:
+
+    labels 2 length 19
+    site 0 colour 0 slot 0
+    site 1 colour 0 slot 0
+    site 2 colour 1 slot 2
+
+A sheet that is refused gives the line 'refused N' on standard output and its meaning, with the words, slots or sites
+that it comes from, on standard error. The work area is as large as the sheet needs: at most 428 million words.",
+    settings: &[Setting {
+        name: "--format",
+        value: "FORM",
+        about: "text (as above), or the stored sheet: stored (as text), words (hexadecimal), bin or json",
+    }],
     exits: &[(Exit::Done, "a layout"), (Exit::Found, "refused")],
     run,
 };
 
+/// What is written.
+#[derive(Clone, Copy, PartialEq, Eq)]
+enum Answer {
+    Lines,
+    Stored(Form),
+}
+
+const FORMATS: [(&str, Answer); 5] = [
+    ("text", Answer::Lines),
+    ("stored", Answer::Stored(Form::Text)),
+    ("words", Answer::Stored(Form::Words)),
+    ("bin", Answer::Stored(Form::Binary)),
+    ("json", Answer::Stored(Form::Json)),
+];
+
 fn run(arguments: &Arguments, output: &mut Output) -> Result<Exit, Failure> {
+    let answer = arguments.choice("--format", &FORMATS)?;
     let source = Source::of(arguments.operand()?);
     let record = source.record()?;
-    let (words, _) = split_stored(&record.words);
-    match backbone::lay_out(words) {
+    let (sheet, _) = split_stored(&record.words);
+    match WorkArea::new().lay_out(sheet) {
         Ok(layout) => {
-            output
-                .text(&lines(&Sheet::from_words(words).map_err(|error| Failure::about(&source, &error))?, &layout))?;
+            output.bytes(&laid_out(&record, &layout, answer).map_err(|refusal| Failure::about(&source, &refusal))?)?;
             Ok(Exit::Done)
         }
-        Err(refusal) => refused(refusal, &source, output),
+        Err(NotLaidOut::Refused(refusal)) => refused(&source, &causes(sheet, refusal), refusal, answer, output),
+        Err(stopped) => Err(Failure::about(&source, &stopped)),
     }
 }
 
-fn refused(refusal: Refusal, source: &Source, output: &mut Output) -> Result<Exit, Failure> {
-    output.text(&format!("refused {}\n", refusal.number()))?;
-    message(&format!("{source}: {refusal}"));
-    Ok(Exit::Found)
+/// What is printed of a layout.
+fn laid_out(record: &Record, layout: &Layout, answer: Answer) -> Result<Vec<u8>, Refusal> {
+    let (sheet, _) = split_stored(&record.words);
+    match answer {
+        Answer::Lines => Ok(lines(&Sheet::from_words(sheet)?, layout).into_bytes()),
+        Answer::Stored(form) => {
+            let words = [sheet, &layout.words()].concat();
+            let stored = Record { words, names: record.names.clone(), claims_no_layout: false };
+            Ok(sheet::write(&stored, form).unwrap_or_default())
+        }
+    }
 }
 
 /// The lines of a layout, as the program prints them.
@@ -44,4 +84,24 @@ fn lines(sheet: &Sheet, layout: &Layout) -> String {
         text.push_str(&format!("site {number} colour {} slot {slot}\n", site.colour));
     }
     text
+}
+
+fn refused(
+    source: &Source,
+    causes: &[Cause],
+    refusal: Refusal,
+    answer: Answer,
+    output: &mut Output,
+) -> Result<Exit, Failure> {
+    let number = refusal.number();
+    if answer == Answer::Stored(Form::Json) {
+        let causes: Vec<String> = causes.iter().map(|cause| quote(&cause.to_string())).collect();
+        let (meaning, causes) = (quote(&refusal.to_string()), causes.join(", "));
+        output.text(&format!("{{\"refused\": {number}, \"meaning\": {meaning}, \"causes\": [{causes}]}}\n"))?;
+    } else {
+        output.text(&format!("refused {number}\n"))?;
+    }
+    message(&format!("{source}: refused {number}: {refusal}"));
+    causes.iter().for_each(|cause| message(&format!("{source}: {cause}")));
+    Ok(Exit::Found)
 }
