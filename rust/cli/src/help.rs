@@ -1,8 +1,22 @@
 //! Help and the man page, made from the table of subcommands.
 
+use crate::arguments::Setting;
 use crate::exit::Exit;
 use crate::subcommand::{Subcommand, ALL};
 use std::fmt::Write;
+
+const ABOUT: &str = "layouts of parts sheets that are proved to be the best";
+const USAGE: &str = "backbone SUBCOMMAND [OPTION]... [OPERAND]...";
+
+/// What the command as a whole takes.
+const SETTINGS: [Setting; 3] = [
+    Setting { name: "--help", value: "", about: "this text; `backbone SUBCOMMAND --help` says more" },
+    Setting { name: "--version", value: "", about: "the version" },
+    Setting { name: "--man", value: "", about: "the man page, in roff" },
+];
+
+/// What every subcommand takes.
+const HELP: Setting = Setting { name: "--help", value: "", about: "this text" };
 
 /// The line of `--version`.
 pub fn version() -> String {
@@ -11,32 +25,115 @@ pub fn version() -> String {
 
 /// The text of `backbone --help`.
 pub fn overview() -> String {
-    let mut text = String::from(
-        "backbone: layouts of parts sheets that are proved to be the best\n\n\
-         usage: backbone SUBCOMMAND [OPTION]... [OPERAND]...\n\nsubcommands:\n",
-    );
+    let mut text = format!("backbone: {ABOUT}\n\nusage: {USAGE}\n\nsubcommands:\n");
     for subcommand in ALL {
         let _ = writeln!(text, "  {:<10}{}", subcommand.name, subcommand.about);
     }
-    text.push_str("\noptions:\n  --help     this text; `backbone SUBCOMMAND --help` says more\n");
-    text.push_str("  --version  the version\n  --man      the man page\n\nexit codes:\n");
-    text + &exits(&Exit::MEANINGS)
+    text + "\noptions:\n" + &options(&SETTINGS) + "\nexit codes:\n" + &exits(&Exit::MEANINGS)
 }
 
 /// The text of `backbone SUBCOMMAND --help`.
 pub fn of(subcommand: &Subcommand) -> String {
-    let Subcommand { name, operands, about, text, settings, .. } = subcommand;
-    let mut help = format!("backbone {name}: {about}\n\nusage: backbone {name} [OPTION]... {operands}\n\n{text}\n");
-    help.push_str("\noptions:\n");
-    for setting in *settings {
+    let Subcommand { name, about, text, settings, .. } = subcommand;
+    let usage = usage(subcommand);
+    format!("backbone {name}: {about}\n\nusage: {usage}\n\n{text}\n\noptions:\n")
+        + &options(settings)
+        + &options(&[HELP])
+        + "\nexit codes:\n"
+        + &exits(subcommand.exits)
+        + &exits(&Exit::MEANINGS[2..])
+}
+
+fn usage(subcommand: &Subcommand) -> String {
+    format!("backbone {} [OPTION]... {}", subcommand.name, subcommand.operands)
+}
+
+fn options(settings: &[Setting]) -> String {
+    let line = |setting: &Setting| {
         let shown = format!("{} {}", setting.name, setting.value);
-        let _ = writeln!(help, "  {:<22}{}", shown.trim_end(), setting.about);
-    }
-    let _ = writeln!(help, "  {:<22}this text", "--help");
-    help.push_str("\nexit codes:\n");
-    help + &exits(subcommand.exits) + &exits(&Exit::MEANINGS[2..])
+        format!("  {:<22}{}\n", shown.trim_end(), setting.about)
+    };
+    settings.iter().map(line).collect()
 }
 
 fn exits(meanings: &[(Exit, &str)]) -> String {
     meanings.iter().map(|(exit, meaning)| format!("  {}  {meaning}\n", *exit as u8)).collect()
+}
+
+/// The man page.
+pub fn man_page() -> String {
+    let version = env!("CARGO_PKG_VERSION");
+    let mut page = format!(".TH BACKBONE 1 \"\" \"backbone {version}\" \"User Commands\"\n");
+    let _ = write!(page, ".SH NAME\nbackbone \\- {}\n.SH SYNOPSIS\n{}\n", roff(ABOUT), roff(USAGE));
+    page.push_str(".SH OPTIONS\n");
+    page.push_str(&man_options(&SETTINGS));
+    page.push_str(".SH SUBCOMMANDS\n");
+    for subcommand in ALL {
+        let _ = write!(page, ".SS {}\n{}\n.PP\n", roff(&usage(subcommand)), roff(&sentence(subcommand.about)));
+        page.push_str(&man_text(subcommand.text));
+        page.push_str(&man_options(subcommand.settings));
+        page.push_str(&man_exits(subcommand.exits));
+    }
+    page.push_str(".SH EXIT STATUS\n");
+    page + &man_exits(&Exit::MEANINGS)
+}
+
+fn sentence(about: &str) -> String {
+    let mut letters = about.chars();
+    letters.next().map_or_else(String::new, |first| first.to_uppercase().collect::<String>() + letters.as_str() + ".")
+}
+
+fn man_options(settings: &[Setting]) -> String {
+    let item = |setting: &Setting| {
+        let (name, value, about) = (roff(setting.name), roff(setting.value), roff(setting.about));
+        format!(".TP\n\\fB{name}\\fR \\fI{value}\\fR\n{about}\n").replace(" \\fI\\fR", "")
+    };
+    settings.iter().map(item).collect()
+}
+
+fn man_exits(meanings: &[(Exit, &str)]) -> String {
+    let item = |(exit, meaning): &(Exit, &str)| format!(".TP\nexit {}\n{}\n", *exit as u8, roff(meaning));
+    meanings.iter().map(item).collect()
+}
+
+/// Paragraphs; those with four blanks in front are shown as they are.
+fn man_text(text: &str) -> String {
+    let paragraph = |paragraph: &str| {
+        if paragraph.starts_with("    ") {
+            format!(".PP\n.nf\n{}\n.fi\n", roff(paragraph))
+        } else {
+            format!(".PP\n{}\n", roff(paragraph))
+        }
+    };
+    text.split("\n\n").map(paragraph).collect()
+}
+
+/// Text in which roff sees no request of its own.
+fn roff(text: &str) -> String {
+    let escaped = text.replace('\\', "\\e").replace('-', "\\-");
+    let line = |line: &str| if line.starts_with(['.', '\'']) { format!("\\&{line}") } else { line.to_string() };
+    escaped.split('\n').map(line).collect::<Vec<_>>().join("\n")
+}
+
+#[cfg(test)]
+mod tests {
+    use super::*;
+
+    #[test]
+    fn roff_sees_no_requests() {
+        assert_eq!(roff(".fi\n'b\na\\n - \u{e9}"), "\\&.fi\n\\&'b\na\\en \\- \u{e9}");
+    }
+
+    /// Every word of help stands in the man page.
+    #[test]
+    fn the_man_page_says_what_help_says() {
+        let page = man_page().replace("\\-", "-").replace("\\e", "\\").replace("\\&", "");
+        for subcommand in ALL {
+            let texts = subcommand.settings.iter().map(|setting| setting.about);
+            let texts = texts.chain(subcommand.exits.iter().map(|(_, meaning)| *meaning)).chain([subcommand.text]);
+            for line in texts.flat_map(str::lines) {
+                assert!(page.contains(line), "{line}");
+            }
+        }
+    }
 }

@@ -43,6 +43,7 @@ fn run(mut arguments: Vec<OsString>, output: &mut Output) -> Result<Exit, Failur
     match name.to_str() {
         Some("--help" | "-h" | "help") => output.text(&help::overview())?,
         Some("--version" | "-V") => output.text(&help::version())?,
+        Some("--man") => output.text(&help::man_page())?,
         _ => {
             let unknown = || Failure::WrongUse(format!("no subcommand '{}'; {TRY}", name.to_string_lossy()));
             return run_subcommand(subcommand::find(&name).ok_or_else(unknown)?, arguments, output);

@@ -11,8 +11,37 @@ pub const SUBCOMMAND: Subcommand = Subcommand {
     name: "convert",
     operands: "--to FORM FILE|-",
     about: "a sheet or a stored sheet from one form to another",
-    text: "Reads any form and writes the one that --to names.",
-    settings: &[Setting { name: "--to", value: "FORM", about: "text, words (hexadecimal, one a line), bin or json" }],
+    text: "\
+Reads a sheet or a stored sheet in any form, told by what it holds, and writes it in the form that --to names. Any list
+of words can be converted, whether it is refused or not.
+
+Text (--to text) is UTF-8, one line a word; blank lines and what follows a # are left out. A name may stand after a
+colour or a site, in quotes; \\\", \\\\, \\n, \\r, \\t and \\u{..} stand for characters. Names are no part of the words.
+
+    head one-sided fewest gap 2 width 8
+    slot 2
+    colour bound 3 \"screws\"
+    site 2 4 \"front weight\"
+    colour unbounded
+    layout labels 1 length 8
+    tie 0
+
+In place of the layout may stand the line 'refused 10': the sheet's writer found no layout. Words without a line of
+their own are numbers, 0x50000000.
+
+Hexadecimal words (--to words) are numbers as 0x20000002, one a line; they may also share a line, with blanks or commas
+between them. 'refused 10' is a line of its own here too.
+
+Words in bytes (--to bin) are four bytes each, the lowest first, as the program reads them. They have no place for
+'refused 10', so a sheet with it can't be converted (exit 3), and none for names.
+
+JSON (--to json) is an object. A bound of null is unbounded; names, layout and refused may be left out, and refused
+stands in the layout's place. A list of words that is not in a stored sheet's order is {\"words\": [\"0x50000000\"]}.
+
+    {\"side\": \"one-sided\", \"aim\": \"fewest\", \"gap\": 2, \"width\": 8, \"slots\": [2],
+     \"colours\": [{\"bound\": 3, \"name\": \"screws\", \"sites\": [{\"x\": 2, \"y\": 4, \"name\": \"front weight\"}]}],
+     \"layout\": {\"labels\": 1, \"length\": 8, \"slots\": [0]}}",
+    settings: &[Setting { name: "--to", value: "FORM", about: "text, words, bin or json" }],
     exits: &[(Exit::Done, "converted")],
     run,
 };
