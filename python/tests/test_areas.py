@@ -5,6 +5,7 @@ import unittest
 from array import array
 
 from backbone import Layout, Refusal, Refused, make, read
+from backbone.library import _library
 
 from .test_drawn import REST, SHEET_A
 
@@ -46,6 +47,12 @@ class Areas(unittest.TestCase):
             work, answer = dirty(work_words), dirty(answer_words)
             self.assert_refused(refusal, SHEET_A, work, answer)
             self.assertEqual((work, answer), (dirty(work_words), dirty(answer_words)))
+
+    def test_null_pointers(self):
+        library, words = _library(), (ctypes.c_uint32 * len(SHEET_A))(*SHEET_A)
+        self.assertEqual(library.backbone_read(None, 0).refusal, Refusal.NO_HEAD)
+        self.assertEqual(library.backbone_judge(None, 0).refusal, Refusal.NO_HEAD)
+        self.assertEqual(library.backbone_make(words, len(words), None, 0, None, 0), Refusal.WORK_TOO_SHORT)
 
     def test_one_area_given(self):
         self.assertEqual(make(SHEET_A, work=dirty(WORK)), BEST)

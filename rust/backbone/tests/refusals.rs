@@ -2,7 +2,7 @@
 
 mod common;
 
-use backbone::{judge, read, Refusal};
+use backbone::{judge, make, read, Refusal};
 use common::{make_in_dirt, SHEET_A};
 use model::random::Random;
 
@@ -47,6 +47,16 @@ fn no_head() {
     }
     assert_eq!(refused_by_all(&[0x1FFFFFFF]), None);
     assert_eq!(refused_by_all(&[0x10004001]), None);
+}
+
+/// What has no words has no need of a pointer that points to some.
+#[test]
+fn areas_without_words() {
+    let (mut work, mut answer) = ([7; 900], [7; 4]);
+    assert_eq!(make(&[], &mut [], &mut []), Err(Refusal::NoHead));
+    assert_eq!(make(&SHEET_A, &mut [], &mut answer), Err(Refusal::WorkTooShort));
+    assert_eq!(make(&SHEET_A, &mut work, &mut []), Err(Refusal::AnswerTooShort));
+    assert_eq!((work, answer), ([7; 900], [7; 4]));
 }
 
 #[test]
