@@ -5,12 +5,14 @@ mod finding;
 mod json;
 mod junit;
 mod pool;
+mod report;
 mod text;
 mod tsv;
 
 pub use counts::Counts;
 pub use finding::{Checked, Checker, Finding};
 pub use pool::in_order;
+pub use report::Report;
 
 use crate::exit::Failure;
 use crate::output::Output;

@@ -1,7 +1,7 @@
 //! `backbone check`: whether stored sheets have the best layout.
 
 use crate::arguments::{Arguments, Setting};
-use crate::check::{in_order, Counts, Finding, FORMATS};
+use crate::check::{in_order, Counts, Finding, Report, FORMATS};
 use crate::exit::{Exit, Failure};
 use crate::input::sources;
 use crate::output::{message, Output};
@@ -30,6 +30,11 @@ Findings are told in the order of the files, however many threads there are. A t
 junit, which have no place for it, tsv's goes to standard error.",
     settings: &[
         Setting { name: "--format", value: "FORM", about: "text (where it is not given), json, tsv or junit" },
+        Setting {
+            name: "--report",
+            value: "FOLDER",
+            about: "write FOLDER/index.html: the table, sortable, and each fault's layout beside the best one",
+        },
         Setting { name: "--jobs", value: "N", about: "threads, each with a work area of its own; 1 where not given" },
     ],
     exits: &[
@@ -48,6 +53,7 @@ fn run(arguments: &Arguments, output: &mut Output) -> Result<Exit, Failure> {
         return Err(Failure::WrongUse("a file or a folder is missing; - is standard input".to_string()));
     }
     let sources = sources(&arguments.operands)?;
+    let mut report = arguments.path("--report").map(|folder| Report::new(&folder)).transpose()?;
     let progress = Progress::new("check", sources.len() as u64);
     let mut counts = Counts::default();
     format.begin(output)?;
@@ -57,10 +63,14 @@ fn run(arguments: &Arguments, output: &mut Output) -> Result<Exit, Failure> {
         if let Finding::Unreadable(failure) = &checked.finding {
             message(&failure.to_string());
         }
+        if let Some(report) = &mut report {
+            report.add(&checked);
+        }
         format.sheet(&checked, output)
     });
     progress.finish();
     told?;
     format.end(&counts, output)?;
+    report.map_or(Ok(()), |report| report.finish(&counts))?;
     Ok(counts.exit())
 }
