@@ -4,14 +4,18 @@ mod arguments;
 mod check;
 mod commands;
 mod corpus;
+mod engine;
 mod exit;
 mod help;
 mod input;
+mod maker;
 mod output;
 mod progress;
 mod shard;
+mod shrink;
 mod streams;
 mod subcommand;
+mod why;
 
 use arguments::Arguments;
 use exit::{Exit, Failure};

@@ -1,7 +1,7 @@
 //! What a subcommand is: one table for the command line, help and the man page.
 
 use crate::arguments::{Arguments, Setting};
-use crate::commands::{check, convert, corpus, draw, lay_out};
+use crate::commands::{check, convert, corpus, draw, lay_out, why};
 use crate::exit::{Exit, Failure};
 use crate::output::Output;
 
@@ -22,8 +22,14 @@ pub struct Subcommand {
 }
 
 /// Every subcommand, in the order of help.
-pub const ALL: [&Subcommand; 5] =
-    [&lay_out::SUBCOMMAND, &check::SUBCOMMAND, &draw::SUBCOMMAND, &convert::SUBCOMMAND, &corpus::SUBCOMMAND];
+pub const ALL: [&Subcommand; 6] = [
+    &lay_out::SUBCOMMAND,
+    &check::SUBCOMMAND,
+    &draw::SUBCOMMAND,
+    &convert::SUBCOMMAND,
+    &corpus::SUBCOMMAND,
+    &why::SUBCOMMAND,
+];
 
 /// The subcommand of this name.
 pub fn find(name: &std::ffi::OsStr) -> Option<&'static Subcommand> {

@@ -5,3 +5,4 @@ pub mod convert;
 pub mod corpus;
 pub mod draw;
 pub mod lay_out;
+pub mod why;
