@@ -1,4 +1,4 @@
--- What is asked of a sheet's arrays holds of fewer of them: draws and lists of budgets are free. Assumes nothing.
+-- What is asked of a sheet's arrays holds of fewer of them: bounds, draws and lists of budgets are free. Assumes nothing.
 use mathlib.Core.Path.{_≡_, refl}
 use mathlib.Core.Bool.{true}
 use mathlib.Core.List.{List, []}
@@ -13,9 +13,9 @@ last-full : (n v : ℕ) → v < n → below [] v (n - 1) ≡ true
 unfolding below
 last-full n v h = le-leb v (n - 1) (omega arith)
 
-module _ {g : Given} (o : OfSheet g) {ds ps ns : List ℕ} where
+module _ {g : Given} (o : OfSheet g) {bs ds ps ns : List ℕ} where
   -- without the sites' places
-  pub no-order : OfSheet (given (g .measures) (g .heights) (g .bounds) (g .radices) ds (g .xs) (g .ys) (g .colours) [] ps ns)
+  pub no-order : OfSheet (given (g .measures) (g .heights) bs (g .radices) ds (g .xs) (g .ys) (g .colours) [] ps ns)
   no-order = record {
     fewSlots = o .fewSlots;
     fewColours = o .fewColours;
@@ -25,7 +25,6 @@ module _ {g : Given} (o : OfSheet g) {ds ps ns : List ℕ} where
     narrow = o .narrow;
     heightLow = o .heightLow;
     rising = o .rising;
-    boundsLong = o .boundsLong;
     divides = o .divides;
     full = o .full;
     ysLong = o .ysLong;
@@ -35,7 +34,7 @@ module _ {g : Given} (o : OfSheet g) {ds ps ns : List ℕ} where
   }
 
   -- without the sites
-  pub no-sites : OfSheet (given (g .measures) (g .heights) (g .bounds) (g .radices) ds [] [] [] [] ps ns)
+  pub no-sites : OfSheet (given (g .measures) (g .heights) bs (g .radices) ds [] [] [] [] ps ns)
   no-sites = record {
     fewSlots = o .fewSlots;
     fewColours = o .fewColours;
@@ -45,7 +44,6 @@ module _ {g : Given} (o : OfSheet g) {ds ps ns : List ℕ} where
     narrow = o .narrow;
     heightLow = o .heightLow;
     rising = o .rising;
-    boundsLong = o .boundsLong;
     divides = o .divides;
     full = o .full;
     ysLong = refl;
@@ -55,7 +53,7 @@ module _ {g : Given} (o : OfSheet g) {ds ps ns : List ℕ} where
   }
 
   -- without the radices
-  pub no-radices : OfSheet (given (g .measures) (g .heights) (g .bounds) [] ds (g .xs) (g .ys) (g .colours) (g .order) ps ns)
+  pub no-radices : OfSheet (given (g .measures) (g .heights) bs [] ds (g .xs) (g .ys) (g .colours) (g .order) ps ns)
   no-radices = record {
     fewSlots = o .fewSlots;
     fewColours = o .fewColours;
@@ -65,7 +63,6 @@ module _ {g : Given} (o : OfSheet g) {ds ps ns : List ℕ} where
     narrow = o .narrow;
     heightLow = o .heightLow;
     rising = o .rising;
-    boundsLong = o .boundsLong;
     divides = λ k h. absurd (omega arith);
     full = last-full (g .measures .budgets);
     ysLong = o .ysLong;
@@ -74,6 +71,6 @@ module _ {g : Given} (o : OfSheet g) {ds ps ns : List ℕ} where
     orderLow = o .orderLow;
   }
 
--- heights and bounds alone
-pub on-strip : {g : Given} → OfSheet g → {ds ps ns : List ℕ} → OfSheet (given (g .measures) (g .heights) (g .bounds) [] ds [] [] [] [] ps ns)
-on-strip o = no-radices (no-sites o {ds = []} {ps = []} {ns = []})
+-- heights alone, and what is free
+pub on-slots : {g : Given} → OfSheet g → {bs ds ps ns : List ℕ} → OfSheet (given (g .measures) (g .heights) bs [] ds [] [] [] [] ps ns)
+on-slots o = no-radices (no-sites o {bs = []} {ds = []} {ps = []} {ns = []})

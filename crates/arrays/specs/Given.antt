@@ -42,7 +42,10 @@ given q hs bs rs ds xs ys cs os ps ns =
       counts = ns;
     }
 
--- where a function is given heights and bounds alone; and radices and draws besides
+-- where a function is given heights alone; bounds besides; radices and draws besides
+abbrev pub onSlots : Measures → (heights : List ℕ) → Given
+onSlots q hs = given q hs [] [] [] [] [] [] [] [] []
+
 abbrev pub onStrip : Measures → (heights bounds : List ℕ) → Given
 onStrip q hs bs = given q hs bs [] [] [] [] [] [] [] []
 
@@ -63,7 +66,7 @@ pub record SiteIn (q : Measures) (s : Point) : Type 0 where
   pub yLow : s .y < numberTop
   pub colourLow : s .c < q .colours
 
--- of all: they are an accepted sheet's. It holds as well with an empty list for radices and draws, for the sites or for their places.
+-- of all: they are an accepted sheet's. It holds as well with empty lists in place of some: no length is asked for but the sites'.
 pub record OfSheet (g : Given) : Type 0 where
   pub fewSlots : length (g .heights) ≤ mostSlots
   pub fewColours : g .measures .colours ≤ mostColours
@@ -73,7 +76,6 @@ pub record OfSheet (g : Given) : Type 0 where
   pub narrow : g .measures .width < numberTop
   pub heightLow : (k : ℕ) → getD (g .heights) k 0 < numberTop
   pub rising : (j k : ℕ) → j < k → k < length (g .heights) → getD (g .heights) j 0 < getD (g .heights) k 0
-  pub boundsLong : length (g .bounds) ≡ g .measures .colours
   -- no radix is 0, and every budget may be taken from the last
   pub divides : (k : ℕ) → k < length (g .radices) → 0 < getD (g .radices) k 0
   pub full : (v : ℕ) → v < g .measures .budgets → below (g .radices) v (g .measures .budgets - 1) ≡ true
@@ -82,6 +84,10 @@ pub record OfSheet (g : Given) : Type 0 where
   pub siteIn : (i : ℕ) → i < length (g .xs) → SiteIn (g .measures) (record { x = getD (g .xs) i 0; y = getD (g .ys) i 0; c = getD (g .colours) i 0 })
   pub orderLow : (i : ℕ) → i < length (g .order) → getD (g .order) i 0 < length (g .xs)
 
--- every site has its place: what the walk asks besides
+-- every colour has its bound: asked where bounds are read
+abbrev pub Bounded : Given → Type 0
+Bounded g = length (g .bounds) ≡ g .measures .colours
+
+-- every site has its place: asked where the walk writes
 abbrev pub Ranked : Given → Type 0
 Ranked g = length (g .order) ≡ length (g .xs)
