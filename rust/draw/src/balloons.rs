@@ -17,8 +17,8 @@ const POINT: f64 = 3.0;
 /// Free room between two numbers.
 const SPACING: f64 = 1.0;
 /// How far from its site a number is tried, and in how many directions.
-const DISTANCES: [f64; 9] = [14.0, 17.0, 20.0, 24.0, 29.0, 35.0, 42.0, 50.0, 60.0];
-const DIRECTIONS: usize = 16;
+const DISTANCES: [f64; 13] = [14.0, 17.0, 20.0, 24.0, 29.0, 35.0, 42.0, 50.0, 60.0, 72.0, 86.0, 102.0, 120.0];
+const DIRECTIONS: usize = 24;
 
 /// A site's number: where the site is, and where the number stands.
 #[derive(Clone, Copy, Debug)]
@@ -107,7 +107,7 @@ impl Surroundings {
             && !places.iter().flatten().any(|other| other.area().overlaps(&area))
     }
 
-    /// The best free place around a site, or else any free place in the room.
+    /// The best free place around a site, or else the nearest free cell of the room.
     fn moved(&self, site: usize, reach: f64, places: &[Option<Balloon>]) -> Option<Balloon> {
         let at = self.points[site];
         let free = |centre: &Point| {
@@ -115,9 +115,11 @@ impl Surroundings {
             let is_off = !Area::around(at, POINT).overlaps(&balloon.area());
             (is_off && self.room.contains(&balloon.area()) && self.is_free(site, &balloon, places)).then_some(balloon)
         };
-        let near = around(at).filter_map(|centre| free(&centre)).map(|balloon| (self.cost(&balloon, places), balloon));
-        let best = near.min_by(|one, other| one.0.total_cmp(&other.0)).map(|(_, balloon)| balloon);
-        best.or_else(|| self.cells(reach).find_map(|centre| free(&centre)))
+        let around = around(at).filter_map(|centre| free(&centre));
+        let best = around.min_by(|one, other| self.cost(one, places).total_cmp(&self.cost(other, places)));
+        let cells = || self.cells(reach).filter_map(|centre| free(&centre));
+        let far = |balloon: &Balloon| distance(balloon.site, balloon.centre);
+        best.or_else(|| cells().min_by(|one, other| far(one).total_cmp(&far(other))))
     }
 
     /// How far off a number is, and how many strokes it and its thin line meet.

@@ -5,6 +5,7 @@ use crate::frame::Frame;
 use crate::number;
 use crate::paint::{paint, text_on, DARK, RED};
 use crate::plan::Plan;
+use crate::scale::Scale;
 use crate::spread::spread;
 use crate::text::{shortened, width, Anchor, Text};
 use backbone::{Fault, Label};
@@ -13,30 +14,37 @@ use std::fmt::Write;
 
 const BOX_HEIGHT: f64 = 17.0;
 pub const SPACING: f64 = 20.0;
-/// From the drawing's edge to the boxes.
+/// From the drawing's edge to the boxes, and at most so much more where boxes are moved far.
 const LEADER: f64 = 34.0;
+const MORE_LEADER: f64 = 40.0;
 const SIZE: f64 = 11.0;
 const MOST_NAME: f64 = 120.0;
 const PADDING: f64 = 7.0;
 
-/// The boxes' texts and sizes, and where they begin.
+/// The boxes' texts and sizes, and where they stand.
 pub struct Column {
     names: Vec<String>,
     lengths: Vec<String>,
     box_width: f64,
+    /// The boxes' middles, in pixels from the drawing's upper edge.
+    middles: Vec<f64>,
     /// Pixels from the drawing's right edge to the boxes.
     offset: f64,
 }
 
 impl Column {
     /// `more` is what sites' numbers take right of the drawing.
-    pub fn of(plan: &Plan, names: &Names, more: f64) -> Column {
-        let name = |label: &Label| colour_name(names, label.colour);
-        let names: Vec<String> =
-            plan.labels.iter().map(|label| shortened(&name(label), SIZE, true, MOST_NAME)).collect();
-        let lengths = plan.labels.iter().map(|label| format!("slot {}, length {}", label.slot, label.length)).collect();
+    pub fn of(plan: &Plan, names: &Names, scale: &Scale, more: f64) -> Column {
+        let name = |label: &Label| shortened(&colour_name(names, label.colour), SIZE, true, MOST_NAME);
+        let names: Vec<String> = plan.labels.iter().map(name).collect();
+        let length = |label: &Label| format!("slot {}, length {}", label.slot, label.length);
+        let lengths = plan.labels.iter().map(length).collect();
         let widest = names.iter().map(|name| width(name, SIZE, true)).fold(0.0, f64::max);
-        Column { names, lengths, box_width: widest + 2.0 * PADDING, offset: LEADER + more }
+        let wanted: Vec<f64> = plan.labels.iter().map(|label| f64::from(label.height) * scale.unit_down()).collect();
+        let middles = spread(&wanted, SPACING, 0.0);
+        let farthest = wanted.iter().zip(&middles).map(|(want, middle)| (want - middle).abs()).fold(0.0, f64::max);
+        let offset = LEADER + (farthest / 5.0).min(MORE_LEADER) + more;
+        Column { names, lengths, box_width: widest + 2.0 * PADDING, middles, offset }
     }
 
     /// The pixels that it takes from the drawing's right edge on.
@@ -45,17 +53,16 @@ impl Column {
         self.offset + self.box_width + PADDING + widest
     }
 
-    /// The boxes' middles, from the drawing's upper edge.
-    pub fn middles(&self, plan: &Plan, frame: &Frame) -> Vec<f64> {
-        let wanted: Vec<f64> = plan.labels.iter().map(|label| frame.y(label.height)).collect();
-        spread(&wanted, SPACING, frame.top)
+    /// The last pixel of the boxes, from the drawing's upper edge.
+    pub fn height(&self) -> f64 {
+        self.middles.last().map_or(0.0, |middle| middle + BOX_HEIGHT / 2.0)
     }
 
     pub fn svg(&self, plan: &Plan, frame: &Frame) -> String {
         let mut svg = String::new();
         let left = frame.right + self.offset;
-        for (index, middle) in self.middles(plan, frame).into_iter().enumerate() {
-            let label = &plan.labels[index];
+        for (index, label) in plan.labels.iter().enumerate() {
+            let middle = frame.top + self.middles[index];
             svg.push_str(&self.leader(frame, label, middle));
             svg.push_str(&self.one(index, label.colour, left, middle));
             if is_above_bound(plan, label.slot) {
@@ -93,11 +100,6 @@ impl Column {
             + &text(&self.names[index], left + self.box_width / 2.0, Anchor::Middle, true, text_on(colour))
             + &text(&self.lengths[index], right + PADDING, Anchor::Start, false, DARK)
     }
-}
-
-/// The last pixel that boxes around these middles take.
-pub fn bottom(middles: &[f64]) -> f64 {
-    middles.last().map_or(0.0, |middle| middle + BOX_HEIGHT / 2.0)
 }
 
 pub fn colour_name(names: &Names, colour: usize) -> String {

@@ -1,7 +1,7 @@
 //! The whole picture: panels side by side, and below them the scale bar and the parts.
 
 use crate::balloons::{self, Balloons};
-use crate::column::{bottom, Column, SPACING};
+use crate::column::{Column, SPACING};
 use crate::frame::Frame;
 use crate::heading::Heading;
 use crate::parts::{bar_width, scale_bar, Parts};
@@ -51,7 +51,7 @@ impl<'a> Measured<'a> {
         let width = f64::from(plan.sheet.width()) * scale.unit_across();
         let height = (f64::from(depth(&plan.sheet)) * scale.unit_down() + BELOW).max(LEAST_HEIGHT);
         let balloons = balloons::place(plan, &scale, width, height);
-        let column = Column::of(plan, &options.names, balloons.more);
+        let column = Column::of(plan, &options.names, &scale, balloons.more);
         let panel_width = (LEFT + width + column.width() + RIGHT).max(LEAST_WIDTH);
         let heading = Heading::of(panel, panel_width - LEFT - RIGHT);
         let drawing = (width, height + balloons.more);
@@ -77,7 +77,7 @@ impl<'a> Measured<'a> {
 
     /// The lowest pixel of drawing and labels.
     fn bottom(&self, frame: &Frame) -> f64 {
-        frame.bottom.max(bottom(&self.column.middles(self.panel.plan, frame)))
+        frame.bottom.max(frame.top + self.column.height())
     }
 }
 

@@ -11,18 +11,27 @@ const WIDTHS: [u16; 95] = [
     556, 278, 556, 556, 222, 222, 500, 222, 833, 556, 556, 556, 556, 333, 500, 278, 556, 500, 722, 500, 500, 500, 334,
     260, 334, 584,
 ];
+/// The same for bold text.
+#[rustfmt::skip]
+const BOLD_WIDTHS: [u16; 95] = [
+    278, 333, 474, 556, 556, 889, 722, 238, 333, 333, 389, 584, 278, 333, 278, 278, 556, 556, 556, 556, 556, 556, 556,
+    556, 556, 556, 333, 333, 584, 584, 584, 611, 975, 722, 722, 722, 722, 667, 611, 778, 722, 278, 556, 722, 611, 833,
+    722, 778, 667, 778, 722, 667, 611, 722, 667, 944, 667, 667, 611, 333, 278, 333, 584, 556, 333, 556, 611, 556, 611,
+    556, 333, 611, 611, 278, 278, 556, 278, 889, 611, 611, 611, 611, 389, 556, 333, 611, 556, 778, 556, 556, 500, 389,
+    280, 389, 584,
+];
 /// Scripts from here on have characters as wide as they are high.
 const FIRST_WIDE: char = '\u{2E80}';
-/// What bold text takes more.
-const BOLD: f64 = 1.06;
+
 /// The room that a text takes across. Each text states it as its `textLength`, so that every font keeps to it.
 pub fn width(words: &str, size: f64, is_bold: bool) -> f64 {
+    let widths = if is_bold { &BOLD_WIDTHS } else { &WIDTHS };
     let one = |letter: char| match letter {
-        ' '..='~' => f64::from(WIDTHS[letter as usize - ' ' as usize]) / 1000.0,
+        ' '..='~' => f64::from(widths[letter as usize - ' ' as usize]) / 1000.0,
         FIRST_WIDE.. => 1.0,
         _ => 0.6,
     };
-    words.chars().map(one).sum::<f64>() * size * if is_bold { BOLD } else { 1.0 }
+    words.chars().map(one).sum::<f64>() * size
 }
 
 /// A text as XML holds it. Characters that XML has no form for are replaced.
