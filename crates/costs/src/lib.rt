@@ -7,7 +7,7 @@ ghost use Rattle.costs.specs.Costs.{wordBy, headWord};
 use arrays::Measures;
 
 // Count and length in one word, by the aim.
-pub fn word_of(q: Measures, count: u32, length: u32) -> u32
+pub fn cost_word(q: Measures, count: u32, length: u32) -> u32
     requires { ⌜ (count < 2) × (length < 65536) ⌝ }
     ensures { λ r. ⌜ r ≡ wordBy q count length ⌝ }
 {

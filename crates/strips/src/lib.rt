@@ -13,7 +13,7 @@ use arrays::places::is_clear;
 use arrays::places::is_far;
 use arrays::places::is_over;
 use arrays::places::is_under;
-use costs::word_of;
+use costs::cost_word;
 use rows::Site;
 use rows::Strip;
 use words::NONE;
@@ -144,14 +144,14 @@ pub fn open_cost(q: Measures, heights: &[u32], s: Site, k: u32) -> u32
     requires { ⌜ Measured q (now heights) (s .y) ⌝ }
     ensures { λ r. ⌜ r ≡ openCost q (now (heights .entry)) (pointOf s) k ⌝ }
 {
-    word_of(q, 1, monus(q.width, s.x) + apart_of(get(heights, k), s.y))
+    cost_word(q, 1, monus(q.width, s.x) + apart_of(get(heights, k), s.y))
 }
 
 fn join_cost(q: Measures, heights: &[u32], s: Site, k: u32) -> u32
     requires { ⌜ Measured q (now heights) (s .y) ⌝ }
     ensures { λ r. ⌜ r ≡ joinCost q (now (heights .entry)) (pointOf s) k ⌝ }
 {
-    word_of(q, 0, apart_of(get(heights, k), s.y))
+    cost_word(q, 0, apart_of(get(heights, k), s.y))
 }
 
 // The least that joining a label costs.

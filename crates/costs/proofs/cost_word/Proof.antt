@@ -1,9 +1,9 @@
 use Prim.Native.Nat.{_-_}
 use borrow.Author.Needs.{needs}
-use Rattle.costs.proofs.word_of.Statement.{statement}
-use Rattle.costs.proofs.word_of.Tie as tie
-use Rattle.costs.proofs.word_of.Reads as reads
-use Rattle.costs.proofs.word_of.Lts as lts
+use Rattle.costs.proofs.cost_word.Statement.{statement}
+use Rattle.costs.proofs.cost_word.Tie as tie
+use Rattle.costs.proofs.cost_word.Reads as reads
+use Rattle.costs.proofs.cost_word.Lts as lts
 
 mul-result : tie.Need-mul-result
 mul-result c = search needs
@@ -25,6 +25,6 @@ returns-2 : tie.Need-returns-2
 returns-2 c =
     rw (c .if1 .left)
 
-pub word-of-spec : {M : Type 1} → statement M
-word-of-spec =
+pub cost-word-spec : {M : Type 1} → statement M
+cost-word-spec =
     tie.close (tie.spec mul-result add-result returns mul-result-2 add-result-2 returns-2)

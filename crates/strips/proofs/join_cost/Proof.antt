@@ -7,7 +7,7 @@ use Rattle.strips.proofs.join_cost.Tie as tie
 use Rattle.strips.proofs.join_cost.Reads as reads
 use Rattle.strips.proofs.join_cost.Lts as lts
 use Rattle.words.proofs.drops.apart_of.Reads as apart-of-reads
-use Rattle.costs.proofs.word_of.Reads as word-of-reads
+use Rattle.costs.proofs.cost_word.Reads as cost-word-reads
 use Rattle.words.proofs.get.Reads as get-reads
 
 get-requires : tie.Need-get-requires
@@ -16,13 +16,13 @@ get-requires c κs = search needs
 apart-of-requires : tie.Need-apart-of-requires
 apart-of-requires c κs = search needs
 
-word-of-requires : tie.Need-word-of-requires
-word-of-requires c κs =
+cost-word-requires : tie.Need-cost-word-requires
+cost-word-requires c κs =
     omega (arith, c .before .before .before .pre .heightLow (c .before .before .before .args .k))
 
 returns : tie.Need-returns
 returns c =
-    c .word-of .ensures ∙ rw (c .before .apart-of .ensures, c .before .before .get .ensures)
+    c .cost-word .ensures ∙ rw (c .before .apart-of .ensures, c .before .before .get .ensures)
 
 pub join-cost-spec : {M : Type 1} → statement M
-join-cost-spec = tie.close (tie.spec get-requires apart-of-requires word-of-requires returns)
+join-cost-spec = tie.close (tie.spec get-requires apart-of-requires cost-word-requires returns)

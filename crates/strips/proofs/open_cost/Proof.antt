@@ -7,7 +7,7 @@ use Rattle.strips.proofs.open_cost.Tie as tie
 use Rattle.strips.proofs.open_cost.Reads as reads
 use Rattle.strips.proofs.open_cost.Lts as lts
 use Rattle.words.proofs.drops.apart_of.Reads as apart-of-reads
-use Rattle.costs.proofs.word_of.Reads as word-of-reads
+use Rattle.costs.proofs.cost_word.Reads as cost-word-reads
 use Rattle.words.proofs.get.Reads as get-reads
 use Rattle.words.proofs.monus.Reads as monus-reads
 
@@ -20,19 +20,19 @@ get-requires c κs = search needs
 apart-of-requires : tie.Need-apart-of-requires
 apart-of-requires c κs = search needs
 
-add-word-of : tie.Need-add-word-of
-add-word-of c =
+add-cost-word : tie.Need-add-cost-word
+add-cost-word c =
     omega (arith, c .before .before .before .before .pre .heightLow (c .before .before .before .before .args .k))
 
-word-of-requires : tie.Need-word-of-requires
-word-of-requires c κs =
+cost-word-requires : tie.Need-cost-word-requires
+cost-word-requires c κs =
     omega (arith, c .before .before .before .before .pre .heightLow (c .before .before .before .before .args .k))
 
 returns : tie.Need-returns
 returns c =
-    c .word-of .ensures ∙ rw (c .before .apart-of .ensures, c .before .before .get .ensures, c .before .before .before .monus .ensures)
+    c .cost-word .ensures ∙ rw (c .before .apart-of .ensures, c .before .before .get .ensures, c .before .before .before .monus .ensures)
 
 pub open-cost-spec : {M : Type 1} → statement M
 open-cost-spec =
     tie.close
-    (tie.spec monus-requires get-requires apart-of-requires add-word-of word-of-requires returns)
+    (tie.spec monus-requires get-requires apart-of-requires add-cost-word cost-word-requires returns)
