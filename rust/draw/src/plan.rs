@@ -2,7 +2,8 @@
 
 use crate::page::Panel;
 use crate::{listed_sites, Side};
-use backbone::{faults, judge, labels, lay_out, read, split_stored, Fault, Label, Layout, Refusal, Rule, Sheet};
+use backbone::{faults, judge, labels, read, split_stored, Fault, Label, Layout, NotLaidOut};
+use backbone::{Refusal, Rule, Sheet, WorkArea};
 
 pub struct Plan {
     pub sheet: Sheet,
@@ -42,15 +43,15 @@ impl Plan {
 }
 
 /// The sheet and the layout of a stored sheet; of a sheet alone the library's layout, or none where it has none.
-pub fn sheet_and_layout(words: &[u32]) -> Result<(Sheet, Option<Layout>), Refusal> {
+pub fn sheet_and_layout(words: &[u32]) -> Result<(Sheet, Option<Layout>), NotLaidOut> {
     let (sheet_words, layout_words) = split_stored(words);
     let sheet = Sheet::from_words(sheet_words)?;
     if !layout_words.is_empty() {
         return Ok((sheet, Some(Layout::from_words(layout_words).ok_or(Refusal::BadLayout)?)));
     }
-    match lay_out(sheet_words) {
+    match WorkArea::new().lay_out(sheet_words) {
         Ok(layout) => Ok((sheet, Some(layout))),
-        Err(Refusal::NoLayout) => Ok((sheet, None)),
-        Err(refusal) => Err(refusal),
+        Err(NotLaidOut::Refused(Refusal::NoLayout)) => Ok((sheet, None)),
+        Err(stopped) => Err(stopped),
     }
 }

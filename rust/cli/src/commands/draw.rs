@@ -5,7 +5,7 @@ use crate::exit::{Exit, Failure};
 use crate::input::Source;
 use crate::output::{message, write_file, Output};
 use crate::subcommand::Subcommand;
-use backbone::{Layout, Refusal, Sheet};
+use backbone::{Layout, NotLaidOut, Refusal, Sheet};
 use draw::{sheet_and_layout, Options, Side};
 use model::rounding::Rounding;
 use sheet::Names;
@@ -139,7 +139,10 @@ fn refused(source: &dyn Display, refusal: Refusal) -> NoPicture {
 impl Drawn {
     fn of(source: Source) -> Result<Drawn, NoPicture> {
         let record = source.record()?;
-        let (sheet, layout) = sheet_and_layout(&record.words).map_err(|refusal| refused(&source, refusal))?;
+        let (sheet, layout) = sheet_and_layout(&record.words).map_err(|stopped| match stopped {
+            NotLaidOut::Refused(refusal) => refused(&source, refusal),
+            NotLaidOut::NoMemory { .. } => Failure::about(&source, &stopped).into(),
+        })?;
         let is_stored = !backbone::split_stored(&record.words).1.is_empty();
         let claims_no_layout = record.claims_no_layout;
         Ok(Drawn { source, sheet, layout, names: record.names, is_stored, claims_no_layout })
