@@ -12,12 +12,6 @@ use std::process::{Child, Command, Output, Stdio};
 pub const FORM: Setting =
     Setting { name: "--engine-form", value: "FORM", about: "how the engine reads sheets: text, words, bin or json" };
 
-/// What an engine is and does, for help.
-pub const ABOUT: &str = "\
-COMMAND is run by the shell for each sheet. It reads the sheet on its standard input and writes on its standard output
-a stored sheet (the sheet and a layout), the layout alone, or the line `refused 10` if it finds no layout; any form is
-read. Other output, and none, is no answer. Its exit code is left aside.";
-
 /// A command with the form that it reads.
 pub struct Engine {
     command: OsString,

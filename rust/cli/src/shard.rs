@@ -40,6 +40,11 @@ impl Shard {
         place % self.of == self.this - 1
     }
 
+    /// Those of a list that belong to the share.
+    pub fn part<T>(self, list: Vec<T>) -> Vec<T> {
+        list.into_iter().enumerate().filter(|(place, _)| self.has(*place as u64)).map(|(_, item)| item).collect()
+    }
+
     /// How many of so many sheets belong to the share.
     pub fn part_of(self, total: u64) -> u64 {
         total / self.of + u64::from(total % self.of >= self.this)

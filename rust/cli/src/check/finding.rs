@@ -1,8 +1,11 @@
 //! What is found of one stored sheet.
 
+use crate::engine::Engine;
 use crate::exit::Failure;
 use crate::input::Source;
-use backbone::{causes, faults, judge, split_stored, Cause, Fault, Layout, NotLaidOut, Refusal, Rule, Sheet, WorkArea};
+use backbone::{
+    causes, faults, judge, read, split_stored, Cause, Fault, Layout, NotLaidOut, Refusal, Rule, Sheet, WorkArea,
+};
 use sheet::Record;
 use std::fmt;
 
@@ -21,6 +24,8 @@ pub enum Finding {
     FalseNoLayout,
     /// Its writer found no layout, and there is none.
     TrueNoLayout,
+    /// The engine that was asked for a layout gave no answer; why.
+    NoAnswer(String),
     /// It is no stored sheet.
     Refused { refusal: Refusal, causes: Vec<Cause> },
     /// It can't be read, or there is no memory to lay it out.
@@ -67,7 +72,7 @@ impl fmt::Display for Difference {
 }
 
 impl Finding {
-    /// The name, one of eight.
+    /// The name, one of nine.
     pub fn name(&self) -> &'static str {
         match self {
             Finding::Best => "best",
@@ -76,21 +81,32 @@ impl Finding {
             Finding::Unlawful { .. } => "unlawful",
             Finding::FalseNoLayout => "false no layout",
             Finding::TrueNoLayout => "true no layout",
+            Finding::NoAnswer(_) => "no answer",
             Finding::Refused { .. } => "refused",
             Finding::Unreadable(_) => "unreadable",
         }
     }
 
     /// All names, in the order of the table.
-    pub const NAMES: [&'static str; 8] =
-        ["best", "equal", "not best", "unlawful", "false no layout", "true no layout", "refused", "unreadable"];
+    pub const NAMES: [&'static str; 9] = [
+        "best",
+        "equal",
+        "not best",
+        "unlawful",
+        "false no layout",
+        "true no layout",
+        "no answer",
+        "refused",
+        "unreadable",
+    ];
 
-    /// Whether the engine that wrote the sheet is at fault. An equal is not: it has the best count and length.
+    /// The names of findings with which the engine that wrote the sheet is at fault. An equal is not one: it has the
+    /// best count and length.
+    pub const FAULTS: [&'static str; 5] = ["not best", "unlawful", "false no layout", "no answer", "refused"];
+
+    /// Whether the engine that wrote the sheet is at fault.
     pub fn is_fault(&self) -> bool {
-        match self {
-            Finding::NotBest(_) | Finding::Unlawful { .. } | Finding::FalseNoLayout | Finding::Refused { .. } => true,
-            Finding::Best | Finding::Equal { .. } | Finding::TrueNoLayout | Finding::Unreadable(_) => false,
-        }
+        Finding::FAULTS.contains(&self.name())
     }
 
     /// The sites that it names.
@@ -129,6 +145,8 @@ pub struct Checked {
     pub given: Option<Layout>,
     /// The best layout of its sheet; none where there is none, and where the sheet is refused.
     pub best: Option<Layout>,
+    /// How many cuts are nested in the best layout; none where there is none, and on a two-sided sheet.
+    pub depth: Option<u32>,
     pub finding: Finding,
 }
 
@@ -144,6 +162,7 @@ impl Checked {
             Finding::NotBest(difference) => format!("{difference}; {best}"),
             Finding::Unlawful { rule, faults } => format!("rule {}: {}; {best}", rule.number(), listed(faults)),
             Finding::FalseNoLayout => best,
+            Finding::NoAnswer(problem) => problem.clone(),
             Finding::Refused { refusal, causes } if causes.is_empty() => refusal.to_string(),
             Finding::Refused { refusal, causes } => format!("{refusal}: {}", listed(causes)),
             Finding::Unreadable(failure) => failure.to_string(),
@@ -169,24 +188,43 @@ fn listed<T: fmt::Display>(items: &[T]) -> String {
     shown.join("; ")
 }
 
-/// Checks stored sheets in one work area.
+/// Checks stored sheets in one work area; with an engine, the layouts that it gives for their sheets.
 #[derive(Default)]
-pub struct Checker {
+pub struct Checker<'a> {
     area: WorkArea,
+    engine: Option<&'a Engine>,
 }
 
-impl Checker {
+impl<'a> Checker<'a> {
+    pub fn new(engine: Option<&'a Engine>) -> Checker<'a> {
+        Checker { area: WorkArea::default(), engine }
+    }
+
     /// What a source holds, checked.
     pub fn source(&mut self, source: &Source) -> Checked {
-        match source.record() {
-            Ok(record) => self.record(source.clone(), record),
-            Err(failure) => Checked {
-                source: source.clone(),
-                record: Record::default(),
-                given: None,
-                best: None,
-                finding: Finding::Unreadable(failure),
-            },
+        match (source.record(), self.engine) {
+            (Ok(record), None) => self.record(source.clone(), record),
+            (Ok(record), Some(engine)) => self.answer(source.clone(), record, engine),
+            (Err(failure), _) => unreadable(source.clone(), Record::default(), failure),
+        }
+    }
+
+    /// What an engine says of a record's sheet, checked. A sheet that the reader refuses is not asked about.
+    pub fn answer(&mut self, source: Source, record: Record, engine: &Engine) -> Checked {
+        let sheet = Record { words: split_stored(&record.words).0.to_vec(), claims_no_layout: false, ..record };
+        if read(&sheet.words).is_err() {
+            return self.record(source, sheet);
+        }
+        match engine.answer(&sheet) {
+            Err(failure) => unreadable(source, sheet, failure),
+            Ok(Ok(answer)) => self.record(source, answer),
+            Ok(Err(problem)) => {
+                let mut checked = self.record(source, sheet);
+                if !matches!(checked.finding, Finding::Unreadable(_)) {
+                    checked.finding = Finding::NoAnswer(problem);
+                }
+                checked
+            }
         }
     }
 
@@ -205,8 +243,20 @@ impl Checker {
                 (best, finding)
             }
         };
-        Checked { source, record, given, best, finding }
+        let depth = best.as_ref().and_then(|best| depth_of(sheet_words, best));
+        Checked { source, record, given, best, depth, finding }
     }
+}
+
+fn unreadable(source: Source, record: Record, failure: Failure) -> Checked {
+    Checked { source, record, given: None, best: None, depth: None, finding: Finding::Unreadable(failure) }
+}
+
+/// The depth of a one-sided sheet's layout.
+fn depth_of(words: &[u32], layout: &Layout) -> Option<u32> {
+    let sheet = model::sheet::read(words).ok().filter(|sheet| !sheet.two_sided)?;
+    let slot_of: Vec<usize> = layout.slots.iter().map(|slot| usize::from(*slot)).collect();
+    Some(model::depth::depth(&sheet, &slot_of))
 }
 
 fn refused(words: &[u32], refusal: Refusal) -> Finding {

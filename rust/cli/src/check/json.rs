@@ -1,5 +1,6 @@
 //! Findings as one JSON object: `sheets`, a list of objects, and `counts`.
 
+use super::counts::{depth_name, Tally};
 use super::{Checked, Counts, Finding, Format};
 use crate::exit::Failure;
 use crate::output::Output;
@@ -44,6 +45,7 @@ fn members(checked: &Checked) -> Vec<(&'static str, String)> {
     add("sites", (!sites.is_empty()).then(|| list(&sites)));
     add("slots", (!slots.is_empty()).then(|| list(&slots)));
     add("text", (!text.is_empty()).then(|| quote(&text)));
+    add("depth", checked.depth.map(|depth| depth.to_string()));
     add("given", checked.given.as_ref().map(layout));
     add("best", checked.best.as_ref().map(layout));
     members
@@ -65,7 +67,16 @@ impl Format for Json {
     }
 
     fn end(&mut self, counts: &Counts, output: &mut Output) -> Result<(), Failure> {
-        let counts: Vec<_> = counts.by_name().map(|(name, count)| (name, count.to_string())).collect();
-        output.text(&format!("\n],\n\"counts\": {}}}\n", object(&counts)))
+        let shown = |names: &mut dyn Iterator<Item = (&'static str, u64)>| {
+            object(&names.map(|(name, count)| (name, count.to_string())).collect::<Vec<_>>())
+        };
+        let mut text = format!("\n],\n\"counts\": {}", shown(&mut counts.by_name()));
+        if let Some(rows) = counts.by_depth() {
+            let row = |(depth, tally): &(Option<u32>, &Tally)| {
+                format!("\n  {}: {}", quote(&depth_name(*depth)), shown(&mut tally.by_name()))
+            };
+            text.push_str(&format!(",\n\"by_depth\": {{{}\n}}", rows.iter().map(row).collect::<Vec<_>>().join(",")));
+        }
+        output.text(&(text + "}\n"))
     }
 }

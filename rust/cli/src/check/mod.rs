@@ -13,6 +13,7 @@ pub use counts::Counts;
 pub use finding::{Checked, Checker, Finding};
 pub use pool::in_order;
 pub use report::Report;
+pub use tsv::NAMES as TSV_NAMES;
 
 use crate::exit::Failure;
 use crate::output::Output;

@@ -1,6 +1,7 @@
 //! Sheets checked by several threads, told in their order.
 
 use super::{Checked, Checker};
+use crate::engine::Engine;
 use crate::exit::Failure;
 use crate::input::Source;
 use std::collections::BTreeMap;
@@ -8,9 +9,11 @@ use std::sync::atomic::{AtomicUsize, Ordering};
 use std::sync::mpsc::{channel, Receiver, Sender};
 use std::thread;
 
-/// Checks each source with so many threads and tells each finding in the order of the sources.
+/// Checks each source, or what an engine says of its sheet, with so many threads, and tells each finding in the order
+/// of the sources.
 pub fn in_order(
     sources: &[Source],
+    engine: Option<&Engine>,
     jobs: usize,
     tell: &mut dyn FnMut(Checked) -> Result<(), Failure>,
 ) -> Result<(), Failure> {
@@ -19,7 +22,7 @@ pub fn in_order(
     thread::scope(|scope| {
         for _ in 0..jobs.min(sources.len()) {
             let (sender, next) = (sender.clone(), &next);
-            let started = thread::Builder::new().spawn_scoped(scope, move || work(sources, next, &sender));
+            let started = thread::Builder::new().spawn_scoped(scope, move || work(sources, engine, next, &sender));
             started.map_err(|error| Failure::about(&"a thread can't be started", &error))?;
         }
         drop(sender);
@@ -29,8 +32,8 @@ pub fn in_order(
 }
 
 /// Takes the next source until none is left, or until nobody listens.
-fn work(sources: &[Source], next: &AtomicUsize, sender: &Sender<(usize, Checked)>) {
-    let mut checker = Checker::default();
+fn work(sources: &[Source], engine: Option<&Engine>, next: &AtomicUsize, sender: &Sender<(usize, Checked)>) {
+    let mut checker = Checker::new(engine);
     loop {
         let index = next.fetch_add(1, Ordering::Relaxed);
         let Some(source) = sources.get(index) else { return };

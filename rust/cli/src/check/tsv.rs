@@ -1,6 +1,7 @@
 //! Findings as tab-separated values: a line of names, then a line a sheet. A tab, a line feed and a backslash in a
 //! value are written \t, \n and \\.
 
+use super::counts::depth_name;
 use super::{Checked, Counts, Finding, Format};
 use crate::exit::Failure;
 use crate::output::{message, Output};
@@ -8,7 +9,7 @@ use backbone::Layout;
 
 pub struct Tsv;
 
-const NAMES: [&str; 15] = [
+pub const NAMES: [&str; 16] = [
     "file",
     "finding",
     "refusal",
@@ -24,9 +25,10 @@ const NAMES: [&str; 15] = [
     "sites",
     "slots",
     "text",
+    "depth",
 ];
 
-fn row(checked: &Checked) -> [String; 15] {
+fn row(checked: &Checked) -> [String; 16] {
     let numbers = |layout: &Option<Layout>| match layout {
         None => [String::new(), String::new()],
         Some(layout) => [layout.labels.to_string(), layout.length.to_string()],
@@ -63,6 +65,7 @@ fn row(checked: &Checked) -> [String; 15] {
         sites,
         slots,
         checked.text(),
+        depth_name(checked.depth),
     ]
 }
 

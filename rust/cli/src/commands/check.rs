@@ -2,10 +2,12 @@
 
 use crate::arguments::{Arguments, Setting};
 use crate::check::{in_order, Counts, Finding, Report, FORMATS};
+use crate::engine::{self, Engine};
 use crate::exit::{Exit, Failure};
 use crate::input::sources;
 use crate::output::{message, Output};
 use crate::progress::Progress;
+use crate::shard::{self, Shard};
 use crate::subcommand::Subcommand;
 
 pub const SUBCOMMAND: Subcommand = Subcommand {
@@ -24,10 +26,19 @@ folders in it, every file is taken whose name ends in .txt, .words, .bin or .jso
     false no layout  'refused 10', and there is a layout
     true no layout   'refused 10', and there is none
     refused N        it is no stored sheet; which words, slots or sites it comes from
+    no answer        with --engine: the engine wrote something else, or nothing
     unreadable       the file can't be read, or there is no memory to lay it out
 
 Findings are told in the order of the files, however many threads there are. A table of counts ends them; with tsv and
-junit, which have no place for it, tsv's goes to standard error.",
+junit, which have no place for it, tsv's goes to standard error.
+
+With --engine COMMAND the layouts in the files are left aside, and the engine lays out each sheet. COMMAND is run by the
+shell for each sheet. It reads the sheet on its standard input and writes on its standard output a stored sheet (the
+sheet and a layout), the layout alone, or the line 'refused 10' if it finds no layout; any form is read. Its exit code is
+left aside.
+
+With --by-depth the table also counts by depth: how many cuts are nested in the best layout. With --shard K/N every N-th
+file is taken; `backbone merge` makes one report of the shares' tsv reports.",
     settings: &[
         Setting { name: "--format", value: "FORM", about: "text (where it is not given), json, tsv or junit" },
         Setting {
@@ -35,11 +46,15 @@ junit, which have no place for it, tsv's goes to standard error.",
             value: "FOLDER",
             about: "write FOLDER/index.html: the table, sortable, and each fault's layout beside the best one",
         },
+        Setting { name: "--engine", value: "COMMAND", about: "check the layouts that this engine gives for the sheets" },
+        engine::FORM,
+        Setting { name: "--by-depth", value: "", about: "count the findings by the depth of the best layout too" },
+        shard::SETTING,
         Setting { name: "--jobs", value: "N", about: "threads, each with a work area of its own; 1 where not given" },
     ],
     exits: &[
         (Exit::Done, "every sheet is best, equal or truly without a layout"),
-        (Exit::Found, "findings: some sheet is not best, unlawful, refused, or falsely said to have no layout"),
+        (Exit::Found, "findings: some sheet is not best, unlawful, refused, unanswered, or falsely said to have no layout"),
     ],
     run,
 };
@@ -52,12 +67,14 @@ fn run(arguments: &Arguments, output: &mut Output) -> Result<Exit, Failure> {
     if arguments.operands.is_empty() {
         return Err(Failure::WrongUse("a file or a folder is missing; - is standard input".to_string()));
     }
-    let sources = sources(&arguments.operands)?;
+    let engine = Engine::of(arguments, "--engine")?;
+    let shard = Shard::of(arguments)?;
+    let sources = shard.part(sources(&arguments.operands)?);
     let mut report = arguments.path("--report").map(|folder| Report::new(&folder)).transpose()?;
     let progress = Progress::new("check", sources.len() as u64);
-    let mut counts = Counts::default();
+    let mut counts = Counts::new(arguments.has("--by-depth"));
     format.begin(output)?;
-    let told = in_order(&sources, jobs, &mut |checked| {
+    let told = in_order(&sources, engine.as_ref(), jobs, &mut |checked| {
         counts.add(&checked);
         progress.step();
         if let Finding::Unreadable(failure) = &checked.finding {

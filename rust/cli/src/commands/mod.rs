@@ -5,4 +5,6 @@ pub mod convert;
 pub mod corpus;
 pub mod draw;
 pub mod lay_out;
+pub mod merge;
+pub mod shrink;
 pub mod why;

@@ -1,0 +1,110 @@
+//! `backbone shrink`: the smallest sheet on which an engine still errs.
+
+use crate::arguments::{Arguments, Setting};
+use crate::check::{Checked, Checker, Finding};
+use crate::engine::{self, Engine};
+use crate::exit::{Exit, Failure};
+use crate::input::Source;
+use crate::output::{message, write_file, Output};
+use crate::shrink::smallest;
+use crate::subcommand::Subcommand;
+use backbone::split_stored;
+use model::sheet::Sheet;
+use sheet::Record;
+
+pub const SUBCOMMAND: Subcommand = Subcommand {
+    name: "shrink",
+    operands: "FILE|- --with COMMAND",
+    about: "the smallest sheet on which an engine still errs",
+    text: "\
+Lays FILE's sheet out with an engine and checks the answer, as `backbone check --engine` does. Where the engine is at
+fault, the sheet is made smaller as long as the engine has the same finding: fewest sites, then slots, then colours, then
+the smallest numbers. What comes out is smallest in this sense: no site, slot or colour can be left out, no two colours
+can be made one, no number can be lowered and nothing moved closer, each by itself, without the finding going.
+
+The sheet is written as the engine answered it, a stored sheet, with the finding in a comment: `backbone check` tells the
+finding of it, and `backbone draw` shows it.
+
+COMMAND is run by the shell for each sheet. It reads the sheet on its standard input and writes on its standard output a
+stored sheet, the layout alone, or the line 'refused 10'; any form is read. For an engine that may hang, COMMAND can begin
+with `timeout 10`.",
+    settings: &[
+        Setting { name: "--with", value: "COMMAND", about: "the engine" },
+        engine::FORM,
+        Setting { name: "-o", value: "OUT.txt", about: "write the sheet to this file, not to standard output" },
+    ],
+    exits: &[
+        (Exit::Done, "the engine is not at fault on FILE's sheet, so there is nothing to make smaller"),
+        (Exit::Found, "the engine is at fault, and the smallest sheet is written; or FILE's sheet is refused"),
+    ],
+    run,
+};
+
+fn run(arguments: &Arguments, output: &mut Output) -> Result<Exit, Failure> {
+    let engine = Engine::of(arguments, "--with")?;
+    let engine = engine.ok_or_else(|| Failure::WrongUse("option --with is missing".to_string()))?;
+    let source = Source::of(arguments.operand()?);
+    let record = source.record()?;
+    let mut asked = Asked { checker: Checker::default(), engine, source, sheets: 0 };
+    let first = asked.checked(Record { names: Default::default(), ..record })?;
+    message(&format!("{}: {}", first.source, told(&first)));
+    let words = split_stored(&first.record.words).0;
+    match model::sheet::read(words) {
+        Ok(sheet) if first.finding.is_fault() => {
+            let found = asked.shrunk(sheet, first.finding.name())?;
+            message(&format!("{} sheets were tried; of the smallest: {}", asked.sheets, told(&found)));
+            write(arguments, output, &found)?;
+            Ok(Exit::Found)
+        }
+        Ok(_) => Ok(Exit::Done),
+        Err(_) => Ok(Exit::Found),
+    }
+}
+
+/// The engine, what checks its answers, and how often it was asked.
+struct Asked {
+    checker: Checker<'static>,
+    engine: Engine,
+    source: Source,
+    sheets: u64,
+}
+
+impl Asked {
+    /// What the engine says of a sheet. What can't be checked ends the run.
+    fn checked(&mut self, sheet: Record) -> Result<Checked, Failure> {
+        self.sheets += 1;
+        let checked = self.checker.answer(self.source.clone(), sheet, &self.engine);
+        match checked.finding {
+            Finding::Unreadable(failure) => Err(failure),
+            _ => Ok(checked),
+        }
+    }
+
+    /// The smallest sheet with a finding of this name, as the engine answers it. The engine is asked once more at the
+    /// end: one that answers differently now and then can't be shrunk.
+    fn shrunk(&mut self, sheet: Sheet, name: &str) -> Result<Checked, Failure> {
+        let record = |sheet: &Sheet| Record::of_words(sheet.words());
+        let found = smallest(sheet, |sheet| Ok(self.checked(record(sheet))?.finding.name() == name))?;
+        let checked = self.checked(record(&found))?;
+        if checked.finding.name() != name {
+            let problem = format!("the engine answered '{name}' and then '{}' to one sheet", checked.finding.name());
+            return Err(Failure::Unable(problem));
+        }
+        Ok(checked)
+    }
+}
+
+/// A finding in one line.
+fn told(checked: &Checked) -> String {
+    let text = checked.text();
+    let separator = if text.is_empty() { "" } else { ": " };
+    format!("{}{separator}{text}", checked.heading())
+}
+
+fn write(arguments: &Arguments, output: &mut Output, checked: &Checked) -> Result<(), Failure> {
+    let text = format!("# {}\n{}", told(checked).replace('\n', " "), sheet::show_record(&checked.record));
+    match arguments.path("-o") {
+        Some(path) => write_file(&path, text.as_bytes()),
+        None => output.text(&text),
+    }
+}
