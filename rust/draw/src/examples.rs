@@ -1,7 +1,7 @@
 //! The words and the pictures that stand beside the texts in a folder of examples.
 
 use crate::plan::sheet_and_layout;
-use crate::{picture, rounded, Options};
+use crate::{picture, rounded, Background, Options};
 use model::rounding::Rounding;
 use sheet::Record;
 use std::fmt::Display;
@@ -31,12 +31,14 @@ fn beside(text: &Path) -> Result<[(PathBuf, String); 2], String> {
     let record = sheet::parse(&lines).map_err(|error| error.to_string())?;
     let numbers = record.words.iter().map(|word| sheet::show_number(*word) + "\n").collect();
     let background = fs::read_to_string(text.with_extension("background.svg")).ok();
+    let background = background.map(|inside| Background::parse(&inside)).transpose();
+    let background = background.map_err(|error| error.to_string())?;
     let is_rounded = text.file_stem().is_some_and(|name| name == "rounding");
     let drawn = drawn(record, background, is_rounded)?;
     Ok([(text.with_extension("words"), numbers), (text.with_extension("svg"), drawn)])
 }
 
-fn drawn(record: Record, background: Option<String>, is_rounded: bool) -> Result<String, String> {
+fn drawn(record: Record, background: Option<Background>, is_rounded: bool) -> Result<String, String> {
     let (sheet, layout) = sheet_and_layout(&record.words).map_err(|refusal| refusal.to_string())?;
     let options = Options { names: record.names, background, ..Options::default() };
     if is_rounded {

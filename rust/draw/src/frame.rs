@@ -1,5 +1,6 @@
 //! The drawing's frame: where a sheet's units fall on the page.
 
+use crate::background::Background;
 use crate::number;
 use crate::paint::{FAINT, GREY};
 use crate::scale::Scale;
@@ -43,7 +44,7 @@ impl Frame {
     }
 
     /// The sheet's edge, with what is drawn behind the sheet.
-    pub fn edge(&self, background: Option<&str>) -> String {
+    pub fn edge(&self, background: Option<&Background>) -> String {
         let mut svg = format!(
             "<rect class=\"frame\" x=\"{}\" y=\"{}\" width=\"{}\" height=\"{}\" fill=\"#fafaf7\" stroke=\"#c4c4bc\"/>\n",
             number(self.left),
@@ -51,8 +52,8 @@ impl Frame {
             number(self.right - self.left),
             number(self.bottom - self.top)
         );
-        if let Some(inside) = background {
-            svg.push_str(&self.in_units("", inside));
+        if let Some(background) = background {
+            svg.push_str(&self.in_units("", background.as_str()));
         }
         svg
     }

@@ -19,6 +19,7 @@
 //! pictures may stand in one page.
 
 mod area;
+mod background;
 mod balloons;
 mod column;
 pub mod examples;
@@ -35,6 +36,7 @@ mod spread;
 mod strokes;
 mod text;
 
+pub use background::{Background, BackgroundError};
 pub use plan::sheet_and_layout;
 pub use rounded::{rounded, CannotRound};
 pub use scale::millimetres;
@@ -54,8 +56,8 @@ pub struct Options {
     pub remarks: Vec<String>,
     /// Sites that are marked.
     pub marked: Vec<usize>,
-    /// The inside of an SVG picture in the sheet's units, drawn below the sheet.
-    pub background: Option<String>,
+    /// Drawn below the sheet, in its units.
+    pub background: Option<Background>,
     /// Whether heights have a scale of their own. The picture is not true to scale then, and says so.
     pub is_stretched: bool,
 }

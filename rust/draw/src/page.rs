@@ -65,7 +65,7 @@ impl<'a> Measured<'a> {
 
     fn svg(&self, frame: &Frame, options: &Options) -> String {
         let (plan, places) = (self.panel.plan, &self.balloons.places);
-        frame.edge(options.background.as_deref())
+        frame.edge(options.background.as_ref())
             + &self.heading.svg(frame.left)
             + &frame.slots(plan.sheet.slots(), &plan.labels)
             + &strokes::strokes(plan, frame, &options.names, &self.panel.marked)

@@ -6,7 +6,7 @@ use crate::input::Source;
 use crate::output::{message, write_file, Output};
 use crate::subcommand::Subcommand;
 use backbone::{Layout, NotLaidOut, Refusal, Sheet};
-use draw::{sheet_and_layout, Options, Side};
+use draw::{sheet_and_layout, Background, Options, Side};
 use model::rounding::Rounding;
 use sheet::Names;
 use std::fmt::Display;
@@ -22,7 +22,7 @@ pub const SUBCOMMAND: Subcommand = Subcommand {
            the sheet is drawn.",
     settings: &[
         Setting { name: "-o", value: "OUT.svg", about: "write the picture to this file, not to standard output" },
-        Setting { name: "--background", value: "SVG", about: "draw this below it: the inside of an SVG picture" },
+        Setting { name: "--background", value: "SVG", about: "draw this SVG picture below it, in the sheet's units" },
         Setting { name: "--compare", value: "FILE", about: "beside it another layout of the same sheet" },
         Setting { name: "--rounded", value: "", about: "beside it the layout that lengths rounded at each cut give" },
         Setting { name: "--step", value: "STEP", about: "what --rounded rounds to: 0.1mm (if not given) or 0.1pt" },
@@ -102,9 +102,9 @@ fn picture(arguments: &Arguments) -> Result<String, NoPicture> {
 }
 
 fn options(arguments: &Arguments, drawn: &Drawn) -> Result<Options, Failure> {
-    let background = arguments.path("--background").map(Source::File);
+    let file = arguments.path("--background").map(Source::File);
     let mut options = Options { names: drawn.names.clone(), ..Options::default() };
-    options.background = background.map(|file| text_of(&file)).transpose()?;
+    options.background = file.as_ref().map(background).transpose()?;
     options.is_stretched = arguments.has("--stretch");
     if drawn.claims_no_layout {
         let verdict = if drawn.layout.is_some() { "false: this is one" } else { "true" };
@@ -153,17 +153,21 @@ impl Drawn {
         self.layout.as_ref().filter(|_| !self.claims_no_layout)
     }
 
+    /// The file's name, without its folder, and what it says.
     fn title(&self) -> String {
+        let name = match &self.source {
+            Source::File(path) => path.file_name().unwrap_or_default().to_string_lossy().into_owned(),
+            Source::Standard => self.source.to_string(),
+        };
         match self.shown() {
-            None => format!("{}: no layout", self.source),
-            Some(layout) if self.is_stored => {
-                format!("{}: labels {}, length {}", self.source, layout.labels, layout.length)
-            }
-            Some(layout) => format!("{}, best: labels {}, length {}", self.source, layout.labels, layout.length),
+            None => format!("{name}: no layout"),
+            Some(layout) if self.is_stored => format!("{name}: labels {}, length {}", layout.labels, layout.length),
+            Some(layout) => format!("{name}, best: labels {}, length {}", layout.labels, layout.length),
         }
     }
 }
 
-fn text_of(file: &Source) -> Result<String, Failure> {
-    String::from_utf8(file.bytes()?).map_err(|error| Failure::about(file, &error))
+fn background(file: &Source) -> Result<Background, Failure> {
+    let text = String::from_utf8(file.bytes()?).map_err(|error| Failure::about(file, &error))?;
+    Background::parse(&text).map_err(|error| Failure::about(file, &error))
 }
