@@ -36,7 +36,7 @@ pub fn overview() -> String {
 pub fn of(subcommand: &Subcommand) -> String {
     let Subcommand { name, about, text, settings, .. } = subcommand;
     let usage = usage(subcommand);
-    format!("backbone {name}: {about}\n\nusage: {usage}\n\n{text}\n\noptions:\n")
+    format!("backbone {name}: {about}\n\nusage: {usage}\n\n{}\n\noptions:\n", paragraphs(text))
         + &options(settings)
         + &options(&[HELP])
         + "\nexit codes:\n"
@@ -48,16 +48,43 @@ fn usage(subcommand: &Subcommand) -> String {
     format!("backbone {} [OPTION]... {}", subcommand.name, subcommand.operands)
 }
 
+/// The columns of help.
+const WIDTH: usize = 100;
+
+/// Paragraphs, with lines as long as help is wide; those with four blanks in front are shown as they are.
+fn paragraphs(text: &str) -> String {
+    let shown =
+        |paragraph: &str| if paragraph.starts_with("    ") { paragraph.to_string() } else { wrapped(paragraph, 0) };
+    text.split("\n\n").map(shown).collect::<Vec<_>>().join("\n\n")
+}
+
+/// Text in lines; all but the first begin with so many blanks.
+fn wrapped(text: &str, indent: usize) -> String {
+    let mut lines = vec![String::new()];
+    for word in text.split_whitespace() {
+        let line = lines.last().map_or(0, |line| line.chars().count());
+        if line > 0 && indent + line + 1 + word.chars().count() > WIDTH {
+            lines.push(String::new());
+        }
+        if let Some(line) = lines.last_mut() {
+            line.push_str(if line.is_empty() { "" } else { " " });
+            line.push_str(word);
+        }
+    }
+    lines.join(&format!("\n{}", " ".repeat(indent)))
+}
+
 fn options(settings: &[Setting]) -> String {
+    const INDENT: usize = 24;
     let line = |setting: &Setting| {
         let shown = format!("{} {}", setting.name, setting.value);
-        format!("  {:<22}{}\n", shown.trim_end(), setting.about)
+        format!("  {:<22}{}\n", shown.trim_end(), wrapped(setting.about, INDENT))
     };
     settings.iter().map(line).collect()
 }
 
 fn exits(meanings: &[(Exit, &str)]) -> String {
-    meanings.iter().map(|(exit, meaning)| format!("  {}  {meaning}\n", *exit as u8)).collect()
+    meanings.iter().map(|(exit, meaning)| format!("  {}  {}\n", *exit as u8, wrapped(meaning, 5))).collect()
 }
 
 /// The man page.
@@ -122,6 +149,15 @@ mod tests {
     #[test]
     fn roff_sees_no_requests() {
         assert_eq!(roff(".fi\n'b\na\\n - \u{e9}"), "\\&.fi\n\\&'b\na\\en \\- \u{e9}");
+    }
+
+    #[test]
+    fn lines_are_as_long_as_help_is_wide() {
+        let words = "word ".repeat(50);
+        let lines: Vec<String> = wrapped(&words, 7).lines().map(str::to_string).collect();
+        assert!(lines.iter().skip(1).all(|line| line.starts_with("       word") && line.len() <= WIDTH));
+        assert_eq!(lines.iter().map(|line| line.trim()).collect::<Vec<_>>().join(" "), words.trim());
+        assert_eq!(paragraphs("a\nb\n\n    c\n    d"), "a b\n\n    c\n    d");
     }
 
     /// Every word of help stands in the man page.

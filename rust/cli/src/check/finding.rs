@@ -165,7 +165,10 @@ impl Checked {
             Finding::NoAnswer(problem) => problem.clone(),
             Finding::Refused { refusal, causes } if causes.is_empty() => refusal.to_string(),
             Finding::Refused { refusal, causes } => format!("{refusal}: {}", listed(causes)),
-            Finding::Unreadable(failure) => failure.to_string(),
+            Finding::Unreadable(failure) => {
+                let (failure, source) = (failure.to_string(), format!("{}: ", self.source));
+                failure.strip_prefix(&source).unwrap_or(&failure).to_string()
+            }
         }
     }
 
