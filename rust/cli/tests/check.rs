@@ -188,7 +188,7 @@ fn findings_are_those_of_a_plain_search() {
         *met.entry((name, number)).or_default() += 1;
     }
     for (name, count) in
-        [("best", 300), ("equal", 50), ("not best", 300), ("false no layout", 100), ("true no layout", 100)]
+        [("best", 300), ("equal", 30), ("not best", 300), ("false no layout", 100), ("true no layout", 100)]
     {
         assert!(met.get(&(name, 0)).is_some_and(|times| *times >= count), "{name}: {met:?}");
     }
