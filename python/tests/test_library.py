@@ -34,7 +34,7 @@ class Library(unittest.TestCase):
             self.assert_not_loaded(run_over(folder))
 
     def test_there(self):
-        ran = run_over(os.environ["BACKBONE_LIBRARY"])
+        ran = run_over(os.environ.get("BACKBONE_LIBRARY", ""))
         self.assertEqual((ran.returncode, ran.stdout), (0, "4\n"), ran.stderr)
 
 
