@@ -1,0 +1,8 @@
+//! Chained cuts through the command itself: corpora by depth, engines, shrinking, and why there is no layout.
+
+mod command;
+mod corpus;
+mod engines;
+mod kept;
+mod shrink;
+mod why;
