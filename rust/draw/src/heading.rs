@@ -62,7 +62,8 @@ impl Heading {
     }
 }
 
-fn title(panel: &Panel) -> String {
+/// The title that is given, or what the layout states.
+pub fn title(panel: &Panel) -> String {
     match (&panel.title, &panel.plan.layout) {
         (Some(title), _) => title.clone(),
         (None, None) => "no layout obeys rules 1 to 5".to_string(),

@@ -3,10 +3,11 @@
 use crate::balloons::{self, Balloons};
 use crate::column::{Column, SPACING};
 use crate::frame::Frame;
-use crate::heading::Heading;
+use crate::heading::{title, Heading};
 use crate::parts::{bar_width, scale_bar, Parts};
 use crate::plan::Plan;
 use crate::scale::{depth, Limits, Scale, MILLIMETRES_IN_PIXEL};
+use crate::text::escape;
 use crate::{marks, number, strokes, Options};
 
 /// The room of a drawing that stands alone, and of one beside another.
@@ -44,10 +45,8 @@ struct Measured<'a> {
 }
 
 impl<'a> Measured<'a> {
-    fn of(panel: &'a Panel<'a>, options: &Options, limits: Limits) -> Measured<'a> {
+    fn of(panel: &'a Panel<'a>, options: &Options, scale: Scale) -> Measured<'a> {
         let plan = panel.plan;
-        let limits = Limits { height: limits.height.max(SPACING * plan.labels.len() as f64), ..limits };
-        let scale = Scale::of(&plan.sheet, limits, options.is_stretched);
         let width = f64::from(plan.sheet.width()) * scale.unit_across();
         let height = (f64::from(depth(&plan.sheet)) * scale.unit_down() + BELOW).max(LEAST_HEIGHT);
         let balloons = balloons::place(plan, &scale, width, height);
@@ -83,8 +82,8 @@ impl<'a> Measured<'a> {
 
 /// The whole picture. Its size is in millimetres, and its own unit is a pixel.
 pub fn document(panels: &[Panel], options: &Options) -> String {
-    let limits = if panels.len() > 1 { BESIDE } else { ALONE };
-    let measured: Vec<Measured> = panels.iter().map(|panel| Measured::of(panel, options, limits)).collect();
+    let Some(scale) = common_scale(panels, options) else { return String::new() };
+    let measured: Vec<Measured> = panels.iter().map(|panel| Measured::of(panel, options, scale)).collect();
     let top = measured.iter().map(|one| one.heading.height()).fold(0.0, f64::max) + ABOVE;
     let (mut left, mut lowest, mut inside) = (0.0, 0.0, String::new());
     for one in &measured {
@@ -93,25 +92,33 @@ pub fn document(panels: &[Panel], options: &Options) -> String {
         lowest = f64::max(lowest, one.bottom(&frame));
         left += one.width;
     }
-    let Some(first) = measured.first() else { return String::new() };
-    let width = left.max(LEFT + bar_width(&first.scale) + RIGHT);
-    let parts = Parts::of(&first.panel.plan.sheet, &options.names, width - LEFT - RIGHT);
+    let width = left.max(LEFT + bar_width(&scale) + RIGHT);
+    let parts = Parts::of(&panels[0].plan.sheet, &options.names, width - LEFT - RIGHT);
     let width = width.max(LEFT + parts.width() + RIGHT);
-    inside.push_str(&scale_bar(&first.scale, LEFT, lowest + 24.0));
+    inside.push_str(&scale_bar(&scale, LEFT, lowest + 24.0));
     inside.push_str(&parts.svg(LEFT, lowest + 48.0));
-    svg(width, lowest + 40.0 + parts.height(), &inside)
+    svg(width, lowest + 40.0 + parts.height(), &title(&panels[0]), &inside)
 }
 
-fn svg(width: f64, height: f64, inside: &str) -> String {
+/// The scale of all panels, which are of one sheet. Where there are many labels the drawing is higher.
+fn common_scale(panels: &[Panel], options: &Options) -> Option<Scale> {
+    let limits = if panels.len() > 1 { BESIDE } else { ALONE };
+    let labels = panels.iter().map(|panel| panel.plan.labels.len()).max()?;
+    let limits = Limits { height: limits.height.max(SPACING * labels as f64), ..limits };
+    Some(Scale::of(&panels.first()?.plan.sheet, limits, options.is_stretched))
+}
+
+fn svg(width: f64, height: f64, about: &str, inside: &str) -> String {
     let (width, height) = (width.ceil(), height.ceil());
     let millimetres = |pixels: f64| format!("{:.3}mm", pixels * MILLIMETRES_IN_PIXEL);
     format!(
         "<svg xmlns=\"http://www.w3.org/2000/svg\" width=\"{}\" height=\"{}\" viewBox=\"0 0 {} {}\" \
-         font-family=\"Helvetica, Arial, 'Liberation Sans', sans-serif\">\n\
+         role=\"img\" aria-label=\"{}\" font-family=\"Helvetica, Arial, 'Liberation Sans', sans-serif\">\n\
          <rect width=\"100%\" height=\"100%\" fill=\"#ffffff\"/>\n{inside}</svg>\n",
         millimetres(width),
         millimetres(height),
         number(width),
-        number(height)
+        number(height),
+        escape(about)
     )
 }

@@ -285,6 +285,27 @@ fn a_comparison_marks_the_ties_that_differ() {
     assert_eq!(strokes(&elements(&drawn), "backbone").len(), 2, "a claim that there is none has no strokes");
 }
 
+/// One scale for both sides, however many labels each has.
+#[test]
+fn a_comparison_has_one_scale() {
+    let (sheet, many) = crowded(300, 20, |site| 5 + 9 * site);
+    let few = Layout { labels: 1, length: 0, slots: vec![0; 32] };
+    let sides = [Side { title: "many", layout: Some(&many) }, Side { title: "one", layout: Some(&few) }];
+    let drawn = compare(&sheet, sides, &Options::default()).unwrap();
+    hold_texts_apart(&drawn);
+    let scales: Vec<&str> = drawn.split(" scale(").skip(1).filter_map(|rest| rest.split(')').next()).collect();
+    assert!(scales.len() == 2 && scales[0] == scales[1], "{scales:?}");
+}
+
+#[test]
+fn sheets_with_little_on_them_are_drawn() {
+    for text in ["", "slot 3\n", "colour unbounded\n", "slot 3\ncolour bound 0\nsite 0 0\n"] {
+        let words = sheet::encode(&format!("head one-sided fewest gap 2 width 8\n{text}")).unwrap();
+        let (sheet, layout) = sheet_and_layout(&words).unwrap();
+        hold_texts_apart(&picture(&sheet, layout.as_ref(), &Options::default()).unwrap());
+    }
+}
+
 #[test]
 fn a_layout_that_is_not_in_form_is_refused() {
     let words = sheet::encode(&std::fs::read_to_string(folder().join("a.txt")).unwrap()).unwrap();
