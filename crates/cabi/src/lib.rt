@@ -1,14 +1,17 @@
 // The C interface: reader, judge and layout maker. Their structs are laid out as C has them.
+// Each contract has the call's equations, and then what demands 1, 2 and 3 conclude of it (demands/specs/Demands).
 ghost use mathlib.Core.Path.{_≡_};
 ghost use Rattle.reader.specs.Read.{readPost};
 ghost use Rattle.judge.specs.Judge.{judgePost};
 ghost use Rattle.labelling.specs.Entry.{makeFault, makeAnswer, makeWork};
+ghost use Rattle.demands.specs.Demands.{ServedByReader, ServedByJudge, TrueVerdict, Served, ContentsApart, BestOfLawful};
 use judge::Verdict;
 use reader::Sizes;
 
 #[no_mangle]
 pub extern "C" fn backbone_read(sheet: &[u32]) -> Sizes
     ensures { λ r. ⌜ r ≡ readPost (now (sheet .entry)) ⌝ }
+    ensures { λ r. ⌜ ServedByReader (now (sheet .entry)) r (now (sheet .exit)) ⌝ }
 {
     reader::read_sheet(sheet)
 }
@@ -16,6 +19,8 @@ pub extern "C" fn backbone_read(sheet: &[u32]) -> Sizes
 #[no_mangle]
 pub extern "C" fn backbone_judge(stored: &[u32]) -> Verdict
     ensures { λ r. ⌜ r ≡ judgePost (now (stored .entry)) ⌝ }
+    ensures { λ r. ⌜ ServedByJudge (now (stored .entry)) r (now (stored .exit)) ⌝ }
+    ensures { λ r. ⌜ TrueVerdict (now (stored .entry)) r ⌝ }
 {
     judge::judge_layout(stored)
 }
@@ -25,6 +30,10 @@ pub extern "C" fn backbone_make(sheet: &[u32], work: &mut [u32], out: &mut [u32]
     ensures { λ r. ⌜ r ≡ makeFault (now (sheet .entry)) (now (work .entry)) (now (out .entry)) ⌝ }
     ensures { λ _. ⌜ now (work .exit) ≡ makeWork (now (sheet .entry)) (now (work .entry)) (now (out .entry)) ⌝ }
     ensures { λ _. ⌜ now (out .exit) ≡ makeAnswer (now (sheet .entry)) (now (work .entry)) (now (out .entry)) ⌝ }
+    ensures { λ _. ⌜ now (sheet .exit) ≡ now (sheet .entry) ⌝ }
+    ensures { λ r. ⌜ Served (now (sheet .entry)) (now (work .entry)) (now (out .entry)) r (now (work .exit)) (now (out .exit)) ⌝ }
+    ensures { λ r. ⌜ ContentsApart (now (sheet .entry)) (now (work .entry)) (now (out .entry)) r (now (out .exit)) ⌝ }
+    ensures { λ r. ⌜ BestOfLawful (now (sheet .entry)) (now (work .entry)) (now (out .entry)) r (now (out .exit)) ⌝ }
 {
     maker::make_layout(sheet, work, out) as u32
 }

@@ -1,37 +1,67 @@
 -- THE THREE DEMANDS, each as one statement about any call that meets the contract of the reader, the layout maker or the judge.
--- ws: the sheet's words (the stored sheet's, for the judge); k, o: work and answer area before the call, k', o' after it; r: what it returns.
+-- What a demand concludes of one call is a record; the contracts of the C interface (crate cabi) state these records of their calls.
+-- ws: the sheet's words (the stored sheet's, for the judge), ws' after the call; k, o: work and answer area, k', o' after it; r: what it returns.
 -- Assumes nothing: these are definitions; the proofs stand in proofs/Demands.
 use mathlib.Core.Path.{_≡_}
 use mathlib.Core.Logic.{_⊎_, _↔_}
 use mathlib.Core.Bool.{true, false}
 use mathlib.Core.List.{List, _++_}
-use Prim.Native.Nat.{ℕ, _+_, _≤_, _<_}
-use lib.ListN.{length, take, drop, replicate}
-use Rattle.sheet.specs.Sheet.{Sheet, sheetIn, sheetFault, productOf, workFor}
-use Rattle.labelling.specs.Layout.{wordsFor, isLayout, isLawful, sheetPart, layoutPart}
-use Rattle.labelling.specs.Lawful.{Lawful, LeastBroken}
+use Prim.Native.Nat.{ℕ, suc, _≤_, _<_}
+use lib.ListN.{length, getD, take, drop, replicate}
+use Rattle.sheet.specs.Sheet.{kindOf, bits, Sheet, sheetIn, sheetFault, productOf, workFor}
+use Rattle.labelling.specs.Layout.{wordsFor, isLawful, sheetPart, layoutPart, layoutTies}
+use Rattle.labelling.specs.Lawful.{Lawful, LeastBroken, Better}
 use Rattle.labelling.specs.Entry.{makeFault, makeAnswer, makeWork}
-use Rattle.labelling.specs.Promise.{areWords, same, isBeaten}
+use Rattle.labelling.specs.Promise.{areWords, same, isBeaten, PartsFound}
 use Rattle.reader.specs.declared.Sizes.{Sizes}
-use Rattle.reader.specs.Read.{readPost, eightOf}
+use Rattle.reader.specs.Read.{readPost, refusedOf, eightOf}
 use Rattle.judge.specs.declared.Verdict.{Verdict}
 use Rattle.judge.specs.Judge.{judgePost}
 
--- what the contracts say of one call
-abbrev pub WasRead : (ws : List ℕ) → Sizes → Type 0
-WasRead ws r = r ≡ readPost ws
+-- CALLS: what the contracts say of one call of the reader, the maker and the judge
+abbrev pub WasRead : (ws : List ℕ) → Sizes → (ws' : List ℕ) → Type 0
+WasRead ws r ws' = (r ≡ readPost ws) × (ws' ≡ ws)
 
 abbrev pub WasMade : (ws k o : List ℕ) → (r : ℕ) → (k' o' : List ℕ) → Type 0
 WasMade ws k o r k' o' = (r ≡ makeFault ws k o) × (k' ≡ makeWork ws k o) × (o' ≡ makeAnswer ws k o)
 
-abbrev pub WasJudged : (ws : List ℕ) → Verdict → Type 0
-WasJudged ws r = r ≡ judgePost ws
+abbrev pub WasJudged : (ws : List ℕ) → Verdict → (ws' : List ℕ) → Type 0
+WasJudged ws r ws' = (r ≡ judgePost ws) × (ws' ≡ ws)
 
--- the work area with its needed words zero
+-- an accepted sheet, with areas long enough
+abbrev pub Accepted : (ws k o : List ℕ) → Type 0
+Accepted ws k o = (sheetFault ws ≡ 0) × (workFor (sheetIn ws) ≤ length k) × (wordsFor (sheetIn ws) ≤ length o)
+
+-- the work area with its needed words zero, and the layout in the answer area: its first n + 1 words
 abbrev pub wiped : (ws k : List ℕ) → List ℕ
 wiped ws k = replicate (workFor (sheetIn ws)) 0 ++ drop (workFor (sheetIn ws)) k
 
--- what an accepted sheet's reading holds
+abbrev pub layoutIn : (ws o : List ℕ) → List ℕ
+layoutIn ws o = take (wordsFor (sheetIn ws)) o
+
+-- LAYOUTS, as statements
+-- a word of kind 9, its slot (bits 7 to 0) below m, no spare bit (bits 27 to 8) set
+pub record TieOf (s : Sheet) (w : ℕ) : Type 0 where
+  pub kind : kindOf w ≡ 9
+  pub spare : bits w 8 20 ≡ 0
+  pub slot : bits w 0 8 < length (s .slots)
+
+-- a layout of a sheet, whoever wrote it: one word of kind 8, then one of kind 9 for each site
+pub record LayoutOf (s : Sheet) (b : List ℕ) : Type 0 where
+  pub long : length b ≡ wordsFor s
+  pub first : kindOf (getD b 0 0) ≡ 8
+  pub ties : (i : ℕ) → i < length (s .sites) → TieOf s (getD b (suc i) 0)
+
+-- a lawful one: it obeys rules 1 to 6
+abbrev pub LawfulLayout : Sheet → (b : List ℕ) → Type 0
+LawfulLayout s b = LayoutOf s b × Lawful s b
+
+-- the sheet and the layout in a stored sheet
+abbrev pub storedSheet : (ws : List ℕ) → Sheet
+storedSheet ws = sheetIn (sheetPart ws)
+
+-- DEMAND 1, of one call
+-- what an accepted sheet's reading holds: n, m, C, P, the number of work words, and each of the eight colours
 pub record Sized (s : Sheet) (r : Sizes) : Type 0 where
   pub sites : r .n ≡ length (s .sites)
   pub slots : r .m ≡ length (s .slots)
@@ -40,44 +70,78 @@ pub record Sized (s : Sheet) (r : Sizes) : Type 0 where
   pub work : r .work ≡ workFor s
   pub eight : r .colours ≡ eightOf (s .colours)
 
--- what a call of the maker gives and leaves, by its outcome: a refusal 1 to 7 as the reader's, 8, 9, 10, or a layout
+-- the reader: a refusal 1 to 7 with zeros beside it, which document 01 leaves free; or 0 and the sizes. It changes nothing
+pub record ServedByReader (ws : List ℕ) (r : Sizes) (ws' : List ℕ) : Type 0 where
+  pub refusal : r .refusal ≡ sheetFault ws
+  pub seven : r .refusal ≤ 7
+  pub zeros : 0 < r .refusal → r ≡ refusedOf (sheetFault ws)
+  pub sized : r .refusal ≡ 0 → Sized (sheetIn ws) r
+  pub unchanged : ws' ≡ ws
+
+-- the maker, by its outcome: a refusal 1 to 7 as the reader's, 8, 9, 10, or a layout
 pub record Served (ws k o : List ℕ) (r : ℕ) (k' o' : List ℕ) : Type 0 where
   pub sheet : 0 < sheetFault ws → (r ≡ sheetFault ws) × (k' ≡ k) × (o' ≡ o)
   pub short : sheetFault ws ≡ 0 → length k < workFor (sheetIn ws) → (r ≡ 8) × (k' ≡ k) × (o' ≡ o)
   pub narrow : sheetFault ws ≡ 0 → workFor (sheetIn ws) ≤ length k → length o < wordsFor (sheetIn ws) → (r ≡ 9) × (k' ≡ k) × (o' ≡ o)
-  pub taken : sheetFault ws ≡ 0 → workFor (sheetIn ws) ≤ length k → wordsFor (sheetIn ws) ≤ length o →
+  pub taken : Accepted ws k o →
       (k' ≡ wiped ws k) × (((r ≡ 10) × (o' ≡ o)) ⊎ ((r ≡ 0) × (drop (wordsFor (sheetIn ws)) o' ≡ drop (wordsFor (sheetIn ws)) o)))
 
+-- and old contents of either area have no part in the result: whatever other areas hold that are long enough, a call gives the same
+abbrev pub ContentsApart : (ws k o : List ℕ) → (r : ℕ) → (o' : List ℕ) → Type 0
+ContentsApart ws k o r o' =
+    Accepted ws k o → (l p : List ℕ) (q : ℕ) (l' p' : List ℕ) → WasMade ws l p q l' p' → Accepted ws l p →
+    (r ≡ q) × (r ≡ 0 → layoutIn ws o' ≡ layoutIn ws p')
+
+-- the judge, by its outcome: a refusal 1 to 7 as the reader's on the words before the first of kind 8, then 11, with rule 0 beside it,
+-- which document 01 leaves free; or 0 and a rule. It changes nothing
+pub record ServedByJudge (ws : List ℕ) (r : Verdict) (ws' : List ℕ) : Type 0 where
+  pub sheet : 0 < sheetFault (sheetPart ws) → (r .refusal ≡ sheetFault (sheetPart ws)) × (r .refusal ≤ 7) × (r .rule ≡ 0)
+  pub form : sheetFault (sheetPart ws) ≡ 0 → (LayoutOf (storedSheet ws) (layoutPart ws) → ⊥) → (r .refusal ≡ 11) × (r .rule ≡ 0)
+  pub judged : sheetFault (sheetPart ws) ≡ 0 → LayoutOf (storedSheet ws) (layoutPart ws) → (r .refusal ≡ 0) × (r .rule ≤ 6)
+  pub unchanged : ws' ≡ ws
+
 -- DEMAND 1: every list of words is read, laid out and judged to a finish, whatever the areas held; what can't be served is refused
--- by its number, with the areas as document 01 fixes them; old contents have no part in the result
-abbrev pub DemandOne : Type 0
-DemandOne =
-    ((ws : List ℕ) (r : Sizes) → WasRead ws r → (r .refusal ≡ sheetFault ws) × (r .refusal ≤ 7) × (r .refusal ≡ 0 → Sized (sheetIn ws) r)) ×
-    ((ws k o : List ℕ) (r : ℕ) (k' o' : List ℕ) → WasMade ws k o r k' o' → Served ws k o r k' o') ×
-    ((ws k o : List ℕ) (r : ℕ) (k' o' : List ℕ) → WasMade ws k o r k' o' → (l p : List ℕ) (q : ℕ) (l' p' : List ℕ) → WasMade ws l p q l' p' →
-    areWords ws ≡ true → sheetFault ws ≡ 0 → workFor (sheetIn ws) ≤ length k → wordsFor (sheetIn ws) ≤ length o →
-    workFor (sheetIn ws) ≤ length l → wordsFor (sheetIn ws) ≤ length p →
-    (r ≡ q) × (r ≡ 0 → take (wordsFor (sheetIn ws)) o' ≡ take (wordsFor (sheetIn ws)) p'))
+-- by its number, with the areas as document 01 fixes them; old contents have no part in the result. (That a call ends, and reads and
+-- writes nothing out of bounds, is proved of every function of the code, and no statement about its results.)
+pub record DemandOne : Type 0 where
+  pub reader : (ws : List ℕ) (r : Sizes) (ws' : List ℕ) → WasRead ws r ws' → ServedByReader ws r ws'
+  pub maker : (ws k o : List ℕ) (r : ℕ) (k' o' : List ℕ) → WasMade ws k o r k' o' → Served ws k o r k' o'
+  pub contents : (ws k o : List ℕ) (r : ℕ) (k' o' : List ℕ) → WasMade ws k o r k' o' → ContentsApart ws k o r o'
+  pub judge : (ws : List ℕ) (r : Verdict) (ws' : List ℕ) → WasJudged ws r ws' → ServedByJudge ws r ws'
 
--- DEMAND 2: the judge refuses as document 01 says, and says lawful, or the least broken rule, exactly when it is so
+-- DEMAND 2, of one call: the judge refuses as document 01 says, and says lawful, or the least broken rule, exactly when it is so.
+-- The parts are those before and from the first word of kind 8
+pub record TrueVerdict (ws : List ℕ) (r : Verdict) : Type 0 where
+  pub parts : PartsFound ws
+  pub sheet : (f : ℕ) → 0 < f → f < 8 → (r .refusal ≡ f) ↔ (sheetFault (sheetPart ws) ≡ f)
+  pub form : (r .refusal ≡ 11) ↔ ((sheetFault (sheetPart ws) ≡ 0) × (LayoutOf (storedSheet ws) (layoutPart ws) → ⊥))
+  pub accepted : (r .refusal ≡ 0) ↔ ((sheetFault (sheetPart ws) ≡ 0) × LayoutOf (storedSheet ws) (layoutPart ws))
+  pub rule : r .refusal ≡ 0 → (k : ℕ) → 0 < k → (r .rule ≡ k) ↔ LeastBroken k (storedSheet ws) (layoutPart ws)
+  pub lawful : r .refusal ≡ 0 → (r .rule ≡ 0) ↔ Lawful (storedSheet ws) (layoutPart ws)
+
+-- DEMAND 2: of every call of the judge
 abbrev pub DemandTwo : Type 0
-DemandTwo =
-    (ws : List ℕ) (r : Verdict) → WasJudged ws r →
-    ((f : ℕ) → 0 < f → f < 8 → (r .refusal ≡ f) ↔ (sheetFault (sheetPart ws) ≡ f)) ×
-    ((r .refusal ≡ 11) ↔ ((sheetFault (sheetPart ws) ≡ 0) × (isLayout (sheetIn (sheetPart ws)) (layoutPart ws) ≡ false))) ×
-    ((r .refusal ≡ 0) ↔ ((sheetFault (sheetPart ws) ≡ 0) × (isLayout (sheetIn (sheetPart ws)) (layoutPart ws) ≡ true))) ×
-    (r .refusal ≡ 0 →
-    ((k : ℕ) → 0 < k → (r .rule ≡ k) ↔ LeastBroken k (sheetIn (sheetPart ws)) (layoutPart ws)) ×
-    ((r .rule ≡ 0) ↔ Lawful (sheetIn (sheetPart ws)) (layoutPart ws)))
+DemandTwo = (ws : List ℕ) (r : Verdict) (ws' : List ℕ) → WasJudged ws r ws' → TrueVerdict ws r
 
--- DEMAND 3: for every accepted sheet with areas long enough, 10 exactly when no lawful layout exists; otherwise the answer is lawful
--- and comes before every other lawful layout, by aim, then the other number, then document 01's order
+-- DEMAND 3, of one call on an accepted sheet with areas long enough: 10 exactly when no list is a lawful layout; otherwise the answer is
+-- lawful and better than every other lawful layout, by the aim, then the other number, then document 01's order
+pub record BestOfLawful (ws k o : List ℕ) (r : ℕ) (o' : List ℕ) : Type 0 where
+  pub ten : Accepted ws k o → (r ≡ 10) ↔ ((b : List ℕ) → LawfulLayout (sheetIn ws) b → ⊥)
+  pub zero : Accepted ws k o → (r ≡ 10 → ⊥) → r ≡ 0
+  pub lawful : Accepted ws k o → (r ≡ 10 → ⊥) → LawfulLayout (sheetIn ws) (layoutIn ws o')
+  pub best : Accepted ws k o → (r ≡ 10 → ⊥) → (b : List ℕ) → LawfulLayout (sheetIn ws) b → (b ≡ layoutIn ws o' → ⊥) →
+      Better (sheetIn ws) (layoutTies (layoutIn ws o')) (layoutTies b)
+
+-- DEMAND 3: of every call of the maker
 abbrev pub DemandThree : Type 0
-DemandThree =
-    (ws k o : List ℕ) (r : ℕ) (k' o' : List ℕ) → WasMade ws k o r k' o' →
-    areWords ws ≡ true → sheetFault ws ≡ 0 → workFor (sheetIn ws) ≤ length k → wordsFor (sheetIn ws) ≤ length o →
+DemandThree = (ws k o : List ℕ) (r : ℕ) (k' o' : List ℕ) → WasMade ws k o r k' o' → BestOfLawful ws k o r o'
+
+-- the same by document 03's tests, over lists of 32-bit words: every other lawful layout STATES more, or as much and comes later
+abbrev pub DemandThreeByTests : Type 0
+DemandThreeByTests =
+    (ws k o : List ℕ) (r : ℕ) (k' o' : List ℕ) → WasMade ws k o r k' o' → areWords ws ≡ true → Accepted ws k o →
     ((r ≡ 10) ↔ ((b : List ℕ) → areWords b ≡ true → isLawful (sheetIn ws) b ≡ false)) ×
     ((r ≡ 10 → ⊥) →
-    (r ≡ 0) × (isLawful (sheetIn ws) (take (wordsFor (sheetIn ws)) o') ≡ true) ×
-    ((b : List ℕ) → areWords b ≡ true → isLawful (sheetIn ws) b ≡ true → same b (take (wordsFor (sheetIn ws)) o') ≡ false →
-    isBeaten (sheetIn ws) (take (wordsFor (sheetIn ws)) o') b ≡ true))
+    (r ≡ 0) × (isLawful (sheetIn ws) (layoutIn ws o') ≡ true) ×
+    ((b : List ℕ) → areWords b ≡ true → isLawful (sheetIn ws) b ≡ true → same b (layoutIn ws o') ≡ false →
+    isBeaten (sheetIn ws) (layoutIn ws o') b ≡ true))
