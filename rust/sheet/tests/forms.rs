@@ -192,3 +192,36 @@ fn json_values() {
         assert_eq!(value(wrong), None, "{wrong}");
     }
 }
+
+/// Bytes changed in a few places: they are read or refused, and what is read is written and read again as it was.
+#[test]
+fn changed_bytes_are_read_or_refused() {
+    let mut random = Random::new(76);
+    let (mut accepted, mut refused) = (0, 0);
+    for _ in 0..60_000 {
+        let record = random_record(&mut random);
+        let form = random.pick(&FORMS);
+        let Some(mut bytes) = write(&record, form) else { continue };
+        for _ in 0..random.between(1, 3) {
+            let place = random.below(bytes.len() as u32 + 1) as usize;
+            let byte = random.pick(b"\"\\{}[],:#0x19 \n\r\t\0\x7F\x80\xC3\xFFlesu");
+            match random.below(3) {
+                0 => bytes.insert(place, byte),
+                1 if place < bytes.len() => bytes[place] = byte,
+                _ => bytes.truncate(place),
+            }
+        }
+        match read(&bytes) {
+            Ok(record) => {
+                let text = write(&record, Form::Text).unwrap();
+                assert_eq!(read_as(Form::Text, &text), Ok(record));
+                accepted += 1;
+            }
+            Err(error) => {
+                assert!(!error.to_string().is_empty());
+                refused += 1;
+            }
+        }
+    }
+    assert!(accepted > 5_000 && refused > 5_000, "{accepted} {refused}");
+}
