@@ -103,7 +103,7 @@ fn files_that_cannot_be_read_are_3() {
     ];
     // Who may read everything can't be kept from this one.
     use std::os::unix::fs::PermissionsExt;
-    std::fs::set_permissions(&closed, std::fs::Permissions::from_mode(0)).unwrap();
+    std::fs::set_permissions(&closed, std::fs::Permissions::from_mode(0o000)).unwrap();
     if std::fs::read(&closed).is_err() {
         cases.push((closed, "Permission denied"));
     }

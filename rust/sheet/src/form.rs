@@ -69,7 +69,7 @@ fn other_encoding(bytes: &[u8]) -> Option<&'static str> {
         let mut others = bytes.iter().skip(first).step_by(2);
         others.all(|byte| byte.is_ascii_graphic() || byte.is_ascii_whitespace())
     };
-    let is_wide = bytes.len() > 1 && bytes.len() % 2 == 0 && (zeros(0) && text(1) || zeros(1) && text(0));
+    let is_wide = bytes.len() > 1 && bytes.len().is_multiple_of(2) && (zeros(0) && text(1) || zeros(1) && text(0));
     let is_marked = bytes.starts_with(b"\xFF\xFE") || bytes.starts_with(b"\xFE\xFF");
     (is_wide || is_marked).then_some("UTF-16")
 }
@@ -84,7 +84,7 @@ pub fn read_as(form: Form, bytes: &[u8]) -> Result<Record, ReadError> {
     match form {
         Form::Text | Form::Words => parse(decoded(bytes)?).map_err(ReadError::Text),
         Form::Json => parse_json(decoded(bytes)?).map_err(ReadError::Text),
-        Form::Binary if bytes.len() % 4 != 0 => Err(ReadError::Bytes(bytes.len())),
+        Form::Binary if !bytes.len().is_multiple_of(4) => Err(ReadError::Bytes(bytes.len())),
         Form::Binary => {
             let word = |four: &[u8]| u32::from_le_bytes([four[0], four[1], four[2], four[3]]);
             Ok(Record::of_words(bytes.chunks_exact(4).map(word).collect()))

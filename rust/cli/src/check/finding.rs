@@ -58,16 +58,18 @@ impl Difference {
 
 impl fmt::Display for Difference {
     fn fmt(&self, out: &mut fmt::Formatter) -> fmt::Result {
-        let than = |number: i64, more: &'static str, less: &'static str| if number < 0 { less } else { more };
-        let labels = self.labels.unsigned_abs();
-        let noun = if labels == 1 { "label" } else { "labels" };
+        let mut parts = Vec::new();
         if self.labels != 0 {
-            write!(out, "{labels} {noun} {}, ", than(self.labels, "more", "fewer"))?;
+            let (count, noun) = (self.labels.abs(), if self.labels.abs() == 1 { "label" } else { "labels" });
+            parts.push(format!("{count} {noun} {}", if self.labels > 0 { "more" } else { "fewer" }));
         }
-        let (length, units) = (self.length.unsigned_abs(), if self.length.abs() == 1 { "unit" } else { "units" });
-        let (points, millimetres) = (self.points().abs(), self.millimetres().abs());
-        write!(out, "{length} {units} ({points} points, {millimetres:.3} mm) ")?;
-        out.write_str(than(self.length, "longer", "shorter"))
+        if self.length != 0 {
+            let (length, noun) = (self.length.abs(), if self.length.abs() == 1 { "unit" } else { "units" });
+            let (points, millimetres) = (self.points().abs(), self.millimetres().abs());
+            let than = if self.length > 0 { "longer" } else { "shorter" };
+            parts.push(format!("{length} {noun} ({points} points, {millimetres:.3} mm) {than}"));
+        }
+        out.write_str(&parts.join(", "))
     }
 }
 
@@ -299,5 +301,19 @@ fn compared(words: &[u32], given: &Layout, best: &Layout) -> Finding {
     match differing.min_by_key(|site| sites[*site].x) {
         None => Finding::Best,
         Some(site) => Finding::Equal { site, slot: given.slots[site], first: best.slots[site] },
+    }
+}
+
+#[cfg(test)]
+mod tests {
+    use super::*;
+
+    #[test]
+    fn differences_in_words() {
+        let text = |labels: i64, length: i64| Difference { labels, length }.to_string();
+        assert_eq!(text(1, 0), "1 label more");
+        assert_eq!(text(-2, 576), "2 labels fewer, 576 units (72 points, 25.400 mm) longer");
+        assert_eq!(text(0, 1), "1 unit (0.125 points, 0.044 mm) longer");
+        assert_eq!(text(3, -12), "3 labels more, 12 units (1.5 points, 0.529 mm) shorter");
     }
 }

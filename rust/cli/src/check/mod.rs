@@ -27,8 +27,11 @@ pub trait Format {
     fn end(&mut self, counts: &Counts, output: &mut Output) -> Result<(), Failure>;
 }
 
+/// What begins a format.
+type Begin = fn() -> Box<dyn Format>;
+
 /// The formats by their names, the one that is taken without an option first.
-pub const FORMATS: [(&str, fn() -> Box<dyn Format>); 4] = [
+pub const FORMATS: [(&str, Begin); 4] = [
     ("text", || Box::new(text::Text)),
     ("json", || Box::new(json::Json::default())),
     ("tsv", || Box::new(tsv::Tsv)),
