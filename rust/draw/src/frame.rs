@@ -58,18 +58,29 @@ impl Frame {
         svg
     }
 
-    /// A tick at both edges for each slot, with its number where there is room; used slots come first.
-    pub fn slots(&self, heights: &[u32], labels: &[Label]) -> String {
-        let mut ticks = String::new();
+    /// A tick at both edges for each slot, with its number where there is room; used slots come first. Where there is
+    /// no layout the slots go across, to show where backbones might lie.
+    pub fn slots(&self, heights: &[u32], labels: &[Label], is_laid_out: bool) -> String {
+        if heights.is_empty() {
+            return String::new();
+        }
+        let (mut ticks, mut across) = (String::new(), String::new());
         for height in heights {
             let y = number(self.y(*height));
             let (left, right) = (number(self.left - TICK), number(self.right - TICK / 2.0));
             let _ = write!(ticks, "M{left} {y}h{TICK}M{right} {y}h{TICK}");
-        }
-        if ticks.is_empty() {
-            return ticks;
+            let _ = write!(across, "M{} {y}H{}", number(self.left), number(self.right));
         }
         let mut svg = format!("<path d=\"{ticks}\" stroke=\"{FAINT}\" fill=\"none\"/>\n");
+        if !is_laid_out {
+            let look = format!("stroke=\"{FAINT}\" stroke-dasharray=\"1 5\" fill=\"none\"");
+            let _ = writeln!(svg, "<path d=\"{across}\" {look}/>");
+        }
+        svg + &self.slot_numbers(heights, labels)
+    }
+
+    fn slot_numbers(&self, heights: &[u32], labels: &[Label]) -> String {
+        let mut svg = String::new();
         for slot in numbered(heights, labels, |height| self.y(height)) {
             let words = slot.to_string();
             let text = Text {

@@ -66,7 +66,7 @@ impl<'a> Measured<'a> {
         let (plan, places) = (self.panel.plan, &self.balloons.places);
         frame.edge(options.background.as_ref())
             + &self.heading.svg(frame.left)
-            + &frame.slots(plan.sheet.slots(), &plan.labels)
+            + &frame.slots(plan.sheet.slots(), &plan.labels, plan.layout.is_some())
             + &strokes::strokes(plan, frame, &options.names, &self.panel.marked)
             + &self.column.svg(plan, frame)
             + &marks::rings(frame, places, &self.panel.marked)
