@@ -1,19 +1,19 @@
-// The work area after a call: what both halves do last.
+// The areas of a call: their lengths, and a part of one zeroed.
 pub mod lengths;
 
 ghost use mathlib.Core.Path.{_≡_};
-ghost use mathlib.Core.List.{_++_};
 ghost use Prim.Native.Nat.{_≤_};
-ghost use lib.ListN.{length, drop, replicate};
+ghost use lib.ListN.{length};
+ghost use Rattle.labelling.specs.Entry.{zeroed};
 
-// Zeros the first n words.
-pub fn clear(work: &mut [u32], n: usize)
-    requires { ⌜ n ≤ length (now work) ⌝ }
-    ensures { λ _. ⌜ now (work .exit) ≡ replicate n 0 ++ drop n (now (work .entry)) ⌝ }
+// Zeros the words from a place up to another. Internal to the maker: it asks that they lie in the area.
+pub fn zero_part(area: &mut [u32], from: usize, to: usize)
+    requires { ⌜ (from ≤ to) × (to ≤ length (now area)) ⌝ }
+    ensures { λ _. ⌜ now (area .exit) ≡ zeroed from to (now (area .entry)) ⌝ }
 {
-    let mut i: usize = 0;
-    while i < n {
-        work[i] = 0;
+    let mut i = from;
+    while i < to {
+        area[i] = 0;
         i += 1;
     }
 }

@@ -1,14 +1,17 @@
 -- What the maker's branches have to show, from what the reader says. Assumes nothing.
 use mathlib.Core.Path.{_≡_, refl, sym, ap, subst, _∙_}
-use mathlib.Core.Bool.{true, false}
+use mathlib.Core.Bool.{Bool, true}
 use mathlib.Core.List.{List, [], _∷_}
 use Prim.Native.Nat.{ℕ, suc, _+_, _≤_, _<_}
 use native.Mathlib.Omega.{arith}
 use lib.ListN.{length, getD}
-use borrow.Author.Tests.{lt-ltb, eq-eqb, ne-eqb}
+use borrow.Author.Tests.{lt-ltb, eq-eqb}
 use Rattle.lists.proofs.Tests.{and-of}
-use Rattle.sheet.specs.Sheet.{bits, headIn, sheetIn, sheetFault, productOf, workFor}
-use Rattle.sheet.specs.Binding.{bindingOnly}
+use Rattle.sheet.specs.Limits.{mostSlots, mostColours, mostSites, mostBudgets, wordTop}
+use Rattle.sheet.specs.Sheet.{Sheet, bodyOf, coloursIn, sheetIn, sheetFault, productOf, workFor}
+use Rattle.sheet.specs.Binding.{bindingOnly, bindingColours, withColours}
+use Rattle.sheet.proofs.Accepted.{Sound, sound, unrefused}
+use Rattle.sheet.proofs.Binding.{sheet-binding, length-binding}
 use Rattle.labelling.specs.Entry.{makeFault, makeWork, makeAnswer, zeroed}
 use Rattle.labelling.specs.Promise.{areWords, takesSheet}
 use Rattle.labelling.proofs.Maker.{Result, Serves, refused-sheet, refused-work, refused-out}
@@ -17,14 +20,18 @@ use Rattle.labelling.proofs.Binding.{work-less, fault-binding, area-binding, wo
 use Rattle.areas.specs.Lengths.{areaFault}
 use Rattle.areas.proofs.lengths.Lengths.{lengths-sheet, lengths-work, lengths-out, lengths-enough, by-lengths, lengths}
 use Rattle.reader.specs.declared.Sizes.{Sizes}
-use Rattle.reader.specs.Read.{readPost}
+use Rattle.reader.specs.Read.{readOf, readPost}
 use Rattle.reader.proofs.Reading.{reading, refusal-is}
+use Rattle.refusals.specs.Products.{capped}
+use Rattle.refusals.specs.Work.{workOf}
+use Rattle.refusals.proofs.products.Factors.{capped-same}
+use Rattle.onesided.specs.Ranked.{SizesOf}
 
 -- a list of 32-bit numbers
-pub are-words : (ws : List ℕ) → ((i : ℕ) → getD ws i 0 < 4294967296) → areWords ws ≡ true
+pub are-words : (ws : List ℕ) → ((i : ℕ) → getD ws i 0 < wordTop) → areWords ws ≡ true
 unfolding areWords
 are-words [] h = refl
-are-words (w ∷ ws) h = and-of _ _ (lt-ltb w 4294967296 (h 0)) (are-words ws (λ i. h (suc i)))
+are-words (w ∷ ws) h = and-of _ _ (lt-ltb w wordTop (h 0)) (are-words ws (λ i. h (suc i)))
 
 -- the three equations of a call, from its outcome
 pub call : (ws k o : List ℕ) (f r : ℕ) → r ≡ f → Result ws k o f o k → (r ≡ makeFault ws k o) × ((k ≡ makeWork ws k o) × (o ≡ makeAnswer ws k o))
@@ -54,57 +61,79 @@ module _ (ws k o : List ℕ) (r : Sizes) (e : r ≡ readPost ws) where
         (λ z w h. call ws k o 9 f (q ∙ lengths-out (r .refusal) (r .work) (r .n) (length k) (length o) z w h) (narrow z w h))
         (λ z w h. absurd (n (q ∙ lengths-enough (r .refusal) (r .work) (r .n) (length k) (length o) z w h)))
 
-    -- or taken, with so many work words needed
-    pub taken : ((i : ℕ) → getD ws i 0 < 4294967296) → f ≡ 0 → takesSheet ws k o × (r .work ≡ workFor (sheetIn ws))
+    -- or taken, as it was read
+    pub taken : ((i : ℕ) → getD ws i 0 < wordTop) → f ≡ 0 → takesSheet ws k o × (r ≡ readOf (sheetIn ws))
     taken u v =
         let t = lengths (r .refusal) (r .work) (r .n) (length k) (length o) (sym q ∙ v) in
         let g = reading ws r e (t .0) in
-        ((are-words ws u, g .accepted, omega (arith, g .work, t .1), omega (arith, g .sites, t .2)), g .work)
+        ((are-words ws u, g .accepted, omega (arith, g .work, t .1), omega (arith, g .sites, t .2)), rw (eq-eqb (sheetFault ws) 0 (g .accepted)) at e)
 
-  pub sizes : r .refusal ≡ 0 → (r .m ≡ length (sheetIn ws .slots)) × (r .c ≡ length (sheetIn ws .colours)) × (r .n ≡ length (sheetIn ws .sites)) × (r .p ≡ productOf (sheetIn ws .colours))
-  sizes z = let g = reading ws r e z in (g .slots, g .colours, g .sites, g .product)
+-- THE SHEET WITHOUT THE BOUNDS THAT CAN'T BIND in place of the sheet, whose sizes are r
+module _ (ws k o ls : List ℕ) (e : ls ≡ bindingOnly ws) (t : takesSheet ws k o) (r : Sizes) (q : r ≡ readOf (sheetIn ws)) where
+  pub takes-kept : takesSheet ls k o
+  takes-kept = subst (λ (l : List ℕ). takesSheet l k o) (sym e) (takes-binding ws k o t)
 
-  pub work-needed : r .refusal ≡ 0 → r .work ≡ workFor (sheetIn ws)
-  work-needed z = reading ws r e z .work
+  kept-is : sheetIn ls ≡ withColours (sheetIn ws) (bindingColours (sheetIn ws .colours))
+  kept-is = ap sheetIn e ∙ sheet-binding ws (unrefused ws (t .1) .head)
 
--- THE LOOSENED SHEET in place of the sheet
-module _ (ws k o ls : List ℕ) (e : ls ≡ bindingOnly ws) (t : takesSheet ws k o) where
-  pub takes-binding-only : takesSheet ls k o
-  takes-binding-only = subst (λ (l : List ℕ). takesSheet l k o) (sym e) (takes-binding ws k o t)
-
-  module _ (r : Sizes) (q : r ≡ readPost ls) where
-    unrefused : r .refusal ≡ 0
-    unrefused = refusal-is ls r q ∙ takes-binding-only .1
-
-    pub binding-sizes : (r .m ≡ length (sheetIn ls .slots)) × (r .c ≡ length (sheetIn ls .colours)) × (r .n ≡ length (sheetIn ls .sites)) × (r .p ≡ productOf (sheetIn ls .colours))
-    binding-sizes = sizes ls k o r q unrefused
-
-    needs-binding-only : r .work ≡ workFor (sheetIn (bindingOnly ws))
-    needs-binding-only = work-needed ls k o r q unrefused ∙ ap (λ (l : List ℕ). workFor (sheetIn l)) e
-
-    pub needs-less : (n : ℕ) (l : List ℕ) → n ≡ workFor (sheetIn ws) → l ≡ makeWork ls k o → (r .work ≤ n) × (n ≤ length l)
-    needs-less n l h y = (omega (arith, needs-binding-only, work-less ws (t .1)), omega (arith, t .2, ap length y, areas-kept .1 ls k o .3))
-
-    -- the three equations of a call, from those of the call on the bindingOnly sheet
-    pub laid : (n f : ℕ) (l m p : List ℕ) → n ≡ workFor (sheetIn ws) → f ≡ makeFault ls k o → l ≡ makeWork ls k o → p ≡ makeAnswer ls k o → m ≡ zeroed (r .work) n l →
-        (f ≡ makeFault ws k o) × ((m ≡ makeWork ws k o) × (p ≡ makeAnswer ws k o))
-    laid n f l m p h x y z c = (
-      x ∙ ap (λ (v : List ℕ). makeFault v k o) e ∙ fault-binding ws k o serves,
+  -- the sizes fit
+  pub small : (r .m ≤ mostSlots) × (r .c ≤ mostColours) × (r .n ≤ mostSites)
+  small =
+      let s : Sound (sheetIn ws) = sound ws (t .1) in
       (
-        c ∙ ap₃ (needs-binding-only) h (y ∙ ap (λ (v : List ℕ). makeWork v k o) e) ∙ work-zeroed ws k o serves,
-        z ∙ ap (λ (v : List ℕ). makeAnswer v k o) e ∙ area-binding ws k o serves,
-      ),
+        omega (arith, s .few-slots, ap (λ (z : Sizes). z .m) q),
+        omega (arith, s .few-colours, ap (λ (z : Sizes). z .c) q),
+        omega (arith, s .few-sites, ap (λ (z : Sizes). z .n) q),
+      )
+
+  -- the side stays
+  pub side-kept : (b : Bool) → b ≡ sheetIn ws .isTwoSided → b ≡ sheetIn ls .isTwoSided
+  side-kept b h = h ∙ sym (ap (λ (s : Sheet). s .isTwoSided) kept-is)
+
+  module _ (body : List ℕ) (p : ℕ) (h : body ≡ bodyOf ls) (c : p ≡ capped (productOf (coloursIn body))) where
+    few-budgets : productOf (sheetIn ls .colours) ≤ mostBudgets
+    few-budgets = sound ls (takes-kept .1) .product
+
+    product-kept : p ≡ productOf (sheetIn ls .colours)
+    product-kept = c ∙ ap (λ (b : List ℕ). capped (productOf (coloursIn b))) h ∙ capped-same (productOf (sheetIn ls .colours)) few-budgets
+
+    pub few : p ≤ mostBudgets
+    few = omega (arith, product-kept, few-budgets)
+
+    -- n, m and C stay, and p is P
+    pub sizes-kept : SizesOf (sheetIn ls) (r .m) (r .c) (r .n) p
+    sizes-kept = (
+      ap (λ (z : Sizes). z .m) q ∙ sym (ap (λ (s : Sheet). length (s .slots)) kept-is),
+      ap (λ (z : Sizes). z .c) q ∙ sym (ap (λ (s : Sheet). length (s .colours)) kept-is ∙ length-binding (sheetIn ws .colours)),
+      ap (λ (z : Sizes). z .n) q ∙ sym (ap (λ (s : Sheet). length (s .sites)) kept-is),
+      product-kept,
     )
-      where
-        serves : Serves ws k o
-        serves = (t .1, t .2, t .3)
 
-        ap₃ : {a b c d : ℕ} {u v : List ℕ} → a ≡ b → c ≡ d → u ≡ v → zeroed a c u ≡ zeroed b d v
-        ap₃ x y z = rw (x, y, z) refl
+    module _ (two : Bool) (n : ℕ) (b : two ≡ sheetIn ws .isTwoSided) (w : n ≡ workOf two (r .m) (r .c) (r .n) p) where
+      words-kept : n ≡ workFor (sheetIn (bindingOnly ws))
+      words-kept =
+          let z = sizes-kept in
+          w ∙ (λ i. workOf (side-kept two b i) (z .0 i) (z .1 i) (z .2 i) (z .3 i)) ∙ ap (λ (l : List ℕ). workFor (sheetIn l)) e
 
--- the head's side bit
-pub two-sided : (ws : List ℕ) (h b : ℕ) → h ≡ getD ws 0 0 → b ≡ bits h 27 1 → b ≡ 1 → sheetIn ws .isTwoSided ≡ true
-two-sided ws h b e f g = eq-eqb (bits (headIn ws) 27 1) 1 (sym (ap (λ (w : ℕ). bits w 27 1) e) ∙ sym f ∙ g)
+      words-given : r .work ≡ workFor (sheetIn ws)
+      words-given = ap (λ (z : Sizes). z .work) q
 
-pub one-sided : (ws : List ℕ) (h b : ℕ) → h ≡ getD ws 0 0 → b ≡ bits h 27 1 → (b ≡ 1 → ⊥) → sheetIn ws .isTwoSided ≡ false
-one-sided ws h b e f g = ne-eqb (bits (headIn ws) 27 1) 1 (λ (z : bits (headIn ws) 27 1 ≡ 1). g (f ∙ ap (λ (w : ℕ). bits w 27 1) e ∙ z))
+      pub needs-less : (l : List ℕ) → l ≡ makeWork ls k o → (n ≤ r .work) × (r .work ≤ length l)
+      needs-less l y = (omega (arith, words-kept, words-given, work-less ws (t .1)), omega (arith, words-given, t .2, ap length y, areas-kept .1 ls k o .3))
+
+      -- the three equations of a call, from those of the call on the sheet without them
+      pub laid : (f : ℕ) (l m a : List ℕ) → f ≡ makeFault ls k o → l ≡ makeWork ls k o → a ≡ makeAnswer ls k o → m ≡ zeroed n (r .work) l →
+          (f ≡ makeFault ws k o) × ((m ≡ makeWork ws k o) × (a ≡ makeAnswer ws k o))
+      laid f l m a x y z d = (
+        x ∙ ap (λ (v : List ℕ). makeFault v k o) e ∙ fault-binding ws k o serves,
+        (
+          d ∙ ap₃ words-kept words-given (y ∙ ap (λ (v : List ℕ). makeWork v k o) e) ∙ work-zeroed ws k o serves,
+          z ∙ ap (λ (v : List ℕ). makeAnswer v k o) e ∙ area-binding ws k o serves,
+        ),
+      )
+        where
+          serves : Serves ws k o
+          serves = (t .1, t .2, t .3)
+
+          ap₃ : {a b c d : ℕ} {u v : List ℕ} → a ≡ b → c ≡ d → u ≡ v → zeroed a c u ≡ zeroed b d v
+          ap₃ x y z = rw (x, y, z) refl

@@ -1,2 +1,1 @@
 mod Calls
-mod Cleared

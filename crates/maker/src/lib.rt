@@ -1,27 +1,30 @@
 // The layout maker: refusals 1 to 9, then the half for the sheet's side, on the sheet without the bounds that can't bind.
+// `make_layout` asks nothing of its caller. What has a `requires` below it, here and in other crates, is internal to the maker.
 ghost use mathlib.Core.Path.{_≡_};
-ghost use Prim.Native.Nat.{_≤_};
-ghost use lib.ListN.{length};
-ghost use Rattle.sheet.specs.Sheet.{sheetIn, productOf, workFor};
-ghost use Rattle.labelling.specs.Entry.{makeFault, makeAnswer, makeWork, zeroed};
+ghost use Rattle.sheet.specs.Sheet.{sheetIn};
+ghost use Rattle.labelling.specs.Entry.{makeFault, makeAnswer, makeWork};
 ghost use Rattle.labelling.specs.Promise.{takesSheet};
+ghost use Rattle.reader.specs.Read.{readOf};
+ghost use Rattle.onesided.specs.Ranked.{SizesOf};
 use areas::lengths::area_fault;
+use areas::zero_part;
+use reader::Sizes;
+use reader::binding::binding_only;
+use reader::scans::body_of;
+use refusals::products::product;
+use refusals::sizes::work_for;
 
-// Zeros the words from a place up to another.
-fn clear_from(work: &mut [u32], from: usize, to: usize)
-    requires { ⌜ (from ≤ to) × (to ≤ length (now work)) ⌝ }
-    ensures { λ _. ⌜ now (work .exit) ≡ zeroed from to (now (work .entry)) ⌝ }
+// Whether the head says two-sided.
+fn is_two_sided(sheet: &[u32]) -> bool
+    ensures { λ r. ⌜ r ≡ sheetIn (now (sheet .entry)) .isTwoSided ⌝ }
 {
-    let mut i = from;
-    while i < to {
-        work[i] = 0;
-        i += 1;
-    }
+    words::same(words::side_bit(words::get(sheet, 0)), 1)
 }
 
 // The half for the side of an accepted sheet of these sizes, its areas long enough.
 fn lay_side(
     sheet: &[u32],
+    two: bool,
     slots: usize,
     colours: u32,
     sites: usize,
@@ -30,35 +33,36 @@ fn lay_side(
     out: &mut [u32],
 ) -> u8
     requires { ⌜ takesSheet (now sheet) (now work) (now out) ⌝ }
-    requires { ⌜ (slots ≡ length (sheetIn (now sheet) .slots)) × (colours ≡ length (sheetIn (now sheet) .colours)) × (sites ≡ length (sheetIn (now sheet) .sites)) × (budgets ≡ productOf (sheetIn (now sheet) .colours)) ⌝ }
+    requires { ⌜ (two ≡ sheetIn (now sheet) .isTwoSided) × SizesOf (sheetIn (now sheet)) slots colours sites budgets ⌝ }
     ensures { λ r. ⌜ r ≡ makeFault (now (sheet .entry)) (now (work .entry)) (now (out .entry)) ⌝ }
     ensures { λ _. ⌜ now (work .exit) ≡ makeWork (now (sheet .entry)) (now (work .entry)) (now (out .entry)) ⌝ }
     ensures { λ _. ⌜ now (out .exit) ≡ makeAnswer (now (sheet .entry)) (now (work .entry)) (now (out .entry)) ⌝ }
 {
-    if words::side_bit(words::get(sheet, 0)) == 1 {
+    if two {
         return twosided::lay_two_sided(sheet, slots, colours, sites, budgets, work, out);
     }
     onesided::lay_one_sided(sheet, slots, colours, sites, budgets, work, out)
 }
 
-// An accepted sheet that needs so many work words, its areas long enough: laid out without the bounds that can't bind, which may
-// need fewer of them, so the rest is zeroed.
-fn lay_binding(sheet: &[u32], needed: usize, work: &mut [u32], out: &mut [u32]) -> u8
+// An accepted sheet as it was read, its areas long enough: laid out without the bounds that can't bind. These change P alone of
+// the sizes; where P falls, fewer work words are needed, so the rest is zeroed.
+fn lay_binding(sheet: &[u32], sizes: Sizes, work: &mut [u32], out: &mut [u32]) -> u8
     requires { ⌜ takesSheet (now sheet) (now work) (now out) ⌝ }
-    requires { ⌜ needed ≡ workFor (sheetIn (now sheet)) ⌝ }
+    requires { ⌜ sizes ≡ readOf (sheetIn (now sheet)) ⌝ }
     ensures { λ r. ⌜ r ≡ makeFault (now (sheet .entry)) (now (work .entry)) (now (out .entry)) ⌝ }
     ensures { λ _. ⌜ now (work .exit) ≡ makeWork (now (sheet .entry)) (now (work .entry)) (now (out .entry)) ⌝ }
     ensures { λ _. ⌜ now (out .exit) ≡ makeAnswer (now (sheet .entry)) (now (work .entry)) (now (out .entry)) ⌝ }
 {
-    let words = reader::binding::binding_only(sheet);
+    let words = binding_only(sheet);
     let kept = &words[..sheet.len()];
-    let sizes = reader::read_sheet(kept);
+    let budgets = product(body_of(kept));
+    let two = is_two_sided(sheet);
     let slots = sizes.m as usize;
     let colours = sizes.c as u32;
     let sites = sizes.n as usize;
-    let budgets = sizes.p as u32;
-    let refusal = lay_side(kept, slots, colours, sites, budgets, work, out);
-    clear_from(work, sizes.work as usize, needed);
+    let table = work_for(two, sizes.m as u32, colours, sizes.n as u32, budgets);
+    let refusal = lay_side(kept, two, slots, colours, sites, budgets, work, out);
+    zero_part(work, table as usize, sizes.work as usize);
     refusal
 }
 
@@ -80,5 +84,5 @@ pub fn make_layout(sheet: &[u32], work: &mut [u32], out: &mut [u32]) -> u8
     if fault != 0 {
         return fault;
     }
-    lay_binding(sheet, needed, work, out)
+    lay_binding(sheet, sizes, work, out)
 }

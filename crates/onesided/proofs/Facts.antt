@@ -11,7 +11,9 @@ use borrow.Author.Tests.{ltb-true}
 use Rattle.lists.proofs.Tests.{by-test}
 use Rattle.sheet.specs.Sheet.{Colour, Sheet, sheetIn, sheetFault, productOf, workFor}
 use Rattle.sheet.proofs.Accepted.{Sound, sound, lowY, colourLow}
+use Rattle.areas.proofs.Zeroed.{zeroed-front}
 use Rattle.labelling.specs.Layout.{noSite}
+use Rattle.labelling.specs.Entry.{zeroed}
 use Rattle.labelling.proofs.Members.{all-at, used-at, rise-at}
 use Rattle.labelling.proofs.Words.{height-low}
 use Rattle.optimum.specs.OneSided.{order}
@@ -177,7 +179,7 @@ wiped-same q hs bs rs ds xs ys cs old new area g e =
 pub record Wipes (q : Measures) (hs bs rs ds xs ys cs os : List ℕ) (area s : ℕ) : Type 0 where
   pub small : (length os + 1) * s ≤ 427680000
   pub fits : (length os + 1) * s ≤ area
-  pub wipes : (work : List ℕ) → replicate ((length os + 1) * s) 0 ++ drop ((length os + 1) * s) work ≡ wiped (instanceBy q hs bs rs ds) q (pointsBy xs ys cs) work
+  pub wipes : (work : List ℕ) → zeroed 0 ((length os + 1) * s) work ≡ wiped (instanceBy q hs bs rs ds) q (pointsBy xs ys cs) work
 
 pub wipes-is : (q : Measures) (hs bs rs ds xs ys cs os out : List ℕ) (area s : ℕ) → Given q hs bs rs ds xs ys cs area → Ranked q xs os out → s ≡ levelSize q hs → Wipes q hs bs rs ds xs ys cs os area s
 wipes-is q hs bs rs ds xs ys cs os out area s g r e =
@@ -187,5 +189,5 @@ wipes-is q hs bs rs ds xs ys cs os out area s g r e =
     record {
       small = rw e (mul-le-mul {n₂ = 33} {m₂ = 12960000} few (size (length hs) (q .colours) (q .budgets) (g .framed .slotsFew) (g .framed .coloursFew) (g .framed .budgetsFew)));
       fits = rw e within;
-      wipes = λ work. rw (e, long) refl;
+      wipes = λ work. zeroed-front ((length os + 1) * s) work ∙ rw (e, long) refl;
     }

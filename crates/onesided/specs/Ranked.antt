@@ -3,10 +3,15 @@ use mathlib.Core.Path.{_≡_}
 use mathlib.Core.List.{List}
 use Prim.Native.Nat.{ℕ, _<_}
 use lib.ListN.{length, getD}
-use Rattle.sheet.specs.Sheet.{Sheet}
+use Rattle.sheet.specs.Sheet.{Sheet, productOf}
 use Rattle.optimum.specs.OneSided.{order}
 use Rattle.arrays.specs.declared.Measures.{Measures}
 use Rattle.arrays.specs.Arrays.{xsOf, ysOf, coloursOf, gathered}
+
+-- the sizes of a sheet: m, C, n and P
+abbrev pub SizesOf : Sheet → (slots colours sites budgets : ℕ) → Type 0
+SizesOf s m c n p =
+    (m ≡ length (s .slots)) × (c ≡ length (s .colours)) × (n ≡ length (s .sites)) × (p ≡ productOf (s .colours))
 
 -- the order names each site, there is a budget, and there is room for the answer
 pub record Ranked (q : Measures) (xs os out : List ℕ) : Type 0 where

@@ -9,7 +9,7 @@ ghost use Rattle.labelling.specs.Promise.{takesSheet};
 ghost use Rattle.table.specs.Levels.{Given};
 ghost use Rattle.walk.specs.Laid.{laidFault, laidOut, wiped};
 ghost use Rattle.onesided.specs.Ranked.{Ranked, RankedSites};
-use areas::clear;
+use areas::zero_part;
 use arrays::Measures;
 use arrays::draws_of;
 use arrays::gathered_of;
@@ -78,7 +78,7 @@ fn lay_ranked(
         out,
     );
     let size = level_size(q, heights.len());
-    clear(work, (order.len() + 1) * size);
+    zero_part(work, 0, (order.len() + 1) * size);
     fault
 }
 

@@ -13,7 +13,7 @@ ghost use Rattle.two_stripcosts.specs.Table.{instanceBy, tableBy, capsIn, Fits,
 ghost use Rattle.two_aims.specs.Caps.{Low};
 ghost use Rattle.two_capsearch.specs.Search.{uncapped, Filled};
 ghost use Rattle.twosided.specs.Layouts.{Laid};
-use areas::clear;
+use areas::zero_part;
 use arrays::Measures;
 use arrays::draws_of;
 use arrays::measures_of;
@@ -172,7 +172,7 @@ fn lay_sites(
     let cells = table_words(q, heights.len());
     let least = value_of(q, heights, bounds, radices, draws, ys, colours, order, work);
     if least == NONE {
-        clear(work, cells);
+        zero_part(work, 0, cells);
         return 10;
     }
     let found = caps_of(
@@ -189,7 +189,7 @@ fn lay_sites(
         least,
     );
     write_layout(head_word(q, least), &found[..n], out);
-    clear(work, cells);
+    zero_part(work, 0, cells);
     0
 }
 

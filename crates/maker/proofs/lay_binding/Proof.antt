@@ -1,6 +1,7 @@
+-- `maker::lay_binding` meets its contract.
 use Rattle.sheet.proofs.Accepted.{few-words}
 use Rattle.sheet.proofs.Binding.{length-kept}
-use Rattle.maker.proofs.Calls.{takes-binding-only, binding-sizes, needs-less, laid}
+use Rattle.maker.proofs.Calls.{takes-kept, small, few, side-kept, sizes-kept, needs-less, laid}
 use mathlib.Core.Path.{ap, sym, _∙_}
 use native.Mathlib.Omega.{arith}
 use lib.ListN.{length}
@@ -8,21 +9,28 @@ use borrow.Author.Needs.{needs}
 use Rattle.maker.proofs.lay_binding.Statement.{statement}
 use Rattle.maker.proofs.lay_binding.Tie as tie
 
+-- where the function starts, seen from where P is known
+abbrev begin : tie.After-product → tie.Start
+begin m = m .before .before .before .before .before .before .before
+
 binding-only-requires : tie.Need-binding-only-requires
-binding-only-requires c κs =
-    few-words (c .before .before .before .args .sheet .now) (c .before .before .before .pre .0 .1)
+binding-only-requires c κs = few-words (c .before .before .before .args .sheet .now) (c .before .before .before .pre .0 .1)
 
 array-share-prefix-words : tie.Need-array-share-prefix-words
-array-share-prefix-words c =
-    omega (arith, few-words (c .before .before .before .before .args .sheet .now) (c .before .before .before .before .pre .0 .1))
+array-share-prefix-words c = omega (arith, few-words (c .before .before .before .before .args .sheet .now) (c .before .before .before .before .pre .0 .1))
 
 slice-aggregate-kept : tie.Need-slice-aggregate-kept
 slice-aggregate-kept c =
-    let s = c .before .before .before .before .before .args .sheet .now in
-    sym (ap length (c .before .binding-only .ensures) ∙ length-kept s)
+    sym (ap length (c .before .binding-only .ensures) ∙ length-kept (c .before .before .before .before .before .args .sheet .now))
 
-read-sheet-requires : tie.Need-read-sheet-requires
-read-sheet-requires c κs = search needs
+body-of-requires : tie.Need-body-of-requires
+body-of-requires c κs = search needs
+
+product-requires : tie.Need-product-requires
+product-requires c κs = search needs
+
+is-two-sided-requires : tie.Need-is-two-sided-requires
+is-two-sided-requires c κs = search needs
 
 cast-slots : tie.Need-cast-slots
 cast-slots c = search needs
@@ -33,27 +41,48 @@ cast-colours c = search needs
 cast-sites : tie.Need-cast-sites
 cast-sites c = search needs
 
-cast-budgets : tie.Need-cast-budgets
-cast-budgets c = search needs
+cast-work-for : tie.Need-cast-work-for
+cast-work-for c = search needs
+
+cast-work-for-2 : tie.Need-cast-work-for-2
+cast-work-for-2 c = search needs
+
+work-for-requires : tie.Need-work-for-requires
+work-for-requires c κs =
+    let m = c .before .before .before .before .before .before in
+    let a = begin m .args in
+    let p = begin m .pre in
+    let e = m .before .before .before .binding-only .ensures in
+    let z = small (a .sheet .now) (a .work .now) (a .out .now) _ e (p .0) (a .sizes) (p .1) in
+    (z .0, z .1, z .2, few (a .sheet .now) (a .work .now) (a .out .now) _ e (p .0) (a .sizes) (p .1) _ _ (m .before .body-of .ensures) (m .product .ensures))
 
 lay-side-requires : tie.Need-lay-side-requires
 lay-side-requires c κs =
-    let a = c .before .before .before .before .before .before .before .before .before .before .before .before .args in
-    let p = c .before .before .before .before .before .before .before .before .before .before .before .before .pre in
-    let e = c .before .before .before .before .before .before .before .before .binding-only .ensures in
-    let r = c .before .before .before .before .before .before .read-sheet in
-    (takes-binding-only (a .sheet .now) (a .work .now) (a .out .now) _ e (p .0), binding-sizes (a .sheet .now) (a .work .now) (a .out .now) _ e (p .0) (r .result) (r .ensures))
+    let m = c .before .before .before .before .before .before .before .before .before in
+    let a = begin m .args in
+    let p = begin m .pre in
+    let e = m .before .before .before .binding-only .ensures in (
+      takes-kept (a .sheet .now) (a .work .now) (a .out .now) _ e (p .0) (a .sizes) (p .1),
+      (
+        side-kept (a .sheet .now) (a .work .now) (a .out .now) _ e (p .0) (a .sizes) (p .1) _ (c .before .before .before .before .before .before .before .before .is-two-sided .ensures),
+        sizes-kept (a .sheet .now) (a .work .now) (a .out .now) _ e (p .0) (a .sizes) (p .1) _ _ (m .before .body-of .ensures) (m .product .ensures),
+      ),
+    )
 
-cast-clear-from : tie.Need-cast-clear-from
-cast-clear-from c = search needs
+cast-zero-part : tie.Need-cast-zero-part
+cast-zero-part c = search needs
 
-clear-from-requires : tie.Need-clear-from-requires
-clear-from-requires c κs =
-    let a = c .before .before .before .before .before .before .before .before .before .before .before .before .before .before .before .before .before .before .before .args in
-    let p = c .before .before .before .before .before .before .before .before .before .before .before .before .before .before .before .before .before .before .before .pre in
-    let e = c .before .before .before .before .before .before .before .before .before .before .before .before .before .before .before .binding-only .ensures in
-    let r = c .before .before .before .before .before .before .before .before .before .before .before .before .before .read-sheet in
-    needs-less (a .sheet .now) (a .work .now) (a .out .now) _ e (p .0) (r .result) (r .ensures) (a .needed) _ (p .1) (c .before .before .before .before .before .before .lay-side .ensures .1 .0)
+cast-zero-part-2 : tie.Need-cast-zero-part-2
+cast-zero-part-2 c = search needs
+
+zero-part-requires : tie.Need-zero-part-requires
+zero-part-requires c κs =
+    let m = c .before .before .before .before .before .before .before .before .before .before .before .before .before .before .before .before in
+    let a = begin m .args in
+    let p = begin m .pre in
+    let e = m .before .before .before .binding-only .ensures in
+    needs-less (a .sheet .now) (a .work .now) (a .out .now) _ e (p .0) (a .sizes) (p .1) _ _ (m .before .body-of .ensures) (m .product .ensures)
+    _ _ (c .before .before .before .before .before .before .before .before .before .before .before .before .before .before .before .is-two-sided .ensures) (c .before .before .before .before .before .before .before .before .before .work-for .ensures) _ (c .before .before .before .before .before .before .lay-side .ensures .1 .0)
 
 same-length : tie.Need-same-length
 same-length c = search needs
@@ -63,12 +92,13 @@ same-length-2 c = search needs
 
 returns : tie.Need-returns
 returns c =
-    let a = c .before .before .before .before .before .before .before .before .before .before .before .before .before .before .before .before .before .before .before .before .before .before .args in
-    let p = c .before .before .before .before .before .before .before .before .before .before .before .before .before .before .before .before .before .before .before .before .before .before .pre in
-    let e = c .before .before .before .before .before .before .before .before .before .before .before .before .before .before .before .before .before .before .binding-only .ensures in
-    let r = c .before .before .before .before .before .before .before .before .before .before .before .before .before .before .before .before .read-sheet in
+    let m = c .before .before .before .before .before .before .before .before .before .before .before .before .before .before .before .before .before .before .before in
+    let a = begin m .args in
+    let p = begin m .pre in
+    let e = m .before .before .before .binding-only .ensures in
     let f = c .before .before .before .before .before .before .before .before .before .lay-side .ensures in
-    laid (a .sheet .now) (a .work .now) (a .out .now) _ e (p .0) (r .result) (r .ensures) (a .needed) _ _ _ _ (p .1) (f .0) (f .1 .0) (f .1 .1) (c .before .before .clear-from .ensures)
+    laid (a .sheet .now) (a .work .now) (a .out .now) _ e (p .0) (a .sizes) (p .1) _ _ (m .before .body-of .ensures) (m .product .ensures)
+    _ _ (c .before .before .before .before .before .before .before .before .before .before .before .before .before .before .before .before .before .before .is-two-sided .ensures) (c .before .before .before .before .before .before .before .before .before .before .before .before .work-for .ensures) _ _ _ _ (f .0) (f .1 .0) (f .1 .1) (c .before .before .zero-part .ensures)
 
 pub lay-binding-spec : {M : Type 1} → statement M
 lay-binding-spec =
@@ -77,14 +107,19 @@ lay-binding-spec =
     binding-only-requires
     array-share-prefix-words
     slice-aggregate-kept
-    read-sheet-requires
+    body-of-requires
+    product-requires
+    is-two-sided-requires
     cast-slots
     cast-colours
     cast-sites
-    cast-budgets
+    cast-work-for
+    cast-work-for-2
+    work-for-requires
     lay-side-requires
-    cast-clear-from
-    clear-from-requires
+    cast-zero-part
+    cast-zero-part-2
+    zero-part-requires
     same-length
     same-length-2
     returns)

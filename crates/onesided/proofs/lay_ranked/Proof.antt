@@ -33,23 +33,23 @@ level-size-requires : tie.Need-level-size-requires
 level-size-requires c κs =
     let f = c .before .before .before .before .before .before .before .before .before .before .before .before .before .before .before .before .before .before .before .before .before .before .before .before .before .before .before .pre .0 .framed in (f .slotsFew, f .coloursFew, f .budgetsFew)
 
-add-clear : tie.Need-add-clear
-add-clear c =
+add-zero-part : tie.Need-add-zero-part
+add-zero-part c =
     let p = c .before .before .before .before .before .before .before .before .before .before .before .before .before .before .before .before .before .before .before .before .before .before .before .before .before .before .before .before .before .pre in omega (arith, p .1 .long, p .0 .sites .sitesFew)
 
-mul-clear : tie.Need-mul-clear
-mul-clear c =
+mul-zero-part : tie.Need-mul-zero-part
+mul-zero-part c =
     let p = c .before .before .before .before .before .before .before .before .before .before .before .before .before .before .before .before .before .before .before .before .before .before .before .before .before .before .before .before .before .pre in let a = c .before .before .before .before .before .before .before .before .before .before .before .before .before .before .before .before .before .before .before .before .before .before .before .before .before .before .before .before .before .args in
     omega (arith, wipes-is (a .q) (a .heights .now) (a .bounds .now) (a .radices .now) (a .draws .now) (a .xs .now) (a .ys .now) (a .colours .now) (a .order .now) (a .out .now) (length (a .work .now)) _ (p .0) (p .1) (c .before .level-size .ensures) .small)
 
-clear-requires : tie.Need-clear-requires
-clear-requires c κs =
+zero-part-requires : tie.Need-zero-part-requires
+zero-part-requires c κs =
     let p = c .before .before .before .before .before .before .before .before .before .before .before .before .before .before .before .before .before .before .before .before .before .before .before .before .before .before .before .before .before .pre in let a = c .before .before .before .before .before .before .before .before .before .before .before .before .before .before .before .before .before .before .before .before .before .before .before .before .before .before .before .before .before .args in
-    rw (c .before .before .before .before .before .before .before .before .before .fill-table .kept .0) (wipes-is (a .q) (a .heights .now) (a .bounds .now) (a .radices .now) (a .draws .now) (a .xs .now) (a .ys .now) (a .colours .now) (a .order .now) (a .out .now) (length (a .work .now)) _ (p .0) (p .1) (c .before .level-size .ensures) .fits)
+    (omega arith, rw (c .before .before .before .before .before .before .before .before .before .fill-table .kept .0) (wipes-is (a .q) (a .heights .now) (a .bounds .now) (a .radices .now) (a .draws .now) (a .xs .now) (a .ys .now) (a .colours .now) (a .order .now) (a .out .now) (length (a .work .now)) _ (p .0) (p .1) (c .before .level-size .ensures) .fits))
 
 same-length : tie.Need-same-length
 same-length c =
-    c .before .before .clear .kept .0 ∙ c .before .before .before .before .before .before .before .before .before .before .before .before .fill-table .kept .0
+    c .before .before .zero-part .kept .0 ∙ c .before .before .before .before .before .before .before .before .before .before .before .before .fill-table .kept .0
 
 same-length-2 : tie.Need-same-length-2
 same-length-2 c = search needs
@@ -59,7 +59,7 @@ returns c =
     let p = c .before .before .before .before .before .before .before .before .before .before .before .before .before .before .before .before .before .before .before .before .before .before .before .before .before .before .before .before .before .before .before .before .pre in let a = c .before .before .before .before .before .before .before .before .before .before .before .before .before .before .before .before .before .before .before .before .before .before .before .before .before .before .before .before .before .before .before .before .args in
     let f = c .before .before .before .before .before .before .before .lay-least .ensures in
     let w = wipes-is (a .q) (a .heights .now) (a .bounds .now) (a .radices .now) (a .draws .now) (a .xs .now) (a .ys .now) (a .colours .now) (a .order .now) (a .out .now) (length (a .work .now)) _ (p .0) (p .1) (c .before .before .before .before .level-size .ensures) in
-    (f .0, (c .before .before .clear .ensures ∙ w .wipes _ ∙ wiped-same _ _ _ _ _ _ _ _ _ _ _ (p .0) (c .before .before .before .before .before .before .before .before .before .before .before .before .fill-table .ensures .1), f .1))
+    (f .0, (c .before .before .zero-part .ensures ∙ w .wipes _ ∙ wiped-same _ _ _ _ _ _ _ _ _ _ _ (p .0) (c .before .before .before .before .before .before .before .before .before .before .before .before .fill-table .ensures .1), f .1))
 
 slice-aggregate-parts : tie.Need-slice-aggregate-parts
 slice-aggregate-parts c = search needs
@@ -80,9 +80,9 @@ lay-ranked-spec =
     fill-table-requires
     lay-least-requires
     level-size-requires
-    add-clear
-    mul-clear
-    clear-requires
+    add-zero-part
+    mul-zero-part
+    zero-part-requires
     same-length
     same-length-2
     returns)

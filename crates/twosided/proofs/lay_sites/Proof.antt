@@ -1,6 +1,7 @@
 use Rattle.two_stripcosts.specs.Table.{tableWords}
 use Rattle.twosided.proofs.Answer.{laid-none, laid-some, steady-at, filled-at}
-use mathlib.Core.Path.{sym}
+use Rattle.areas.proofs.Zeroed.{zeroed-front}
+use mathlib.Core.Path.{sym, _∙_}
 use Prim.Native.Nat.{_≤_}
 use native.Mathlib.Omega.{arith}
 use lib.ListN.{length, take}
@@ -23,8 +24,8 @@ table-words-requires c κs = search needs
 value-of-requires : tie.Need-value-of-requires
 value-of-requires c κs = search needs
 
-clear-requires : tie.Need-clear-requires
-clear-requires c κs = search needs
+zero-part-requires : tie.Need-zero-part-requires
+zero-part-requires c κs = search needs
 
 same-length : tie.Need-same-length
 same-length c = search needs
@@ -32,8 +33,8 @@ same-length c = search needs
 returns : tie.Need-returns
 returns c =
     let a = c .before .before .before .before .before .before .before .before .before .before .before .before .before .before .before .before .before .before .before .before .before .args in let p = c .before .before .before .before .before .before .before .before .before .before .before .before .before .before .before .before .before .before .before .before .before .pre in let v = c .before .before .before .before .before .before .before .value-of in
-    laid-none (a .q) (a .heights .now) (a .bounds .now) (a .radices .now) (a .ys .now) (a .colours .now) (a .ranks .now) (v .result) (tableWords (a .q) (a .heights .now)) (a .work .now) (v .last .1 .1 .1 .1 .1 .1 .1 .1 .0) (c .before .before .clear .last .0) (a .out .now) (v .ensures .0) (c .before .before .before .before .if1 .taken) (v .ensures .1 .1)
-    (rw (c .before .before .before .before .before .before .before .before .before .table-words .ensures) at (c .before .before .clear .ensures))
+    laid-none (a .q) (a .heights .now) (a .bounds .now) (a .radices .now) (a .ys .now) (a .colours .now) (a .ranks .now) (v .result) (tableWords (a .q) (a .heights .now)) (a .work .now) (v .last .1 .1 .1 .1 .1 .1 .1 .1 .0) (c .before .before .zero-part .last .0) (a .out .now) (v .ensures .0) (c .before .before .before .before .if1 .taken) (v .ensures .1 .1)
+    ((rw (c .before .before .before .before .before .before .before .before .before .table-words .ensures) at (c .before .before .zero-part .ensures)) ∙ zeroed-front (tableWords (a .q) (a .heights .now)) (v .last .1 .1 .1 .1 .1 .1 .1 .1 .0))
 
 caps-of-requires : tie.Need-caps-of-requires
 caps-of-requires c κs =
@@ -59,8 +60,8 @@ write-layout-requires c κs =
     let p = c .before .before .before .before .before .before .before .before .before .before .before .before .before .before .before .before .before .before .before .before .before .before .pre in let k = c .before .before .before .caps-of in
     (omega (arith, k .ensures .1 .0, p .1 .0), omega (arith, k .ensures .1 .0, p .0 .few-sites), k .ensures .1 .1)
 
-clear-requires-2 : tie.Need-clear-requires-2
-clear-requires-2 c κs =
+zero-part-requires-2 : tie.Need-zero-part-requires-2
+zero-part-requires-2 c κs =
     omega (arith, c .before .before .before .before .before .before .before .before .before .before .before .before .before .before .table-words .ensures, c .before .before .before .before .before .before .before .before .before .before .before .before .value-of .kept .1 .1 .1 .1 .1 .1 .1 .1 .0, c .before .before .before .before .before .before .before .before .before .before .before .before .before .before .before .before .before .before .before .before .before .before .before .before .before .before .pre .1 .0 .0)
 
 same-length-2 : tie.Need-same-length-2
@@ -72,9 +73,9 @@ same-length-3 c = search needs
 returns-2 : tie.Need-returns-2
 returns-2 c =
     let a = c .before .before .before .before .before .before .before .before .before .before .before .before .before .before .before .before .before .before .before .before .before .before .before .before .before .before .before .before .before .args in let p = c .before .before .before .before .before .before .before .before .before .before .before .before .before .before .before .before .before .before .before .before .before .before .before .before .before .before .before .before .before .pre in let v = c .before .before .before .before .before .before .before .before .before .before .before .before .before .before .before .value-of in let k = c .before .before .before .before .before .before .before .before .before .before .caps-of in
-    laid-some (a .q) (a .heights .now) (a .bounds .now) (a .radices .now) (a .ys .now) (a .colours .now) (a .ranks .now) (v .result) (c .before .before .before .before .before .before .before .before .before .head-word .result) (tableWords (a .q) (a .heights .now)) (take (length (a .ys .now)) (k .result)) (a .work .now) (v .last .1 .1 .1 .1 .1 .1 .1 .1 .0) (c .before .before .clear2 .last .0) (a .out .now) (c .before .before .before .before .before .before .write-layout .last .1 .1 .0)
+    laid-some (a .q) (a .heights .now) (a .bounds .now) (a .radices .now) (a .ys .now) (a .colours .now) (a .ranks .now) (v .result) (c .before .before .before .before .before .before .before .before .before .head-word .result) (tableWords (a .q) (a .heights .now)) (take (length (a .ys .now)) (k .result)) (a .work .now) (v .last .1 .1 .1 .1 .1 .1 .1 .1 .0) (c .before .before .zero-part2 .last .0) (a .out .now) (c .before .before .before .before .before .before .write-layout .last .1 .1 .0)
     (v .ensures .0) (c .before .before .before .before .before .before .before .before .before .before .before .before .if1 .left) (omega (arith, v .ok)) (k .ensures .1 .0) (k .ensures .0) (c .before .before .before .before .before .before .before .before .before .head-word .ensures) (c .before .before .before .before .before .before .write-layout .ensures)
-    (v .ensures .1 .1) (rw (c .before .before .before .before .before .before .before .before .before .before .before .before .before .before .before .before .before .table-words .ensures) at (c .before .before .clear2 .ensures))
+    (v .ensures .1 .1) ((rw (c .before .before .before .before .before .before .before .before .before .before .before .before .before .before .before .before .before .table-words .ensures) at (c .before .before .zero-part2 .ensures)) ∙ zeroed-front (tableWords (a .q) (a .heights .now)) (v .last .1 .1 .1 .1 .1 .1 .1 .1 .0))
 
 pub lay-sites-spec : {M : Type 1} → statement M
 lay-sites-spec =
@@ -85,7 +86,7 @@ lay-sites-spec =
     slice-aggregate-order
     table-words-requires
     value-of-requires
-    clear-requires
+    zero-part-requires
     same-length
     returns
     caps-of-requires
@@ -93,7 +94,7 @@ lay-sites-spec =
     array-share-prefix-found
     slice-aggregate-write-layout
     write-layout-requires
-    clear-requires-2
+    zero-part-requires-2
     same-length-2
     same-length-3
     returns-2)

@@ -1,4 +1,4 @@
--- Zeros from a place on, one store a turn. Assumes nothing.
+-- A part of an area zeroed, one store a turn. Assumes nothing.
 use mathlib.Core.Path.{_≡_, refl, sym, _∙_}
 use mathlib.Core.List.{List, _∷_, _++_, append-assoc}
 use Prim.Native.Nat.{ℕ, suc, _+_, _-_, _≤_, _<_}
@@ -7,6 +7,10 @@ use native.Mathlib.Omega.{arith}
 use lib.ListN.{length, getD, take, drop, set, replicate, length-append, length-replicate, take-append-drop, replicate-append-replicate}
 use lib.Seq.{drop-cons, set-at, length-take-le}
 use Rattle.labelling.specs.Entry.{zeroed}
+
+-- from the first word on
+pub zeroed-front : (n : ℕ) (w : List ℕ) → zeroed 0 n w ≡ replicate n 0 ++ drop n w
+zeroed-front n w = let z : n - 0 ≡ n = omega arith in rw z refl
 
 pub zeroed-none : (a : ℕ) (w : List ℕ) → w ≡ zeroed a a w
 zeroed-none a w = let z : a - a ≡ 0 = omega arith in rw z (sym (take-append-drop a w))
