@@ -79,8 +79,7 @@ module _ (ws k o ls : List ℕ) (e : ls ≡ bindingOnly ws) (t : takesSheet ws k
   -- the sizes fit
   pub small : (r .m ≤ mostSlots) × (r .c ≤ mostColours) × (r .n ≤ mostSites)
   small =
-      let s : Sound (sheetIn ws) = sound ws (t .1) in
-      (
+      let s : Sound (sheetIn ws) = sound ws (t .1) in (
         omega (arith, s .few-slots, ap (λ (z : Sizes). z .m) q),
         omega (arith, s .few-colours, ap (λ (z : Sizes). z .c) q),
         omega (arith, s .few-sites, ap (λ (z : Sizes). z .n) q),
