@@ -34,7 +34,7 @@ pub fn dozen() -> Vec<Named> {
         fewest(banded("fewest", 5, 6, &[FREE, FREE])),
         banded("shortest", 6, 8, &[2, FREE, FREE]),
         banded("two-sided", 7, 8, &[FREE, FREE]),
-        example("rounding", include_str!("../../../examples/rounding.txt")),
+        example("eight sites", include_str!("eight_sites.txt")),
         fewest(banded("fewest", 10, 12, &[3, 1, FREE])),
         example("gearbox, two-sided", include_str!("../../../examples/gearbox.txt")),
         banded("shortest", 16, 24, &[7, FREE, FREE, FREE]),

@@ -4,5 +4,6 @@ mod command;
 mod corpus;
 mod engines;
 mod kept;
+mod rounding;
 mod shrink;
 mod why;
