@@ -36,32 +36,32 @@ impl Source {
 
     /// All bytes of it.
     pub fn bytes(&self) -> Result<Vec<u8>, Failure> {
+        self.bytes_up_to(u64::MAX)
+    }
+
+    /// So many bytes of it, or all.
+    fn bytes_up_to(&self, most: u64) -> Result<Vec<u8>, Failure> {
+        let mut bytes = Vec::new();
         let read = match self {
             Source::Standard if is_input_closed() => return Err(Failure::about(self, &"it is closed")),
-            Source::Standard => all_of(std::io::stdin()),
-            Source::File(path) => std::fs::File::open(path).and_then(all_of),
+            Source::Standard => std::io::stdin().take(most).read_to_end(&mut bytes),
+            Source::File(path) => std::fs::File::open(path).and_then(|file| file.take(most).read_to_end(&mut bytes)),
         };
-        let bytes = read.map_err(|error| Failure::about(self, &error))?;
-        if bytes.len() as u64 > MOST_BYTES {
-            return Err(Failure::about(self, &format!("it is longer than {MOST_BYTES} bytes, so it is no sheet")));
-        }
-        Ok(bytes)
+        read.map(|_| bytes).map_err(|error| Failure::about(self, &error))
     }
 
     /// The sheet that it holds, in whichever form.
     pub fn record(&self) -> Result<Record, Failure> {
-        sheet::read(&self.bytes()?).map_err(|error| Failure::about(self, &error))
+        let bytes = self.bytes_up_to(MOST_BYTES + 1)?;
+        if bytes.len() as u64 > MOST_BYTES {
+            return Err(Failure::about(self, &format!("it is longer than {MOST_BYTES} bytes, so it is no sheet")));
+        }
+        sheet::read(&bytes).map_err(|error| Failure::about(self, &error))
     }
 }
 
 /// The largest sheet has 89 words; remarks and names may be long. What never ends is not read to its end.
 const MOST_BYTES: u64 = 1 << 24;
-
-fn all_of(from: impl Read) -> std::io::Result<Vec<u8>> {
-    let mut bytes = Vec::new();
-    from.take(MOST_BYTES + 1).read_to_end(&mut bytes)?;
-    Ok(bytes)
-}
 
 /// The names of files in a folder that are taken for sheets.
 pub const SHEET_ENDINGS: [&str; 4] = ["txt", "words", "bin", "json"];

@@ -2,6 +2,7 @@
 
 use crate::exit::Failure;
 use crate::streams::is_output_closed;
+use std::fs::Permissions;
 use std::io::{BufWriter, Stdout, Write};
 use std::path::{Path, PathBuf};
 
@@ -41,17 +42,20 @@ pub fn write_file(path: &Path, bytes: &[u8]) -> Result<(), Failure> {
     let written = match std::fs::metadata(path) {
         // A device or a pipe has no place to be taken.
         Ok(known) if !known.is_file() => std::fs::write(path, bytes),
-        Ok(_) => path.canonicalize().and_then(|path| replace(&path, bytes)),
-        Err(_) => replace(path, bytes),
+        Ok(known) => path.canonicalize().and_then(|path| replace(&path, bytes, Some(known.permissions()))),
+        Err(_) => replace(path, bytes, None),
     };
     written.map_err(|error| Failure::about(&path.display(), &error))
 }
 
-fn replace(path: &Path, bytes: &[u8]) -> std::io::Result<()> {
+/// The new file has the permissions of the one whose place it takes.
+fn replace(path: &Path, bytes: &[u8], permissions: Option<Permissions>) -> std::io::Result<()> {
     let mut name = path.as_os_str().to_owned();
     name.push(format!(".{}.part", std::process::id()));
     let part = PathBuf::from(name);
-    let done = std::fs::write(&part, bytes).and_then(|()| std::fs::rename(&part, path));
+    let permit = || permissions.map_or(Ok(()), |permissions| std::fs::set_permissions(&part, permissions));
+    let written = std::fs::write(&part, bytes).and_then(|()| permit());
+    let done = written.and_then(|()| std::fs::rename(&part, path));
     if done.is_err() {
         // What could be written of it is of no use.
         let _ = std::fs::remove_file(&part);

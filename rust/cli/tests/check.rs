@@ -73,6 +73,9 @@ fn every_finding_on_sheet_a() {
     for (stored, code, line) in cases {
         assert_eq!(check(&stored), (Some(code), line.to_string()), "{stored}");
     }
+    let strict = |stored: String| run(["check", "--strict", "-"], stored.as_bytes()).code;
+    assert_eq!(strict(stored_a(2, 19, [2, 2, 0])), Some(1), "an equal");
+    assert_eq!(strict(stored_a(2, 19, [0, 0, 2])), Some(0), "the best");
     let shortest = stored_a(2, 19, [0, 0, 2]).replace("fewest", "shortest");
     let line = "not best: 1 label fewer, 1 unit (0.125 points, 0.044 mm) longer; best: labels 3 length 18";
     assert_eq!(check(&shortest), (Some(1), line.to_string()));

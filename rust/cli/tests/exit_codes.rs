@@ -177,8 +177,13 @@ fn output_that_cannot_be_written_leaves_what_was_there() {
     let old = folder.file("old.svg", "old");
     let refused = run(["draw", "-", "-o", &old], b"slot 5\n");
     assert_eq!((refused.code, std::fs::read_to_string(&old).unwrap()), (Some(1), "old".to_string()));
+    use std::os::unix::fs::PermissionsExt;
+    std::fs::set_permissions(&old, std::fs::Permissions::from_mode(0o640)).unwrap();
     let drawn = run(["draw", "-", "-o", &old], SHEET_A.as_bytes());
     assert_eq!((drawn.code, drawn.out.len()), (Some(0), 0));
+    assert_eq!(std::fs::metadata(&old).unwrap().permissions().mode() & 0o777, 0o640);
+    let shown = run(["draw", "-", "-o", "-"], SHEET_A.as_bytes());
+    assert_eq!((shown.code, shown.text()), (Some(0), std::fs::read_to_string(&old).unwrap()));
     assert!(std::fs::read_to_string(&old).unwrap().starts_with("<svg "));
     assert_eq!(std::fs::read_dir(&folder.0).unwrap().count(), 1, "no part is left behind");
     let report = run(["check", "-", "--report", &(old + "/report")], SHEET_A.as_bytes());

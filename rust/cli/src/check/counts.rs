@@ -82,6 +82,11 @@ impl Counts {
         self.whole.faults()
     }
 
+    /// Sheets with the best count and length, but not the first in the order.
+    pub fn equals(&self) -> u64 {
+        self.by_name().filter(|(name, _)| *name == "equal").map(|(_, count)| count).sum()
+    }
+
     pub fn unreadable(&self) -> u64 {
         self.whole.counts[FINDINGS - 1]
     }

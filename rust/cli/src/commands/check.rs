@@ -48,12 +48,13 @@ file is taken; `backbone merge` makes one report of the shares' tsv reports.",
         },
         Setting { name: "--engine", value: "COMMAND", about: "check the layouts that this engine gives for the sheets" },
         engine::FORM,
+        Setting { name: "--strict", value: "", about: "an equal is a finding too: exit code 1" },
         Setting { name: "--by-depth", value: "", about: "count the findings by the depth of the best layout too" },
         shard::SETTING,
         Setting { name: "--jobs", value: "N", about: "threads, each with a work area of its own; 1 where not given" },
     ],
     exits: &[
-        (Exit::Done, "every sheet is best, equal or truly without a layout"),
+        (Exit::Done, "every sheet is best, equal (unless --strict) or truly without a layout"),
         (Exit::Found, "findings: some sheet is not best, unlawful, refused, unanswered, or falsely said to have no layout"),
     ],
     run,
@@ -89,5 +90,6 @@ fn run(arguments: &Arguments, output: &mut Output) -> Result<Exit, Failure> {
     told?;
     format.end(&counts, output)?;
     report.map_or(Ok(()), |report| report.finish(&counts))?;
-    Ok(counts.exit())
+    let is_strict = arguments.has("--strict");
+    Ok(if is_strict && counts.exit() == Exit::Done && counts.equals() > 0 { Exit::Found } else { counts.exit() })
 }

@@ -21,7 +21,11 @@ pub const SUBCOMMAND: Subcommand = Subcommand {
            The picture is true to scale: its size is in millimetres, and it says how many times as large as on paper \
            the sheet is drawn.",
     settings: &[
-        Setting { name: "-o", value: "OUT.svg", about: "write the picture to this file, not to standard output" },
+        Setting {
+            name: "-o",
+            value: "OUT.svg",
+            about: "write the picture to this file, not to standard output; - is standard output",
+        },
         Setting { name: "--background", value: "SVG", about: "draw this SVG picture below it, in the sheet's units" },
         Setting { name: "--compare", value: "FILE", about: "beside it another layout of the same sheet" },
         Setting { name: "--rounded", value: "", about: "beside it the layout that lengths rounded at each cut give" },
@@ -61,8 +65,8 @@ fn run(arguments: &Arguments, output: &mut Output) -> Result<Exit, Failure> {
         return draw_all(arguments, &folder);
     }
     match (picture(arguments), arguments.path("-o")) {
-        (Ok(svg), Some(path)) => write_file(&path, svg.as_bytes())?,
-        (Ok(svg), None) => output.text(&svg)?,
+        (Ok(svg), Some(path)) if path != Path::new("-") => write_file(&path, svg.as_bytes())?,
+        (Ok(svg), _) => output.text(&svg)?,
         (Err(NoPicture::Failed(failure)), _) => return Err(failure),
         (Err(NoPicture::Found(problem)), _) => {
             message(&problem);
