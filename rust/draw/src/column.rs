@@ -7,7 +7,7 @@ use crate::paint::{paint, text_on, DARK, RED};
 use crate::plan::Plan;
 use crate::scale::Scale;
 use crate::spread::spread;
-use crate::text::{shortened, width, Anchor, Text};
+use crate::text::{shortened, width, Anchor, Style};
 use backbone::{Fault, Label};
 use sheet::Names;
 use std::fmt::Write;
@@ -17,7 +17,8 @@ pub const SPACING: f64 = 20.0;
 /// From the drawing's edge to the boxes, and at most so much more where boxes are moved far.
 const LEADER: f64 = 34.0;
 const MORE_LEADER: f64 = 40.0;
-const SIZE: f64 = 11.0;
+const NAME: Style = Style { size: 11.0, anchor: Anchor::Middle, is_bold: true, fill: DARK };
+const LENGTH: Style = Style { anchor: Anchor::Start, is_bold: false, ..NAME };
 const MOST_NAME: f64 = 120.0;
 const PADDING: f64 = 7.0;
 
@@ -35,11 +36,11 @@ pub struct Column {
 impl Column {
     /// `more` is what sites' numbers take right of the drawing.
     pub fn of(plan: &Plan, names: &Names, scale: &Scale, more: f64) -> Column {
-        let name = |label: &Label| shortened(&colour_name(names, label.colour), SIZE, true, MOST_NAME);
+        let name = |label: &Label| shortened(&colour_name(names, label.colour), NAME.size, true, MOST_NAME);
         let names: Vec<String> = plan.labels.iter().map(name).collect();
         let length = |label: &Label| format!("slot {}, length {}", label.slot, label.length);
         let lengths = plan.labels.iter().map(length).collect();
-        let widest = names.iter().map(|name| width(name, SIZE, true)).fold(0.0, f64::max);
+        let widest = names.iter().map(|name| width(name, NAME.size, true)).fold(0.0, f64::max);
         let wanted: Vec<f64> = plan.labels.iter().map(|label| f64::from(label.height) * scale.unit_down()).collect();
         let middles = spread(&wanted, SPACING, 0.0);
         let farthest = wanted.iter().zip(&middles).map(|(want, middle)| (want - middle).abs()).fold(0.0, f64::max);
@@ -49,7 +50,7 @@ impl Column {
 
     /// The pixels that it takes from the drawing's right edge on.
     pub fn width(&self) -> f64 {
-        let widest = self.lengths.iter().map(|length| width(length, SIZE, false)).fold(0.0, f64::max);
+        let widest = self.lengths.iter().map(|length| width(length, LENGTH.size, false)).fold(0.0, f64::max);
         self.offset + self.box_width + PADDING + widest
     }
 
@@ -59,23 +60,17 @@ impl Column {
     }
 
     pub fn svg(&self, plan: &Plan, frame: &Frame) -> String {
-        let mut svg = String::new();
         let left = frame.right + self.offset;
+        let (mut boxes, mut names, mut lengths) = (String::new(), String::new(), String::new());
         for (index, label) in plan.labels.iter().enumerate() {
             let middle = frame.top + self.middles[index];
-            svg.push_str(&self.leader(frame, label, middle));
-            svg.push_str(&self.one(index, label.colour, left, middle));
-            if is_above_bound(plan, label.slot) {
-                svg.push_str(&rectangle(
-                    left - 3.0,
-                    middle,
-                    self.box_width + 6.0,
-                    6.0,
-                    &format!("fill=\"none\" stroke=\"{RED}\" stroke-width=\"2\""),
-                ));
-            }
+            let (name, line) = (Style { fill: text_on(label.colour), ..NAME }, middle + 4.0);
+            boxes += &self.leader(frame, label, middle);
+            boxes += &self.one_box(plan, label, left, middle);
+            names += &name.text(&NAME, &self.names[index], left + self.box_width / 2.0, line);
+            lengths += &LENGTH.text(&LENGTH, &self.lengths[index], left + self.box_width + PADDING, line);
         }
-        svg
+        boxes + &NAME.group(&names) + &LENGTH.group(&lengths)
     }
 
     fn leader(&self, frame: &Frame, label: &Label, middle: f64) -> String {
@@ -90,15 +85,15 @@ impl Column {
         )
     }
 
-    fn one(&self, index: usize, colour: usize, left: f64, middle: f64) -> String {
-        let fill = format!("fill=\"{}\"", paint(colour));
-        let text = |words, x, anchor, is_bold, fill| {
-            Text { words, x, y: middle + 4.0, size: SIZE, anchor, is_bold, fill }.svg()
-        };
-        let right = left + self.box_width;
-        rectangle(left, middle, self.box_width, 0.0, &fill)
-            + &text(&self.names[index], left + self.box_width / 2.0, Anchor::Middle, true, text_on(colour))
-            + &text(&self.lengths[index], right + PADDING, Anchor::Start, false, DARK)
+    /// A label's box; where there are more labels of its colour than may be, with a red line around it.
+    fn one_box(&self, plan: &Plan, label: &Label, left: f64, middle: f64) -> String {
+        let fill = format!("fill=\"{}\"", paint(label.colour));
+        let mut svg = rectangle(left, middle, self.box_width, 0.0, &fill);
+        if is_above_bound(plan, label.slot) {
+            let look = format!("fill=\"none\" stroke=\"{RED}\" stroke-width=\"2\"");
+            svg += &rectangle(left - 3.0, middle, self.box_width + 6.0, 6.0, &look);
+        }
+        svg
     }
 }
 

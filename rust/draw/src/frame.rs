@@ -1,15 +1,16 @@
 //! The drawing's frame: where a sheet's units fall on the page.
 
 use crate::background::Background;
-use crate::number;
+use crate::balloons::MARGIN;
 use crate::paint::{FAINT, GREY};
 use crate::scale::Scale;
-use crate::text::{Anchor, Text};
+use crate::text::{Anchor, Style};
+use crate::{number, precise, trimmed};
 use backbone::Label;
 use std::fmt::Write;
 
 const TICK: f64 = 5.0;
-const SLOT_SIZE: f64 = 9.0;
+const SLOT: Style = Style { size: 9.0, anchor: Anchor::End, is_bold: false, fill: GREY };
 const SLOT_SPACING: f64 = 10.0;
 
 /// A drawing's place on the page. Its left edge is x 0, its right edge the width, its upper edge height 0.
@@ -34,11 +35,12 @@ impl Frame {
     /// What is given in the sheet's units, put in its place.
     pub fn in_units(&self, attributes: &str, inside: &str) -> String {
         let (across, down) = (self.scale.unit_across(), self.scale.unit_down());
-        let times = if across == down { format!("{across:.6}") } else { format!("{across:.6} {down:.6}") };
+        let exact = |times: f64| trimmed(&format!("{times:.6}"));
+        let times = if across == down { exact(across) } else { exact(across) + " " + &exact(down) };
         format!(
             "<g transform=\"translate({} {}) scale({times})\"{attributes}>\n{}\n</g>\n",
-            number(self.left),
-            number(self.top),
+            precise(self.left),
+            precise(self.top),
             inside.trim_end()
         )
     }
@@ -80,21 +82,10 @@ impl Frame {
     }
 
     fn slot_numbers(&self, heights: &[u32], labels: &[Label]) -> String {
-        let mut svg = String::new();
-        for slot in numbered(heights, labels, |height| self.y(height)) {
-            let words = slot.to_string();
-            let text = Text {
-                words: &words,
-                x: self.left - crate::balloons::MARGIN - 1.0,
-                y: self.y(heights[slot]) + 0.35 * SLOT_SIZE,
-                size: SLOT_SIZE,
-                anchor: Anchor::End,
-                is_bold: false,
-                fill: GREY,
-            };
-            svg.push_str(&text.svg());
-        }
-        svg
+        let x = self.left - MARGIN - 1.0;
+        let shown = numbered(heights, labels, |height| self.y(height));
+        let one = |slot: usize| SLOT.text(&SLOT, &slot.to_string(), x, self.y(heights[slot]) + 0.35 * SLOT.size);
+        SLOT.group(&shown.into_iter().map(one).collect::<String>())
     }
 }
 

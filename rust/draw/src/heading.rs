@@ -4,39 +4,31 @@ use crate::page::Panel;
 use crate::paint::{DARK, GREY, RED};
 use crate::plan::Plan;
 use crate::scale::millimetres;
-use crate::text::{wrapped, Anchor, Text};
+use crate::text::{wrapped, Anchor, Style};
 use backbone::{Aim, Side};
 
-const TITLE_SIZE: f64 = 15.0;
-const LINE_SIZE: f64 = 12.0;
+const LINE: Style = Style { size: 12.0, anchor: Anchor::Start, is_bold: false, fill: DARK };
+const TITLE: Style = Style { size: 15.0, is_bold: true, ..LINE };
 const LINE_HEIGHT: f64 = 17.0;
 /// Where the first line stands.
 const FIRST: f64 = 22.0;
 /// So many places of a broken rule are told; the drawing shows all.
 const MOST_FAULTS: usize = 4;
 
-/// A line with its size and colour.
-struct Line {
-    words: String,
-    is_title: bool,
-    fill: &'static str,
-}
-
-pub struct Heading(Vec<Line>);
+pub struct Heading(Vec<(String, Style)>);
 
 impl Heading {
     pub fn of(panel: &Panel, room: f64) -> Heading {
         let mut lines = Vec::new();
-        let mut add = |words: &str, is_title: bool, fill: &'static str| {
-            let size = if is_title { TITLE_SIZE } else { LINE_SIZE };
-            let wrapped = wrapped(words, size, is_title, room);
-            lines.extend(wrapped.into_iter().map(|words| Line { words, is_title, fill }));
+        let mut add = |words: &str, style: Style| {
+            let wrapped = wrapped(words, style.size, style.is_bold, room);
+            lines.extend(wrapped.into_iter().map(|words| (words, style)));
         };
         let is_wrong = panel.plan.layout.is_none() || panel.plan.broken.is_some();
-        add(&title(panel), true, if is_wrong { RED } else { DARK });
-        add(&facts(panel.plan), false, GREY);
-        panel.remarks.iter().for_each(|remark| add(remark, false, DARK));
-        verdict(panel.plan).iter().for_each(|line| add(line, false, RED));
+        add(&title(panel), if is_wrong { Style { fill: RED, ..TITLE } } else { TITLE });
+        add(&facts(panel.plan), Style { fill: GREY, ..LINE });
+        panel.remarks.iter().for_each(|remark| add(remark, LINE));
+        verdict(panel.plan).iter().for_each(|line| add(line, Style { fill: RED, ..LINE }));
         Heading(lines)
     }
 
@@ -45,20 +37,11 @@ impl Heading {
     }
 
     pub fn svg(&self, x: f64) -> String {
-        let mut svg = String::new();
-        for (index, line) in self.0.iter().enumerate() {
-            let text = Text {
-                words: &line.words,
-                x,
-                y: FIRST + (LINE_HEIGHT + 0.5) * index as f64,
-                size: if line.is_title { TITLE_SIZE } else { LINE_SIZE },
-                anchor: Anchor::Start,
-                is_bold: line.is_title,
-                fill: line.fill,
-            };
-            svg.push_str(&text.svg());
-        }
-        svg
+        let lines = self.0.iter().enumerate();
+        let texts: String = lines
+            .map(|(index, (words, style))| style.text(&LINE, words, x, FIRST + (LINE_HEIGHT + 0.5) * index as f64))
+            .collect();
+        LINE.group(&texts)
     }
 }
 

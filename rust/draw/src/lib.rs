@@ -101,9 +101,18 @@ fn differing(one: Option<&Layout>, other: Option<&Layout>) -> Vec<usize> {
     }
 }
 
-/// A coordinate with at most two decimal places.
+/// A coordinate in pixels with one decimal place, which is all that can be seen.
 fn number(coordinate: f64) -> String {
-    let digits = format!("{coordinate:.2}");
+    trimmed(&format!("{coordinate:.1}"))
+}
+
+/// A number with four decimal places, for what others are measured by.
+fn precise(number: f64) -> String {
+    trimmed(&format!("{number:.4}"))
+}
+
+/// Digits without zeros at the end.
+fn trimmed(digits: &str) -> String {
     let short = digits.trim_end_matches('0').trim_end_matches('.');
     if short == "-0" { "0" } else { short }.to_string()
 }

@@ -6,12 +6,13 @@ use crate::frame::Frame;
 use crate::number;
 use crate::paint::{paint, site_shape, text_in_site, HIGHLIGHT, RED};
 use crate::plan::Plan;
-use crate::text::{escape, Anchor, Text};
+use crate::text::{escape, Anchor, Style};
 use backbone::Fault;
 use sheet::Names;
 use std::fmt::Write;
 
-const SIZE: f64 = 9.0;
+/// A site's number; most stand on dark shapes.
+const NUMBER: Style = Style { size: 9.0, anchor: Anchor::Middle, is_bold: true, fill: "#ffffff" };
 const RING: f64 = 10.5;
 
 /// The sites, each with its number and what a reader who points at it is told.
@@ -20,25 +21,19 @@ pub fn sites(plan: &Plan, frame: &Frame, balloons: &[Balloon], names: &Names) ->
     for (site, balloon) in balloons.iter().enumerate().filter(|(_, balloon)| balloon.is_moved()) {
         svg.push_str(&thin_line(balloon, frame, paint(plan.sheet.sites()[site].colour)));
     }
+    let mut numbers = String::new();
     for (number, balloon) in balloons.iter().enumerate() {
         let site = plan.sheet.sites()[number];
         let centre = (frame.left + balloon.centre.0, frame.top + balloon.centre.1);
         let name = names.site(number).map(|name| format!(" {name}")).unwrap_or_default();
         let told = format!("site {number}{name}: {}, x {}, y {}", colour_name(names, site.colour), site.x, site.y);
-        let _ = write!(svg, "<g class=\"site\"><title>{}</title>", escape(&told));
-        svg.push_str(site_shape(site.colour, centre, RADIUS).trim_end());
-        let text = Text {
-            words: &number.to_string(),
-            x: centre.0,
-            y: centre.1 + 0.355 * SIZE,
-            size: SIZE,
-            anchor: Anchor::Middle,
-            is_bold: true,
-            fill: text_in_site(site.colour),
-        };
-        let _ = writeln!(svg, "{}</g>", text.svg().trim_end());
+        let _ = write!(numbers, "<g class=\"site\"><title>{}</title>", escape(&told));
+        numbers.push_str(site_shape(site.colour, centre, RADIUS).trim_end());
+        let style = Style { fill: text_in_site(site.colour), ..NUMBER };
+        let text = style.text(&NUMBER, &number.to_string(), centre.0, centre.1 + 0.355 * NUMBER.size);
+        let _ = writeln!(numbers, "{}</g>", text.trim_end());
     }
-    svg
+    svg + &NUMBER.group(&numbers)
 }
 
 /// From a site to its number, where that stands elsewhere.
@@ -53,8 +48,8 @@ fn thin_line(balloon: &Balloon, frame: &Frame, stroke: &str) -> String {
 
 /// A ring around the number of each marked site.
 pub fn rings(frame: &Frame, balloons: &[Balloon], marked: &[usize]) -> String {
-    let of_site = |site: &usize| balloons.get(*site).map(|balloon| ring(frame, balloon, HIGHLIGHT, 4.0));
-    marked.iter().filter_map(of_site).collect()
+    let marked = marked.iter().filter_map(|site| balloons.get(*site));
+    marked.map(|balloon| ring(frame, balloon, HIGHLIGHT, 4.0)).collect()
 }
 
 fn ring(frame: &Frame, balloon: &Balloon, stroke: &str, width: f64) -> String {

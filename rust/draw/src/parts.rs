@@ -1,16 +1,20 @@
 //! Below the drawing: the scale bar, and the colours with their bounds and the names of their sites.
 
 use crate::column::colour_name;
-use crate::number;
 use crate::paint::{site_shape, DARK, GREY};
-use crate::scale::{short, Scale};
-use crate::text::{shortened, width, Anchor, Text};
+use crate::scale::Scale;
+use crate::text::{shortened, width, Anchor, Style};
+use crate::{number, precise};
 use backbone::Sheet;
 use sheet::Names;
 
-const SIZE: f64 = 11.0;
+const LINE: Style = Style { size: 11.0, anchor: Anchor::Start, is_bold: false, fill: DARK };
+const HEADING: Style = Style { is_bold: true, ..LINE };
+const NUMBER: Style = Style { anchor: Anchor::End, fill: GREY, ..LINE };
 const LINE_HEIGHT: f64 = 15.0;
 const SWATCH: f64 = 14.0;
+/// From the bar to its words.
+const BAR_END: f64 = 8.0;
 const BETWEEN: f64 = 22.0;
 const MOST_WIDTH: f64 = 220.0;
 /// The numbers of sites end here.
@@ -18,22 +22,23 @@ const NUMBER_END: f64 = 12.0;
 
 /// A bar of a round number of millimetres, and the scale in words.
 pub fn scale_bar(scale: &Scale, x: f64, y: f64) -> String {
-    let (millimetres, pixels) = scale.bar();
-    let words = format!("{} mm, {}", short(millimetres), scale.words());
+    let (_, pixels) = scale.bar();
     let bar = format!(
         "<path class=\"bar\" d=\"M{0} {1}v8m0 -4h{2}m0 -4v8\" fill=\"none\" stroke=\"{DARK}\" stroke-width=\"1.4\"/>\n",
         number(x),
         number(y - 8.0),
-        number(pixels)
+        precise(pixels)
     );
-    bar + &Text { words: &words, x: x + pixels + 8.0, y, size: SIZE, anchor: Anchor::Start, is_bold: false, fill: DARK }
-        .svg()
+    bar + &LINE.group(&LINE.text(&LINE, &bar_words(scale), x + pixels + BAR_END, y))
+}
+
+fn bar_words(scale: &Scale) -> String {
+    format!("{} mm, {}", precise(scale.bar().0), scale.words())
 }
 
 /// What a picture's scale bar takes across.
 pub fn bar_width(scale: &Scale) -> f64 {
-    let (millimetres, pixels) = scale.bar();
-    pixels + 8.0 + width(&format!("{} mm, {}", short(millimetres), scale.words()), SIZE, false)
+    scale.bar().1 + BAR_END + width(&bar_words(scale), LINE.size, false)
 }
 
 /// A colour with the names of its sites, one a line.
@@ -52,17 +57,18 @@ impl Block {
             Some(1) => ", at most 1 label".to_string(),
             Some(bound) => format!(", at most {bound} labels"),
         };
-        let room = MOST_WIDTH - width(&bound, SIZE, true);
-        let heading = shortened(&colour_name(names, colour), SIZE, true, room) + &bound;
+        let room = MOST_WIDTH - width(&bound, LINE.size, true);
+        let heading = shortened(&colour_name(names, colour), LINE.size, true, room) + &bound;
         let own = (0..sheet.sites().len()).filter(|site| sheet.sites()[*site].colour == colour);
         let named = own.filter_map(|site| names.site(site).map(|name| (site, name)));
-        let sites = named.map(|(site, name)| (site.to_string(), shortened(name, SIZE, false, MOST_WIDTH))).collect();
+        let sites =
+            named.map(|(site, name)| (site.to_string(), shortened(name, LINE.size, false, MOST_WIDTH))).collect();
         Block { colour, heading, sites }
     }
 
     fn width(&self) -> f64 {
-        let names = self.sites.iter().map(|(_, name)| width(name, SIZE, false));
-        SWATCH + 4.0 + names.fold(width(&self.heading, SIZE, true), f64::max)
+        let names = self.sites.iter().map(|(_, name)| width(name, LINE.size, false));
+        SWATCH + 4.0 + names.fold(width(&self.heading, LINE.size, true), f64::max)
     }
 
     fn height(&self) -> f64 {
@@ -70,16 +76,13 @@ impl Block {
     }
 
     fn svg(&self, x: f64, y: f64) -> String {
-        let line = |words, x, index: usize, anchor, is_bold, fill| {
-            let y = y + LINE_HEIGHT * index as f64;
-            Text { words, x, y, size: SIZE, anchor, is_bold, fill }.svg()
-        };
         let left = x + SWATCH + 4.0;
         let mut svg = site_shape(self.colour, (x + SWATCH / 2.0, y - 4.0), 5.0);
-        svg.push_str(&line(&self.heading, left, 0, Anchor::Start, true, DARK));
+        svg.push_str(&HEADING.text(&LINE, &self.heading, left, y));
         for (index, (number, name)) in self.sites.iter().enumerate() {
-            svg.push_str(&line(number, x + NUMBER_END, index + 1, Anchor::End, false, GREY));
-            svg.push_str(&line(name, left, index + 1, Anchor::Start, false, DARK));
+            let y = y + LINE_HEIGHT * (index + 1) as f64;
+            svg.push_str(&NUMBER.text(&LINE, number, x + NUMBER_END, y));
+            svg.push_str(&LINE.text(&LINE, name, left, y));
         }
         svg
     }
@@ -116,6 +119,6 @@ impl Parts {
 
     /// The first line stands at this height.
     pub fn svg(&self, left: f64, first: f64) -> String {
-        self.0.iter().map(|(block, x, y)| block.svg(left + x, first + y)).collect()
+        LINE.group(&self.0.iter().map(|(block, x, y)| block.svg(left + x, first + y)).collect::<String>())
     }
 }

@@ -1,5 +1,6 @@
 //! How large a sheet is drawn. One scale holds for x and y unless the heights are to be stretched.
 
+use crate::precise;
 use backbone::Sheet;
 
 /// A pixel of a picture is a 96th of an inch, as in every browser.
@@ -91,16 +92,10 @@ fn round_below(number: f64) -> f64 {
 /// `2.5 : 1`, `1 : 4`.
 fn ratio(times: f64) -> String {
     if times >= 1.0 {
-        format!("{} : 1", short(times))
+        format!("{} : 1", precise(times))
     } else {
-        format!("1 : {}", short(1.0 / times))
+        format!("1 : {}", precise(1.0 / times))
     }
-}
-
-/// A number of at most three decimal places, without zeros at its end.
-pub fn short(number: f64) -> String {
-    let digits = format!("{number:.3}");
-    digits.trim_end_matches('0').trim_end_matches('.').to_string()
 }
 
 /// A length in millimetres, rounded to what can be seen.

@@ -4,7 +4,7 @@ use crate::frame::Frame;
 use crate::paint::{paint, HIGHLIGHT};
 use crate::plan::Plan;
 use crate::text::escape;
-use crate::{listed_sites, number};
+use crate::{listed_sites, number, precise};
 use backbone::Label;
 use sheet::Names;
 use std::fmt::Write;
@@ -12,7 +12,7 @@ use std::fmt::Write;
 const BACKBONE: f64 = 2.6;
 const DROP: f64 = 1.6;
 const HIGHLIGHTED: f64 = 7.0;
-const DOT: f64 = 2.6;
+const DOT: f64 = 5.2;
 
 /// All strokes of a layout. A level stroke is as thick as the scale down makes it, an upright one as that across.
 pub fn strokes(plan: &Plan, frame: &Frame, names: &Names, marked: &[usize]) -> String {
@@ -27,8 +27,7 @@ pub fn strokes(plan: &Plan, frame: &Frame, names: &Names, marked: &[usize]) -> S
 }
 
 fn thickness(pixels: f64, unit: f64) -> String {
-    let digits = format!("{:.4}", pixels / unit);
-    digits.trim_end_matches('0').trim_end_matches('.').to_string()
+    precise(pixels / unit)
 }
 
 /// What a reader who points at a label is told.
@@ -78,15 +77,14 @@ fn highlights(plan: &Plan, frame: &Frame, marked: &[usize]) -> String {
     format!("<path class=\"differs\" d=\"{paths}\" stroke=\"{HIGHLIGHT}\" stroke-width=\"{thick}\"/>\n")
 }
 
-/// A dot where a drop meets its backbone.
+/// A dot where a drop meets its backbone: the round ends of a line of no length.
 fn dots(plan: &Plan, frame: &Frame) -> String {
     let mut svg = String::new();
     for label in &plan.labels {
-        let y = number(frame.y(label.height));
-        for site in label.sites.iter().map(|site| plan.sheet.sites()[*site]) {
-            let (x, fill) = (number(frame.x(site.x)), paint(label.colour));
-            let _ = writeln!(svg, "<circle cx=\"{x}\" cy=\"{y}\" r=\"{DOT}\" fill=\"{fill}\"/>");
-        }
+        let (y, stroke) = (number(frame.y(label.height)), paint(label.colour));
+        let x = |site: &usize| number(frame.x(plan.sheet.sites()[*site].x));
+        let points: String = label.sites.iter().map(|site| format!("M{} {y}h0", x(site))).collect();
+        let _ = writeln!(svg, "<path d=\"{points}\" stroke=\"{stroke}\"/>");
     }
-    svg
+    format!("<g stroke-width=\"{DOT}\" stroke-linecap=\"round\">\n{svg}</g>\n")
 }

@@ -83,34 +83,64 @@ pub enum Anchor {
     End,
 }
 
-/// One line of text: its anchor on the line that the letters stand on.
-#[derive(Clone, Debug)]
-pub struct Text<'a> {
-    pub words: &'a str,
-    pub x: f64,
-    pub y: f64,
+impl Anchor {
+    fn name(self) -> &'static str {
+        match self {
+            Anchor::Start => "start",
+            Anchor::Middle => "middle",
+            Anchor::End => "end",
+        }
+    }
+}
+
+/// How a text looks.
+#[derive(Clone, Copy, Debug, PartialEq)]
+pub struct Style {
     pub size: f64,
     pub anchor: Anchor,
     pub is_bold: bool,
-    pub fill: &'a str,
+    pub fill: &'static str,
 }
 
-impl Text<'_> {
-    pub fn svg(&self) -> String {
-        let anchor = match self.anchor {
-            Anchor::Start => "",
-            Anchor::Middle => " text-anchor=\"middle\"",
-            Anchor::End => " text-anchor=\"end\"",
-        };
+/// What holds outside of all groups of texts. Its size and fill are no text's.
+const NO_STYLE: Style = Style { size: 0.0, anchor: Anchor::Start, is_bold: false, fill: "" };
+
+impl Style {
+    /// The attributes in which it differs from what holds around it.
+    fn attributes(&self, around: &Style) -> String {
+        let mut attributes = String::new();
+        if self.size != around.size {
+            attributes += &format!(" font-size=\"{}\"", number(self.size));
+        }
+        if self.anchor != around.anchor {
+            attributes += &format!(" text-anchor=\"{}\"", self.anchor.name());
+        }
+        if self.is_bold != around.is_bold {
+            attributes += &format!(" font-weight=\"{}\"", if self.is_bold { "bold" } else { "normal" });
+        }
+        if self.fill != around.fill {
+            attributes += &format!(" fill=\"{}\"", self.fill);
+        }
+        attributes
+    }
+
+    /// Texts that stand in a group have this style unless they say otherwise.
+    pub fn group(&self, texts: &str) -> String {
+        if texts.is_empty() {
+            return String::new();
+        }
+        format!("<g{}>\n{texts}</g>\n", self.attributes(&NO_STYLE))
+    }
+
+    /// A text in a group of another style, or of this one: its anchor is at x, on the line that the letters stand on.
+    pub fn text(&self, around: &Style, words: &str, x: f64, y: f64) -> String {
         format!(
-            "<text x=\"{}\" y=\"{}\" font-size=\"{}\" textLength=\"{}\" fill=\"{}\"{anchor}{}>{}</text>\n",
-            number(self.x),
-            number(self.y),
-            number(self.size),
-            number(width(self.words, self.size, self.is_bold)),
-            self.fill,
-            if self.is_bold { " font-weight=\"bold\"" } else { "" },
-            escape(self.words)
+            "<text x=\"{}\" y=\"{}\" textLength=\"{}\"{}>{}</text>\n",
+            number(x),
+            number(y),
+            number(width(words, self.size, self.is_bold)),
+            self.attributes(around),
+            escape(words)
         )
     }
 }

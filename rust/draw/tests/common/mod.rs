@@ -44,25 +44,35 @@ impl Element {
     }
 }
 
+/// What an element has from the groups around it unless it says otherwise.
+const INHERITED: [&str; 4] = ["font-size", "text-anchor", "font-weight", "fill"];
+
 /// The elements of a picture by their opening tags; tags must close in order.
 pub fn elements(picture: &str) -> Vec<Element> {
-    let (mut elements, mut open): (Vec<Element>, Vec<String>) = (Vec::new(), Vec::new());
+    let (mut elements, mut open): (Vec<Element>, Vec<Element>) = (Vec::new(), Vec::new());
     for part in picture.trim().strip_prefix('<').expect("a picture begins with a tag").split('<') {
         let (tag, inside) = part.split_once('>').expect("a tag ends");
         if let Some(closed) = tag.strip_prefix('/') {
-            assert_eq!(open.pop().as_deref(), Some(closed), "tags close in order");
+            assert_eq!(open.pop().map(|one| one.name).as_deref(), Some(closed), "tags close in order");
             continue;
         }
-        let (name, attributes) = tag.trim_end_matches('/').split_once(' ').unwrap_or((tag, ""));
+        let element = element(tag, inside, open.last());
         if !tag.ends_with('/') {
-            open.push(name.to_string());
+            open.push(element.clone());
         }
-        let attributes = attributes.split("\" ").filter_map(|one| one.trim_end_matches('"').split_once("=\""));
-        let attributes = attributes.map(|(name, value)| (name.trim().to_string(), value.to_string())).collect();
-        elements.push(Element { name: name.to_string(), attributes, inside: inside.to_string() });
+        elements.push(element);
     }
     assert!(open.is_empty(), "every tag is closed: {open:?}");
     elements
+}
+
+fn element(tag: &str, inside: &str, around: Option<&Element>) -> Element {
+    let (name, attributes) = tag.trim_end_matches('/').split_once(' ').unwrap_or((tag, ""));
+    let own = attributes.split("\" ").filter_map(|one| one.trim_end_matches('"').split_once("=\""));
+    let own = own.map(|(name, value)| (name.trim().to_string(), value.to_string()));
+    let around = around.into_iter().flat_map(|element| element.attributes.clone());
+    let inherited = around.filter(|(name, _)| INHERITED.contains(&name.as_str()));
+    Element { name: name.to_string(), attributes: inherited.chain(own).collect(), inside: inside.to_string() }
 }
 
 /// What a text covers: left, top, right and bottom. Its width is what it states, which a reader's font keeps to.
