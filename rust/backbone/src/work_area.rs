@@ -76,8 +76,14 @@ impl WorkArea {
 /// ends a program that uses it.
 const LARGE: usize = 1 << 28;
 
-/// The bytes of memory that are free, where the system says so.
+/// The bytes of memory that the program may take, where the system says so.
 fn available() -> Option<usize> {
+    let limit = std::fs::read_to_string("/sys/fs/cgroup/memory.max").ok().and_then(|text| text.trim().parse().ok());
+    Some(free()?.min(limit.unwrap_or(usize::MAX)))
+}
+
+/// The bytes of memory that are free.
+fn free() -> Option<usize> {
     let text = std::fs::read_to_string("/proc/meminfo").ok()?;
     let kilobytes = |name: &str| {
         let line = text.lines().find_map(|line| line.strip_prefix(name))?;

@@ -45,7 +45,10 @@ fn run(mut arguments: Vec<OsString>, output: &mut Output) -> Result<Exit, Failur
     }
     let name = arguments.remove(0);
     match name.to_str() {
-        Some("--help" | "-h" | "help") => output.text(&help::overview())?,
+        Some("--help" | "-h" | "help") => {
+            let of_one = arguments.first().and_then(|name| subcommand::find(name)).map(help::of);
+            output.text(&of_one.unwrap_or_else(help::overview))?;
+        }
         Some("--version" | "-V") => output.text(&help::version())?,
         Some("--man") => output.text(&help::man_page())?,
         _ => {

@@ -18,7 +18,9 @@ fn every_subcommand_has_help() {
         assert!(subcommands.contains(&name.to_string()), "{subcommands:?}");
     }
     for name in subcommands {
-        for arguments in [&[&name[..], "--help"][..], &[&name, "-h"], &[&name, "--no-such-option", "--help", "x"]] {
+        for arguments in
+            [&[&name[..], "--help"][..], &[&name, "-h"], &["help", &name], &[&name, "--no-such-option", "--help", "x"]]
+        {
             let run = run(arguments, b"");
             assert_eq!((run.code, &run.err[..]), (Some(0), ""), "{arguments:?}");
             assert!(run.text().starts_with(&format!("backbone {name}: ")), "{}", run.text());

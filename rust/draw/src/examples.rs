@@ -42,7 +42,8 @@ fn drawn(record: Record, background: Option<Background>, is_rounded: bool) -> Re
     let (sheet, layout) = sheet_and_layout(&record.words).map_err(|refusal| refusal.to_string())?;
     let options = Options { names: record.names, background, ..Options::default() };
     if is_rounded {
-        return rounded(&sheet, layout.as_ref(), Rounding::TenthMillimetre, &options).map_err(|error| error.to_string());
+        return rounded(&sheet, layout.as_ref(), Rounding::TenthMillimetre, &options)
+            .map_err(|error| error.to_string());
     }
     picture(&sheet, layout.as_ref(), &options).map_err(|refusal| refusal.to_string())
 }

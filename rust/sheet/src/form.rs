@@ -62,16 +62,16 @@ fn without_mark(bytes: &[u8]) -> &[u8] {
     bytes.strip_prefix(b"\xEF\xBB\xBF").unwrap_or(bytes)
 }
 
-/// UTF-16 by its byte order mark, or where every second byte is zero and the others are those of text.
+/// UTF-16 by its byte order mark; or where no even byte is zero and most odd ones are, or the other way round.
 fn other_encoding(bytes: &[u8]) -> Option<&'static str> {
-    let zeros = |first: usize| bytes.iter().skip(first).step_by(2).all(|byte| *byte == 0);
-    let text = |first: usize| {
-        let mut others = bytes.iter().skip(first).step_by(2);
-        others.all(|byte| byte.is_ascii_graphic() || byte.is_ascii_whitespace())
+    let every_second = |first: usize| bytes.iter().skip(first).step_by(2);
+    let is_wide = |zero: usize| {
+        let zeros = every_second(zero).filter(|byte| **byte == 0).count();
+        zeros * 4 > bytes.len() && every_second(1 - zero).all(|byte| *byte != 0)
     };
-    let is_wide = bytes.len() > 1 && bytes.len().is_multiple_of(2) && (zeros(0) && text(1) || zeros(1) && text(0));
     let is_marked = bytes.starts_with(b"\xFF\xFE") || bytes.starts_with(b"\xFE\xFF");
-    (is_wide || is_marked).then_some("UTF-16")
+    let is_even = bytes.len().is_multiple_of(2);
+    (is_marked || is_even && (is_wide(0) || is_wide(1))).then_some("UTF-16")
 }
 
 /// What bytes of any form hold.

@@ -120,6 +120,7 @@ fn encodings() {
     assert_eq!(words_of(&[b"\xEF\xBB\xBF", sheet_a.as_bytes()].concat()), words);
     assert_eq!(words_of(sheet_a.replace('\n', "\r\n").as_bytes()), words);
     let wide = Err("the text is UTF-16; UTF-8 is read".to_string());
+    let sheet_a = sheet_a.replace("slot 5", "slot 5 # 螺");
     let units = |mark: &str| format!("{mark}{sheet_a}").encode_utf16().collect::<Vec<u16>>();
     for mark in ["", "\u{FEFF}"] {
         assert_eq!(words_of(&units(mark).iter().flat_map(|unit| unit.to_le_bytes()).collect::<Vec<u8>>()), wide);
