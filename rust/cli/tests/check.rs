@@ -352,3 +352,34 @@ fn row_of_table(line: &str) -> (String, u64) {
     let (name, count) = line.rsplit_once(' ').unwrap();
     (name.trim().to_string(), count.parse().unwrap())
 }
+
+/// Files with bytes of any sort: each has its finding, in every format and on the page, and nothing panics.
+#[test]
+fn any_bytes_have_a_finding() {
+    const FILES: usize = 600;
+    let folder = Folder::new("any-bytes");
+    let mut random = Random::new(103);
+    for number in 0..FILES {
+        let record = engine(&mut random);
+        let form = random.pick(&[Form::Text, Form::Json, Form::Words, Form::Binary]);
+        let mut bytes = sheet::write(&record, form).unwrap_or_default();
+        for _ in 0..random.pick(&[0, 1, 1, 2, 40]) {
+            let place = random.below(bytes.len() as u32 + 1) as usize;
+            match random.below(3) {
+                0 => bytes.insert(place, random.below(256) as u8),
+                1 if place < bytes.len() => bytes[place] = random.below(256) as u8,
+                _ => bytes.truncate(place.max(bytes.len() / 2)),
+            }
+        }
+        folder.file(&format!("{number:03}.bin"), bytes);
+    }
+    let report = folder.path("report");
+    for format in ["text", "json", "tsv", "junit"] {
+        let run = run(["check", "--format", format, "--report", &report, folder.0.to_str().unwrap()], b"");
+        assert_eq!(run.code, Some(3), "{}", run.err);
+        let found = run.text().matches(".bin").count();
+        assert!(found >= FILES, "{format}: {found}");
+    }
+    let page = std::fs::read_to_string(report + "/index.html").unwrap();
+    assert_eq!(page.split("<tbody>").nth(1).unwrap().split("</tbody>").next().unwrap().matches("<tr").count(), FILES);
+}
