@@ -87,7 +87,7 @@ impl Column {
 
     /// A label's box; where there are more labels of its colour than may be, with a red line around it.
     fn one_box(&self, plan: &Plan, label: &Label, left: f64, middle: f64) -> String {
-        let fill = format!("fill=\"{}\"", paint(label.colour));
+        let fill = format!("class=\"label\" fill=\"{}\"", paint(label.colour));
         let mut svg = rectangle(left, middle, self.box_width, 0.0, &fill);
         if is_above_bound(plan, label.slot) {
             let look = format!("fill=\"none\" stroke=\"{RED}\" stroke-width=\"2\"");

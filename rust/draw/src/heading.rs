@@ -9,7 +9,7 @@ use backbone::{Aim, Side};
 
 const LINE: Style = Style { size: 12.0, anchor: Anchor::Start, is_bold: false, fill: DARK };
 const TITLE: Style = Style { size: 15.0, is_bold: true, ..LINE };
-const LINE_HEIGHT: f64 = 17.0;
+const LINE_HEIGHT: f64 = 17.5;
 /// Where the first line stands.
 const FIRST: f64 = 22.0;
 /// So many places of a broken rule are told; the drawing shows all.
@@ -39,7 +39,7 @@ impl Heading {
     pub fn svg(&self, x: f64) -> String {
         let lines = self.0.iter().enumerate();
         let texts: String = lines
-            .map(|(index, (words, style))| style.text(&LINE, words, x, FIRST + (LINE_HEIGHT + 0.5) * index as f64))
+            .map(|(index, (words, style))| style.text(&LINE, words, x, FIRST + LINE_HEIGHT * index as f64))
             .collect();
         LINE.group(&texts)
     }

@@ -1,5 +1,6 @@
 //! The sites with their numbers, and marks: at what is wrong, and at ties that differ.
 
+use crate::area::Area;
 use crate::balloons::{Balloon, RADIUS};
 use crate::column::colour_name;
 use crate::frame::Frame;
@@ -62,7 +63,7 @@ fn ring(frame: &Frame, balloon: &Balloon, stroke: &str, width: f64) -> String {
     )
 }
 
-/// The places at which the rule is broken, in red.
+/// The places at which the rule is broken, in red. Numbers are drawn over them.
 pub fn faults(plan: &Plan, frame: &Frame, balloons: &[Balloon]) -> String {
     plan.faults.iter().map(|fault| mark(fault, plan, frame, balloons)).collect()
 }
@@ -76,15 +77,21 @@ fn mark(fault: &Fault, plan: &Plan, frame: &Frame, balloons: &[Balloon]) -> Stri
             ring(frame, &balloons[*site], RED, 2.2) + &distance(x + 17.0, y, height(*slot))
         }
         Fault::CloseBackbones { upper, lower, .. } => distance(frame.right - 14.0, height(*upper), height(*lower)),
-        Fault::Crossing { x, slot, .. } => cross(frame.x(*x), height(*slot)),
+        Fault::Crossing { x, slot, .. } => cross(frame, balloons, frame.x(*x), height(*slot)),
         Fault::TooManyLabels { .. } | Fault::FalseNumbers { .. } => String::new(),
     }
 }
 
-fn cross(x: f64, y: f64) -> String {
-    let (left, top) = (number(x - 6.5), number(y - 6.5));
-    let bottom = number(y + 6.5);
-    format!("<path d=\"M{left} {top}l13 13M{left} {bottom}l13 -13\" stroke=\"{RED}\" stroke-width=\"2.6\"/>\n")
+/// A cross, larger where a site's number covers its middle.
+fn cross(frame: &Frame, balloons: &[Balloon], x: f64, y: f64) -> String {
+    let point = Area::around((x - frame.left, y - frame.top), 1.0);
+    let is_covered = balloons.iter().any(|balloon| balloon.area().overlaps(&point));
+    let arm = if is_covered { 12.0 } else { 6.5 };
+    let (left, top, bottom, across) = (number(x - arm), number(y - arm), number(y + arm), number(2.0 * arm));
+    format!(
+        "<path d=\"M{left} {top}l{across} {across}M{left} {bottom}l{across} -{across}\" stroke=\"{RED}\" \
+         stroke-width=\"2.6\"/>\n"
+    )
 }
 
 /// A distance that is too small.

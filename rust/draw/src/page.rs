@@ -70,8 +70,8 @@ impl<'a> Measured<'a> {
             + &strokes::strokes(plan, frame, &options.names, &self.panel.marked)
             + &self.column.svg(plan, frame)
             + &marks::rings(frame, places, &self.panel.marked)
-            + &marks::sites(plan, frame, places, &options.names)
             + &marks::faults(plan, frame, places)
+            + &marks::sites(plan, frame, places, &options.names)
     }
 
     /// The lowest pixel of drawing and labels.

@@ -99,16 +99,62 @@ pub fn overlap(one: &Box, other: &Box) -> bool {
     one[0] < other[2] && other[0] < one[2] && one[1] < other[3] && other[1] < one[3]
 }
 
-/// Panics if two texts overlap, or one leaves the picture.
+/// What the shapes of sites and the boxes of labels cover, each with the words that stand in it.
+fn shape_boxes(elements: &[Element]) -> Vec<(String, Box)> {
+    let mut boxes = Vec::new();
+    for (index, element) in elements.iter().enumerate() {
+        if element.is("site") {
+            // A site is its title, its shape and its number.
+            boxes.push((elements[index + 3].inside.clone(), shape_box(&elements[index + 2])));
+        } else if element.is("label") {
+            boxes.push((String::new(), shape_box(element)));
+        }
+    }
+    boxes
+}
+
+fn shape_box(shape: &Element) -> Box {
+    match shape.name.as_str() {
+        "circle" => {
+            let (x, y, radius) = (shape.number("cx"), shape.number("cy"), shape.number("r"));
+            [x - radius, y - radius, x + radius, y + radius]
+        }
+        "rect" => {
+            let (x, y) = (shape.number("x"), shape.number("y"));
+            [x, y, x + shape.number("width"), y + shape.number("height")]
+        }
+        _ => {
+            let corners = shape.text("points").split(' ').map(|corner| corner.split_once(',').unwrap());
+            let corners = corners.map(|(x, y)| (x.parse::<f64>().unwrap(), y.parse::<f64>().unwrap()));
+            corners.fold([f64::MAX, f64::MAX, f64::MIN, f64::MIN], |area, (x, y)| {
+                [area[0].min(x), area[1].min(y), area[2].max(x), area[3].max(y)]
+            })
+        }
+    }
+}
+
+/// Panics if two texts, two shapes, or a text and a shape that it does not stand in overlap, or a text leaves the
+/// picture.
 pub fn hold_texts_apart(picture: &str) {
-    let boxes = text_boxes(picture);
-    let view: Vec<f64> =
-        elements(picture)[0].text("viewBox").split(' ').map(|number| number.parse().unwrap()).collect();
-    for (index, (words, area)) in boxes.iter().enumerate() {
+    let (elements, texts) = (elements(picture), text_boxes(picture));
+    let view: Vec<f64> = elements[0].text("viewBox").split(' ').map(|number| number.parse().unwrap()).collect();
+    for (index, (words, area)) in texts.iter().enumerate() {
         assert!(area[0] >= 0.0 && area[1] >= 0.0, "'{words}' leaves the picture:\n{picture}");
         assert!(area[2] <= view[2] && area[3] <= view[3], "'{words}' leaves the picture:\n{picture}");
-        for (other, its) in &boxes[..index] {
+        for (other, its) in &texts[..index] {
             assert!(!overlap(area, its), "'{words}' {area:?} overlaps '{other}' {its:?}:\n{picture}");
+        }
+    }
+    let shapes = shape_boxes(&elements);
+    for (index, (words, shape)) in shapes.iter().enumerate() {
+        for (_, other) in &shapes[..index] {
+            assert!(!overlap(shape, other), "two shapes overlap, at {shape:?} and {other:?}:\n{picture}");
+        }
+        let is_inside =
+            |area: &Box| shape[0] <= area[0] && area[2] <= shape[2] && shape[1] <= area[1] && area[3] <= shape[3];
+        for (other, its) in texts.iter().filter(|(_, its)| overlap(shape, its)) {
+            let is_own = is_inside(its) && (words.is_empty() || words == other);
+            assert!(is_own, "'{other}' overlaps the shape of '{words}' at {shape:?}:\n{picture}");
         }
     }
 }
