@@ -18,8 +18,8 @@ pub const SUBCOMMAND: Subcommand = Subcommand {
     about: "the smallest sheet on which an engine still errs",
     text: "\
 Lays FILE's sheet out with an engine and checks the answer, as `backbone check --engine` does. Where the engine is at
-fault, the sheet is made smaller as long as the engine has the same finding: fewest sites, then slots, then colours, then
-the smallest numbers. What comes out is smallest in this sense: no site, slot or colour can be left out, no two colours
+fault, the sheet is made smaller as long as the engine has the same finding, by the same rule if a rule is broken: fewest
+sites, then slots, then colours, then the smallest numbers. What comes out is smallest in this sense: no site, slot or colour can be left out, no two colours
 can be made one, no number can be lowered and nothing moved closer, each by itself, without the finding going.
 
 The sheet is written as the engine answered it, a stored sheet, with the finding in a comment: `backbone check` tells the
@@ -51,7 +51,7 @@ fn run(arguments: &Arguments, output: &mut Output) -> Result<Exit, Failure> {
     let words = split_stored(&first.record.words).0;
     match model::sheet::read(words) {
         Ok(sheet) if first.finding.is_fault() => {
-            let found = asked.shrunk(sheet, first.finding.name())?;
+            let found = asked.shrunk(sheet, kind(&first.finding))?;
             message(&format!("{} sheets were tried; of the smallest: {}", asked.sheets, told(&found)));
             write(arguments, output, &found)?;
             Ok(Exit::Found)
@@ -80,18 +80,30 @@ impl Asked {
         }
     }
 
-    /// The smallest sheet with a finding of this name, as the engine answers it. The engine is asked once more at the
+    /// The smallest sheet with a finding of this kind, as the engine answers it. The engine is asked once more at the
     /// end: one that answers differently now and then can't be shrunk.
-    fn shrunk(&mut self, sheet: Sheet, name: &str) -> Result<Checked, Failure> {
+    fn shrunk(&mut self, sheet: Sheet, wanted: Kind) -> Result<Checked, Failure> {
         let record = |sheet: &Sheet| Record::of_words(sheet.words());
-        let found = smallest(sheet, |sheet| Ok(self.checked(record(sheet))?.finding.name() == name))?;
+        let found = smallest(sheet, |sheet| Ok(kind(&self.checked(record(sheet))?.finding) == wanted))?;
         let checked = self.checked(record(&found))?;
-        if checked.finding.name() != name {
-            let problem = format!("the engine answered '{name}' and then '{}' to one sheet", checked.finding.name());
-            return Err(Failure::Unable(problem));
+        if kind(&checked.finding) != wanted {
+            let (before, now) = (wanted.0, checked.finding.name());
+            return Err(Failure::Unable(format!("the engine answered '{before}' and then '{now}' to one sheet")));
         }
         Ok(checked)
     }
+}
+
+/// A finding's name, with the rule that is broken or the refusal's number.
+type Kind = (&'static str, u8);
+
+fn kind(finding: &Finding) -> Kind {
+    let number = match finding {
+        Finding::Unlawful { rule, .. } => rule.number(),
+        Finding::Refused { refusal, .. } => refusal.number(),
+        _ => 0,
+    };
+    (finding.name(), number)
 }
 
 /// A finding in one line.

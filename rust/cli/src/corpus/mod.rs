@@ -97,3 +97,6 @@ fn rival(sheet: &Sheet, best: &Layout, rounding: Rounding) -> Option<Rival> {
 pub fn slots_of(layout: &Layout) -> Vec<usize> {
     layout.slots.iter().map(|slot| usize::from(*slot)).collect()
 }
+
+#[cfg(test)]
+mod tests;
