@@ -42,10 +42,12 @@ impl std::error::Error for ReadError {}
 
 impl Form {
     /// The form of these bytes. Words in bytes that begin with a head have 0x10 to 0x1F in the fourth place, where
-    /// text has none; other words in bytes have a zero byte, which text has none of; JSON begins with a brace.
+    /// text has none; other words in bytes have a zero byte, and are not text for the most part; JSON begins with a
+    /// brace.
     pub fn of(bytes: &[u8]) -> Form {
         let is_head = bytes.get(3).is_some_and(|byte| byte >> 4 == 1);
-        if is_head || (bytes.contains(&0) && other_encoding(bytes).is_none()) {
+        let is_zero = bytes.contains(&0) && !is_mostly_text(bytes) && other_encoding(bytes).is_none();
+        if is_head || is_zero {
             return Form::Binary;
         }
         let first = without_mark(bytes).iter().find(|byte| !byte.is_ascii_whitespace());
@@ -55,6 +57,12 @@ impl Form {
             Form::Text
         }
     }
+}
+
+/// Whether more than three in four bytes are those of text: a zero byte in it is a slip.
+fn is_mostly_text(bytes: &[u8]) -> bool {
+    let is_text = |byte: &&u8| byte.is_ascii_graphic() || byte.is_ascii_whitespace();
+    bytes.iter().filter(is_text).count() > bytes.len() / 4 * 3
 }
 
 /// The bytes without UTF-8's byte order mark.

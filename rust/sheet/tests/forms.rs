@@ -31,7 +31,7 @@ fn random_record(random: &mut Random) -> Record {
 fn records_survive_text_and_json() {
     let mut random = Random::new(73);
     let (mut named, mut claimed) = (0, 0);
-    for _ in 0..20_000 {
+    for _ in 0..6_000 {
         let record = random_record(&mut random);
         for form in [Form::Text, Form::Json] {
             let bytes = write(&record, form).unwrap();
@@ -40,13 +40,13 @@ fn records_survive_text_and_json() {
         named += usize::from(record.names.sites.iter().any(Option::is_some));
         claimed += usize::from(record.claims_no_layout);
     }
-    assert!(named > 1000 && claimed > 1000, "{named} {claimed}");
+    assert!(named > 1000 && claimed > 500, "{named} {claimed}");
 }
 
 #[test]
 fn words_survive_every_form() {
     let mut random = Random::new(74);
-    for _ in 0..20_000 {
+    for _ in 0..6_000 {
         let record = Record::of_words(any_list(&mut random));
         for form in FORMS {
             assert_eq!(read_as(form, &write(&record, form).unwrap()), Ok(record.clone()));
@@ -58,7 +58,7 @@ fn words_survive_every_form() {
 fn forms_are_told_apart() {
     let mut random = Random::new(75);
     let mut met = [0; 4];
-    for _ in 0..20_000 {
+    for _ in 0..6_000 {
         let record = random_record(&mut random);
         for (index, form) in FORMS.into_iter().enumerate() {
             let Some(bytes) = write(&record, form) else { continue };
@@ -70,7 +70,7 @@ fn forms_are_told_apart() {
             met[index] += 1;
         }
     }
-    assert!(met.iter().all(|times| *times > 10_000), "{met:?}");
+    assert!(met.iter().all(|times| *times > 3_000), "{met:?}");
 }
 
 #[test]
@@ -130,6 +130,7 @@ fn encodings() {
     assert_eq!(latin, Err("line 2, column 20: the text is not UTF-8: byte 0xFC".to_string()));
     assert_eq!(words_of(&[8, 0x80, 0, 0x10, 5]), Err("5 bytes are not whole words of four bytes".to_string()));
     assert_eq!(words_of(b""), Ok(vec![]));
+    assert!(words_of(b"slot 5\nslot 6\n\0").unwrap_err().starts_with("line 3, column 1: "));
     // Heads whose bytes begin as marks of an encoding do.
     for head in [0x1000FEFFu32, 0x1000FFFE, 0x1FBFBBEF] {
         assert_eq!(words_of(&head.to_le_bytes()), Ok(vec![head]));
@@ -199,7 +200,7 @@ fn json_values() {
 fn changed_bytes_are_read_or_refused() {
     let mut random = Random::new(76);
     let (mut accepted, mut refused) = (0, 0);
-    for _ in 0..60_000 {
+    for _ in 0..20_000 {
         let record = random_record(&mut random);
         let form = random.pick(&FORMS);
         let Some(mut bytes) = write(&record, form) else { continue };
@@ -224,5 +225,5 @@ fn changed_bytes_are_read_or_refused() {
             }
         }
     }
-    assert!(accepted > 5_000 && refused > 5_000, "{accepted} {refused}");
+    assert!(accepted > 1_000 && refused > 1_000, "{accepted} {refused}");
 }

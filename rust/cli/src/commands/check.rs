@@ -29,8 +29,14 @@ folders in it, every file is taken whose name ends in .txt, .words, .bin or .jso
     no answer        with --engine: the engine wrote something else, or nothing
     unreadable       the file can't be read, or there is no memory to lay it out
 
-Findings are told in the order of the files, however many threads there are. A table of counts ends them; with tsv and
-junit, which have no place for it, tsv's goes to standard error.
+Findings are told in the order of the files, however many threads there are. A table of counts ends them.
+
+    text   a line a sheet: the file, the finding, and what it comes from
+    json   an object: sheets, a list of objects with file, finding, refusal or rule, more (labels, length, points,
+           millimetres), sites, slots, text, depth, given and best as far as they are there; and counts by finding
+    tsv    a line of names and a line a sheet with the same; a tab, a line feed and a backslash in a value are
+           written \\t, \\n and \\\\; the table goes to standard error
+    junit  a test case a sheet; findings are failures, what can't be read is an error
 
 With --engine COMMAND the layouts in the files are left aside, and the engine lays out each sheet. COMMAND is run by the
 shell for each sheet. It reads the sheet on its standard input and writes on its standard output a stored sheet (the
