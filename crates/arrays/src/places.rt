@@ -5,6 +5,7 @@ ghost use lib.Dec.{leb};
 ghost use Rattle.labelling.specs.Layout.{apart};
 ghost use Rattle.optimum.specs.Slots as model;
 ghost use Rattle.arrays.specs.Arrays.{slotsBy};
+ghost use Rattle.arrays.specs.declared.Measures as measured;
 use crate::Measures;
 use words::at_most;
 use words::drops::apart_of;
@@ -12,8 +13,8 @@ use words::get;
 use words::less;
 
 // The edge or label a stands above the height y or at it.
-pub fn is_over(q: Measures, heights: &[u32], a: u32, y: u32) -> bool
-    ensures { λ r. ⌜ r ≡ model.over (slotsBy q (now (heights .entry))) a y ⌝ }
+pub fn is_over(heights: &[u32], a: u32, y: u32) -> bool
+    ensures { λ r. ⌜ ((q : measured.Measures) → r ≡ model.over (slotsBy q (now (heights .entry))) a y) ⌝ }
 {
     if a == 0 {
         return true;
@@ -22,8 +23,8 @@ pub fn is_over(q: Measures, heights: &[u32], a: u32, y: u32) -> bool
 }
 
 // The edge or label b stands below the height y.
-pub fn is_under(q: Measures, heights: &[u32], b: u32, y: u32) -> bool
-    ensures { λ r. ⌜ r ≡ model.under (slotsBy q (now (heights .entry))) b y ⌝ }
+pub fn is_under(heights: &[u32], b: u32, y: u32) -> bool
+    ensures { λ r. ⌜ ((q : measured.Measures) → r ≡ model.under (slotsBy q (now (heights .entry))) b y) ⌝ }
 {
     if b == 0 {
         return false;

@@ -13,7 +13,7 @@ ghost use Rattle.arrays.specs.Arrays.{instanceBy};
 ghost use Rattle.arrays.specs.declared.Measures as measured;
 ghost use Rattle.rows.specs.Rows.{stripOf, pointOf};
 ghost use Rattle.choice.specs.Choice.{keepsCost};
-ghost use Rattle.strips.specs.Steps.{SheetArrays, SiteIn};
+ghost use Rattle.arrays.specs.Given.{onStep, OfSheet, Bounded, SiteIn};
 use arrays::Measures;
 use rows::Site;
 use rows::Strip;
@@ -40,7 +40,7 @@ pub fn choose_slot(
     s: Site,
     left: Left,
 ) -> u32
-    requires { ⌜ SheetArrays q (now heights) (now bounds) (now radices) (now draws) ⌝ }
+    requires { ⌜ OfSheet (onStep q (now heights) (now bounds) (now radices) (now draws)) × Bounded (onStep q (now heights) (now bounds) (now radices) (now draws)) ⌝ }
     requires { ⌜ LevelIn (now parts) (now counts) (now work) base (q .colours) (q .budgets) (now labels) ⌝ }
     requires { ⌜ SiteIn q (pointOf s) × (left .budget < q .budgets) × (left .cost < topWord) × (length (now labels) ≡ length (now heights)) ⌝ }
     ensures { λ r. ⌜ r ≡ first (length (now (heights .entry))) (keepsCost (instanceBy q (now (heights .entry)) (now (bounds .entry)) (now (radices .entry)) (now (draws .entry))) (now (parts .entry)) (now (counts .entry)) (now (work .entry)) base (q .colours) (q .budgets) (stripOf p) (pointOf s) (now (labels .entry)) (left .budget) (left .cost)) ⌝ }

@@ -22,19 +22,18 @@ use Rattle.optimum.proofs.Full.{full-holds}
 use Rattle.optimum.proofs.optimality.Order.{ordered}
 use Rattle.optimum.proofs.optimality.OneSidedAnswer.{work-cells}
 use Rattle.arrays.specs.declared.Measures.{Measures}
-use Rattle.search.proofs.Sums.{length-listing}
 use Rattle.arrays.specs.Arrays.{measuresOf, boundsOf, drawsList, xsOf, ysOf, coloursOf, gathered, instanceBy, pointsBy}
 use Rattle.decoding.proofs.Places.{ys-at, colours-at}
 use Rattle.decoding.proofs.Fields.{bounds-long}
 use Rattle.arrays.proofs.Ordered.{gathered-long, radix-pos}
 use Rattle.rows.proofs.Folding.{size}
 use Rattle.rows.specs.Rows.{levelSize}
-use Rattle.table.specs.Levels.{Given}
+use Rattle.arrays.proofs.Narrowed.{no-sites}
 use Rattle.rows.specs.Budgets.{Splits}
 use Rattle.optimum.specs.Reached.{TableOf}
 use Rattle.walk.proofs.Tying.{points-long}
 use Rattle.walk.specs.Laid.{TableFilled, wiped}
-use Rattle.onesided.specs.Ranked.{Ranked}
+use Rattle.onesided.specs.Ranked.{SheetFits, Ranked}
 
 gathered-get : (l os : List ℕ) (i : ℕ) → i < length os → getD (gathered l os) i 0 ≡ getD l (getD os i 0) 0
 unfolding gathered
@@ -82,34 +81,31 @@ module _ (ws : List ℕ) (f : sheetFault ws ≡ 0) where
       omega arith
 
   given-sheet : (area : ℕ) → s .isTwoSided ≡ false → workFor s ≤ area
-      → Given (measuresOf s) (s .slots) (boundsOf (s .colours)) (radicesOf (s .colours)) (drawsList s)
+      → SheetFits (measuresOf s) (s .slots) (boundsOf (s .colours)) (radicesOf (s .colours)) (drawsList s)
       (gathered (xsOf (s .sites)) (order s)) (gathered (ysOf (s .sites)) (order s)) (gathered (coloursOf (s .sites)) (order s)) area
   given-sheet area one h =
       let gx = gathered-long (xsOf (s .sites)) (order s) in
       let gy = gathered-long (ysOf (s .sites)) (order s) in
       let gc = gathered-long (coloursOf (s .sites)) (order s) in
       record {
-        framed = record {
-          slotsFew = o .few-slots;
-          coloursFew = o .few-colours;
-          bounded = bounds-long (s .colours);
-          budgetsFew = o .product;
-          budgetsSome = product-some (s .colours);
+        sheet = record {
+          fewSlots = o .few-slots;
+          fewColours = o .few-colours;
+          fewSites = omega (arith, gx, n-is, o .few-sites);
+          fewBudgets = o .product;
+          someBudget = product-some (s .colours);
           narrow = o .narrow;
           heightLow = λ k. height-low (s .slots) k (o .heights);
           rising = λ j k p q. rise-at (s .slots) (o .rise) j k p q;
-        };
-        divides = radices-positive (s .colours);
-        full = full-holds (s .colours);
-        drawn = length-listing _ 0 (length (s .colours));
-        sites = record {
-          sitesFew = omega (arith, gx, n-is, o .few-sites);
+          divides = radices-positive (s .colours);
+          full = full-holds (s .colours);
           ysLong = gy ∙ sym gx;
-          csLong = gc ∙ sym gx;
-          ysLow = λ i l. ys-low i (omega (arith, gx));
-          csLow = λ i l. colours-low i (omega (arith, gx));
+          coloursLong = gc ∙ sym gx;
+          siteIn = λ i l. record { yLow = ys-low i (omega (arith, gx)); colourLow = colours-low i (omega (arith, gx)) };
+          orderLow = λ i l. absurd (omega arith);
         };
-        within = fits (length (s .slots) + 2) (length (s .colours) + 1) (productOf (s .colours)) (omega (arith, gx, n-is)) (work-cells s one);
+        bounded = bounds-long (s .colours);
+        fits = fits (length (s .slots) + 2) (length (s .colours) + 1) (productOf (s .colours)) (omega (arith, gx, n-is)) (work-cells s one);
       }
     where
       fits : (a b p : ℕ) → length (gathered (xsOf (s .sites)) (order s)) ≡ length (s .sites) → workFor s ≡ (length (s .sites) + 1) * (a * b * a * b * 1 * p)
@@ -122,7 +118,7 @@ module _ (ws : List ℕ) (f : sheetFault ws ≡ 0) where
   -- the same for arrays that are equal to these
   pub given-is : (q : Measures) (hs bs rs ds xs ys cs : List ℕ) (area : ℕ) → q ≡ measuresOf s → hs ≡ s .slots → bs ≡ boundsOf (s .colours) → rs ≡ radicesOf (s .colours)
       → ds ≡ drawsList s → xs ≡ gathered (xsOf (s .sites)) (order s) → ys ≡ gathered (ysOf (s .sites)) (order s) → cs ≡ gathered (coloursOf (s .sites)) (order s)
-      → s .isTwoSided ≡ false → workFor s ≤ area → Given q hs bs rs ds xs ys cs area
+      → s .isTwoSided ≡ false → workFor s ≤ area → SheetFits q hs bs rs ds xs ys cs area
   given-is q hs bs rs ds xs ys cs area eq eh eb er ed ex ey ec one h = rw (eq, eh, eb, er, ed, ex, ey, ec) (given-sheet area one h)
 
   pub ranked-is : (q : Measures) (xs os out : List ℕ) → q ≡ measuresOf s → xs ≡ gathered (xsOf (s .sites)) (order s) → os ≡ order s → length (s .sites) + 1 ≤ length out
@@ -137,42 +133,35 @@ module _ (ws : List ℕ) (f : sheetFault ws ≡ 0) where
       })
 
 -- what the walk asks, from what the table was given
-pub filled-is : (q : Measures) (hs bs rs ds parts counts work xs ys cs os out : List ℕ) (area : ℕ) → length work ≡ area → Given q hs bs rs ds xs ys cs area → Ranked q xs os out
+pub filled-is : (q : Measures) (hs bs rs ds parts counts work xs ys cs os out : List ℕ) (area : ℕ) → length work ≡ area → SheetFits q hs bs rs ds xs ys cs area → Ranked q xs os out
     → Splits rs (q .budgets) parts counts → TableOf (instanceBy q hs bs rs ds) (q .colours) (q .budgets) (pointsBy xs ys cs) work
     → TableFilled q hs bs rs ds parts counts work xs ys cs os out
 filled-is q hs bs rs ds parts counts work xs ys cs os out area e g r splits table =
     record {
       arrays = record {
-        sheet = record {
-          fewSlots = g .framed .slotsFew;
-          fewColours = g .framed .coloursFew;
-          divides = g .divides;
-          bounded = g .framed .bounded;
-          drawn = g .drawn;
-          narrow = g .framed .narrow;
-          heightLow = g .framed .heightLow;
-        };
+        sheet = no-sites (g .sheet);
+        bounded = g .bounded;
         splits = splits;
-        fewSites = omega (arith, r .long, g .sites .sitesFew);
+        fewSites = omega (arith, r .long, g .sheet .fewSites);
         xsLong = sym (r .long);
-        ysLong = g .sites .ysLong ∙ sym (r .long);
-        coloursLong = g .sites .csLong ∙ sym (r .long);
-        siteIn = λ i l. record { yLow = g .sites .ysLow i (omega (arith, r .long)); colourLow = g .sites .csLow i (omega (arith, r .long)) };
+        ysLong = g .sheet .ysLong ∙ sym (r .long);
+        coloursLong = g .sheet .coloursLong ∙ sym (r .long);
+        siteIn = λ i l. g .sheet .siteIn i (omega (arith, r .long));
         orderLow = r .low;
-        whole = omega (arith, g .within, ap (λ (n : ℕ). (n + 1) * levelSize q hs) (r .long));
+        whole = omega (arith, g .fits, ap (λ (n : ℕ). (n + 1) * levelSize q hs) (r .long));
       };
-      rising = g .framed .rising;
+      rising = g .sheet .rising;
       table = table;
       someBudget = r .someBudget;
       answerFits = r .answerFits;
     }
 
 -- the words of the table are wiped alike where the rest of the area is the same
-pub wiped-same : (q : Measures) (hs bs rs ds xs ys cs old new : List ℕ) (area : ℕ) → Given q hs bs rs ds xs ys cs area
+pub wiped-same : (q : Measures) (hs bs rs ds xs ys cs old new : List ℕ) (area : ℕ) → SheetFits q hs bs rs ds xs ys cs area
     → drop ((length xs + 1) * levelSize q hs) new ≡ drop ((length xs + 1) * levelSize q hs) old
     → wiped (instanceBy q hs bs rs ds) q (pointsBy xs ys cs) new ≡ wiped (instanceBy q hs bs rs ds) q (pointsBy xs ys cs) old
 wiped-same q hs bs rs ds xs ys cs old new area g e =
-    let n : length (pointsBy xs ys cs) ≡ length xs = points-long xs ys cs (length xs) refl (g .sites .ysLong) (g .sites .csLong) in
+    let n : length (pointsBy xs ys cs) ≡ length xs = points-long xs ys cs (length xs) refl (g .sheet .ysLong) (g .sheet .coloursLong) in
     rw n (ap (λ (l : List ℕ). replicate ((length xs + 1) * levelSize q hs) 0 ++ l) e)
 
 -- the words of all levels, of s words each, are what is wiped
@@ -181,13 +170,13 @@ pub record Wipes (q : Measures) (hs bs rs ds xs ys cs os : List ℕ) (area s : �
   pub fits : (length os + 1) * s ≤ area
   pub wipes : (work : List ℕ) → zeroed 0 ((length os + 1) * s) work ≡ wiped (instanceBy q hs bs rs ds) q (pointsBy xs ys cs) work
 
-pub wipes-is : (q : Measures) (hs bs rs ds xs ys cs os out : List ℕ) (area s : ℕ) → Given q hs bs rs ds xs ys cs area → Ranked q xs os out → s ≡ levelSize q hs → Wipes q hs bs rs ds xs ys cs os area s
+pub wipes-is : (q : Measures) (hs bs rs ds xs ys cs os out : List ℕ) (area s : ℕ) → SheetFits q hs bs rs ds xs ys cs area → Ranked q xs os out → s ≡ levelSize q hs → Wipes q hs bs rs ds xs ys cs os area s
 wipes-is q hs bs rs ds xs ys cs os out area s g r e =
-    let few : length os + 1 ≤ 33 = omega (arith, r .long, g .sites .sitesFew) in
-    let within : (length os + 1) * levelSize q hs ≤ area = omega (arith, g .within, ap (λ (n : ℕ). (n + 1) * levelSize q hs) (r .long)) in
-    let long : length (pointsBy xs ys cs) ≡ length os = points-long xs ys cs (length os) (sym (r .long)) (g .sites .ysLong ∙ sym (r .long)) (g .sites .csLong ∙ sym (r .long)) in
+    let few : length os + 1 ≤ 33 = omega (arith, r .long, g .sheet .fewSites) in
+    let within : (length os + 1) * levelSize q hs ≤ area = omega (arith, g .fits, ap (λ (n : ℕ). (n + 1) * levelSize q hs) (r .long)) in
+    let long : length (pointsBy xs ys cs) ≡ length os = points-long xs ys cs (length os) (sym (r .long)) (g .sheet .ysLong ∙ sym (r .long)) (g .sheet .coloursLong ∙ sym (r .long)) in
     record {
-      small = rw e (mul-le-mul {n₂ = 33} {m₂ = 12960000} few (size (length hs) (q .colours) (q .budgets) (g .framed .slotsFew) (g .framed .coloursFew) (g .framed .budgetsFew)));
+      small = rw e (mul-le-mul {n₂ = 33} {m₂ = 12960000} few (size (length hs) (q .colours) (q .budgets) (g .sheet .fewSlots) (g .sheet .fewColours) (g .sheet .fewBudgets)));
       fits = rw e within;
       wipes = λ work. zeroed-front ((length os + 1) * s) work ∙ rw (e, long) refl;
     }

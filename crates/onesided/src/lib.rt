@@ -6,9 +6,8 @@ ghost use Rattle.arrays.specs.Arrays.{instanceBy, pointsBy};
 ghost use Rattle.sheet.specs.Sheet.{sheetIn, productOf};
 ghost use Rattle.labelling.specs.Entry.{makeFault, makeAnswer, makeWork};
 ghost use Rattle.labelling.specs.Promise.{takesSheet};
-ghost use Rattle.table.specs.Levels.{Given};
 ghost use Rattle.walk.specs.Laid.{laidFault, laidOut, wiped};
-ghost use Rattle.onesided.specs.Ranked.{Ranked, RankedSites};
+ghost use Rattle.onesided.specs.Ranked.{SheetFits, Ranked, RankedSites};
 use areas::zero_part;
 use arrays::Measures;
 use arrays::draws_of;
@@ -38,7 +37,7 @@ fn lay_ranked(
     work: &mut [u32],
     out: &mut [u32],
 ) -> u8
-    requires { ⌜ Given q (now heights) (now bounds) (now radices) (now draws) (now xs) (now ys) (now colours) (length (now work)) ⌝ }
+    requires { ⌜ SheetFits q (now heights) (now bounds) (now radices) (now draws) (now xs) (now ys) (now colours) (length (now work)) ⌝ }
     requires { ⌜ Ranked q (now xs) (now order) (now out) ⌝ }
     ensures { λ r. ⌜ r ≡ laidFault (instanceBy q (now (heights .entry)) (now (bounds .entry)) (now (radices .entry)) (now (draws .entry))) (q .budgets) (pointsBy (now (xs .entry)) (now (ys .entry)) (now (colours .entry))) ⌝ }
     ensures { λ r. ⌜ now (work .exit) ≡ wiped (instanceBy q (now (heights .entry)) (now (bounds .entry)) (now (radices .entry)) (now (draws .entry))) q (pointsBy (now (xs .entry)) (now (ys .entry)) (now (colours .entry))) (now (work .entry)) ⌝ }

@@ -1,9 +1,10 @@
--- What may be taken from each budget, in a list with 64 places for each, and the least cost of sharing a budget by that list. Definitions.
+-- What may be taken from each budget, in a list with mostBudgets places for each, and the least cost of sharing a budget by that list. Definitions.
 use mathlib.Core.Path.{_≡_}
 use mathlib.Core.Bool.{true, cond}
 use mathlib.Core.List.{List}
 use Prim.Native.Nat.{ℕ, _+_, _*_, _-_, _<_, _≤_}
 use lib.ListN.{length, getD}
+use Rattle.sheet.specs.Limits.{mostBudgets}
 use Rattle.search.specs.Cost.{plus, least}
 use Rattle.search.specs.Radix.{below}
 use Rattle.optimum.specs.OneSided.{topWord}
@@ -20,16 +21,20 @@ pub record Listed (rs : List ℕ) (v w count : ℕ) (at : ℕ → ℕ) : Type 0 
   pub sound : (i : ℕ) → i < count → below rs (at i) v ≡ true
   pub whole : (x : ℕ) → x < w → below rs x v ≡ true → (i : ℕ) × (i < count) × (at i ≡ x)
 
--- the lists of all budgets below P: that of v has counts[v] numbers from place 64 v on
+-- the places of all lists: mostBudgets for each of mostBudgets budgets
+abbrev pub splitsLength : ℕ
+splitsLength = 4096
+
+-- the lists of all budgets below P: that of v has counts[v] numbers from place mostBudgets v on
 abbrev pub partAt : (parts : List ℕ) → (v i : ℕ) → ℕ
-partAt parts v i = getD parts (v * 64 + i) 0
+partAt parts v i = getD parts (v * mostBudgets + i) 0
 
 -- what is listed for v is at most v
 pub record Within (P : ℕ) (parts counts : List ℕ) : Type 0 where
-  pub few : P ≤ 64
-  pub partsLong : length parts ≡ 4096
-  pub countsLong : length counts ≡ 64
-  pub counted : (v : ℕ) → v < P → getD counts v 0 ≤ 64
+  pub few : P ≤ mostBudgets
+  pub partsLong : length parts ≡ splitsLength
+  pub countsLong : length counts ≡ mostBudgets
+  pub counted : (v : ℕ) → v < P → getD counts v 0 ≤ mostBudgets
   pub small : (v i : ℕ) → v < P → i < getD counts v 0 → partAt parts v i ≤ v
 
 pub record Splits (rs : List ℕ) (P : ℕ) (parts counts : List ℕ) : Type 0 where
@@ -40,6 +45,10 @@ pub record Splits (rs : List ℕ) (P : ℕ) (parts counts : List ℕ) : Type 0 w
 abbrev pub splitBy : (parts counts : List ℕ) → (f g : ℕ → ℕ) → (u : ℕ) → ℕ
 splitBy parts counts f g u = least topWord (getD counts u 0) (λ i. plus topWord (f (partAt parts u i)) (g (u - partAt parts u i)))
 
--- what a draw leaves of the budget v; 255 where it may not be drawn
+-- a byte that is no budget
+abbrev pub notDrawn : ℕ
+notDrawn = 255
+
+-- what a draw leaves of the budget v; notDrawn where it may not be drawn
 abbrev pub leftBy : (rs : List ℕ) → (draw v : ℕ) → ℕ
-leftBy rs e v = cond (below rs e v) (v - e) 255
+leftBy rs e v = cond (below rs e v) (v - e) notDrawn

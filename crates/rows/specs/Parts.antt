@@ -3,6 +3,7 @@ use mathlib.Core.Path.{_≡_}
 use mathlib.Core.List.{List}
 use Prim.Native.Nat.{ℕ, _+_, _*_, _<_, _≤_}
 use lib.ListN.{getD}
+use Rattle.sheet.specs.Limits.{mostSlots, mostColours, mostBudgets}
 use Rattle.search.specs.Cost.{plus}
 use Rattle.optimum.specs.Strips.{Point, Strip}
 use Rattle.optimum.specs.OneSided.{topWord}
@@ -30,8 +31,8 @@ pub record PartsMarked (q : Measures) (work : List ℕ) (low m : ℕ) (p : Strip
 
 -- rows of a level that begins at the word `low` may be marked, in an area of so many words
 pub record LevelFits (q : Measures) (m low area : ℕ) : Type 0 where
-  pub slotsFew : m ≤ 48
-  pub coloursFew : q .colours ≤ 8
-  pub budgetsFew : q .budgets ≤ 64
-  pub budgetsSome : 0 < q .budgets
+  pub fewSlots : m ≤ mostSlots
+  pub fewColours : q .colours ≤ mostColours
+  pub fewBudgets : q .budgets ≤ mostBudgets
+  pub someBudget : 0 < q .budgets
   pub within : low + rowsOf m (q .colours) * q .budgets ≤ area

@@ -5,6 +5,7 @@ use mathlib.Core.List.{List}
 use Prim.Native.Nat.{ℕ, zero, suc, _+_, _*_, _≤_, _<_}
 use lib.Dec.{eqb}
 use lib.ListN.{length, getD}
+use Rattle.sheet.specs.Limits.{mostSlots, mostColours, mostBudgets}
 use Rattle.search.specs.Split.{just}
 use Rattle.search.specs.Sums.{listing}
 use Rattle.optimum.specs.OneSided.{topWord}
@@ -22,9 +23,9 @@ levelSize m C R = rowsOf m C * R
 
 -- the numbers are a sheet's, and a strip's ends and colours are in range
 pub record StripIn (m C R a ca b cb : ℕ) : Type 0 where
-  pub fewSlots : m ≤ 48
-  pub fewColours : C ≤ 8
-  pub fewBudgets : R ≤ 64
+  pub fewSlots : m ≤ mostSlots
+  pub fewColours : C ≤ mostColours
+  pub fewBudgets : R ≤ mostBudgets
   pub aLow : a ≤ m + 1
   pub caLow : ca ≤ C
   pub bLow : b ≤ m + 1
@@ -32,8 +33,8 @@ pub record StripIn (m C R a ca b cb : ℕ) : Type 0 where
 
 -- a level stands in the work area from the word `base` on, what may be taken from each budget is listed, and the labels' colours are the sheet's
 pub record LevelIn (parts counts work : List ℕ) (base C R : ℕ) (labels : List ℕ) : Type 0 where
-  pub fewSlots : length labels ≤ 48
-  pub fewColours : C ≤ 8
+  pub fewSlots : length labels ≤ mostSlots
+  pub fewColours : C ≤ mostColours
   pub splits : Within R parts counts
   pub within : base + levelSize (length labels) C R ≤ length work
   pub coloured : (i : ℕ) → getD labels i 0 < C + 1

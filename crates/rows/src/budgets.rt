@@ -3,12 +3,24 @@ ghost use mathlib.Core.Path.{_≡_};
 ghost use mathlib.Core.Bool.{cond};
 ghost use Prim.Native.Nat.{ℕ, _+_, _-_, _*_, _<_, _≤_, min};
 ghost use lib.ListN.{length, getD};
+ghost use Rattle.sheet.specs.Limits.{mostBudgets};
 ghost use Rattle.search.specs.Radix.{below};
 ghost use Rattle.costs.specs.Masks.{Divides};
-ghost use Rattle.rows.specs.Budgets.{Listed, Others, Splits, Within, splitBy, leftBy};
+ghost use Rattle.rows.specs.Budgets.{Listed, Others, Splits, Within, partAt, splitsLength, splitBy, leftBy};
+
+// An array with a place for each budget, and one with as many for each: rows/specs/Budgets has both lengths for definitions.
+pub const BUDGETS_LENGTH: usize = 64;
+
+pub const SPLITS_LENGTH: usize = 4096;
+
+// A byte that is no budget.
+const NOT_DRAWN: u8 = 255;
+
+// The cost of "none" (words), as a sum of two costs holds it.
+const NONE: u64 = 4294967295;
 
 fn counted(n: u8, one_more: bool) -> u8
-    requires { ⌜ n < 64 ⌝ }
+    requires { ⌜ n < mostBudgets ⌝ }
     ensures { λ r. ⌜ r ≡ cond «one_more» (n + 1) n ⌝ }
 {
     if one_more {
@@ -17,14 +29,14 @@ fn counted(n: u8, one_more: bool) -> u8
     n
 }
 
-// Lists what may be taken from v, from place 64 v on; returns how many there are.
+// Lists what may be taken from v, in its own part of the list; returns how many there are.
 fn list_below(radices: &[u32], v: usize, parts: &mut [u8]) -> u8
     requires { ⌜ Divides (now radices) ⌝ }
-    requires { ⌜ (v < 64) × (length (now parts) ≡ 4096) ⌝ }
-    ensures { λ r. ⌜ Listed (now (radices .entry)) v (v + 1) r (λ i. getD (now (parts .exit)) (v * 64 + i) 0) ⌝ }
-    ensures { λ r. ⌜ Others (now (parts .entry)) (now (parts .exit)) (v * 64) 64 ⌝ }
+    requires { ⌜ (v < mostBudgets) × (length (now parts) ≡ splitsLength) ⌝ }
+    ensures { λ r. ⌜ Listed (now (radices .entry)) v (v + 1) r (partAt (now (parts .exit)) v) ⌝ }
+    ensures { λ r. ⌜ Others (now (parts .entry)) (now (parts .exit)) (v * mostBudgets) mostBudgets ⌝ }
 {
-    let base = v * 64;
+    let base = v * BUDGETS_LENGTH;
     let mut mask = costs::masks::mask_below(radices, v as u32);
     let mut count: u8 = 0;
     let mut w: u8 = 0;
@@ -40,7 +52,7 @@ fn list_below(radices: &[u32], v: usize, parts: &mut [u8]) -> u8
 // Lists, for each budget below P, what may be taken from it, and counts it.
 pub fn list_splits(radices: &[u32], budgets: usize, parts: &mut [u8], counts: &mut [u8])
     requires { ⌜ Divides (now radices) ⌝ }
-    requires { ⌜ (budgets ≤ 64) × (length (now parts) ≡ 4096) × (length (now counts) ≡ 64) ⌝ }
+    requires { ⌜ (budgets ≤ mostBudgets) × (length (now parts) ≡ splitsLength) × (length (now counts) ≡ mostBudgets) ⌝ }
     ensures { λ _. ⌜ Splits (now (radices .entry)) budgets (now (parts .exit)) (now (counts .exit)) ⌝ }
 {
     let mut v: usize = 0;
@@ -75,10 +87,10 @@ pub fn least_split(
     requires { ⌜ (u < budgets) × (from + budgets ≤ length (now f)) × (at + budgets ≤ length (now g)) ⌝ }
     ensures { λ r. ⌜ r ≡ splitBy (now (parts .entry)) (now (counts .entry)) (λ w. getD (now (f .entry)) (from + w) 0) (λ w. getD (now (g .entry)) (at + w) 0) u ⌝ }
 {
-    let base = u * 64;
+    let base = u * BUDGETS_LENGTH;
     let end = at + u;
     let n = counts[u] as usize;
-    let mut best: u64 = 4294967295;
+    let mut best = NONE;
     let mut i: usize = 0;
     while i < n {
         let w = parts[base + i] as usize;
@@ -88,7 +100,7 @@ pub fn least_split(
     best as u32
 }
 
-// What a draw leaves of the budget v; 255 if it may not be drawn.
+// What a draw leaves of the budget v; NOT_DRAWN if it may not be drawn.
 fn left_of(radices: &[u32], draw: u32, v: u8) -> u8
     requires { ⌜ Divides (now radices) ⌝ }
     ensures { λ r. ⌜ r ≡ leftBy (now (radices .entry)) draw v ⌝ }
@@ -96,13 +108,13 @@ fn left_of(radices: &[u32], draw: u32, v: u8) -> u8
     if costs::masks::is_below(radices, draw, v as u32) {
         return v - draw as u8;
     }
-    255
+    NOT_DRAWN
 }
 
 // The same for each budget below P.
 pub fn list_left(radices: &[u32], draw: u32, budgets: usize, left: &mut [u8])
     requires { ⌜ Divides (now radices) ⌝ }
-    requires { ⌜ (budgets ≤ 64) × (budgets ≤ length (now left)) ⌝ }
+    requires { ⌜ (budgets ≤ mostBudgets) × (budgets ≤ length (now left)) ⌝ }
     ensures { λ _. ⌜ ((v : ℕ) → v < budgets → getD (now (left .exit)) v 0 ≡ leftBy (now (radices .entry)) draw v) ⌝ }
 {
     let mut v: usize = 0;

@@ -7,10 +7,12 @@ ghost use mathlib.Core.Path.{_≡_};
 ghost use mathlib.Core.List.{List};
 ghost use Prim.Native.Nat.{ℕ, suc, _+_, _*_, _<_, _≤_};
 ghost use lib.ListN.{length, getD, replicate};
+ghost use Rattle.sheet.specs.Limits.{mostSlots, mostColours, mostBudgets};
 ghost use Rattle.optimum.specs.Strips as model;
 ghost use Rattle.arrays.specs.Arrays.{instanceBy};
 ghost use Rattle.arrays.specs.declared.Measures as measured;
-ghost use Rattle.rows.specs.Rows.{stripOf, pointOf, rowOf, rowsOf, Lies, upperPart, lowerPart, endPlace, upperEnd};
+ghost use Rattle.rows.specs.Rows.{stripOf, pointOf, rowOf, rowsOf, mostPlace, Lies, upperPart, lowerPart, endPlace, upperEnd};
+ghost use Rattle.rows.specs.Parts.{LevelFits};
 use arrays::Measures;
 
 // A strip: the labels above and below it (0: the top edge, k + 1: slot k, m + 1: the bottom edge) and their colours (0: none, c + 1: colour c).
@@ -53,7 +55,7 @@ pub fn site_at(xs: &[u32], ys: &[u32], colours: &[u32], j: usize) -> Site
 
 // How many rows a level has.
 pub fn rows_of(q: Measures, m: usize) -> usize
-    requires { ⌜ (m ≤ 48) × (q .colours ≤ 8) ⌝ }
+    requires { ⌜ (m ≤ mostSlots) × (q .colours ≤ mostColours) ⌝ }
     ensures { λ r. ⌜ r ≡ rowsOf m (q .colours) ⌝ }
 {
     let colours = (q.colours as usize) + 1;
@@ -63,7 +65,7 @@ pub fn rows_of(q: Measures, m: usize) -> usize
 
 // The place of a strip's row in its level.
 pub fn row_place(q: Measures, m: usize, p: Strip) -> usize
-    requires { ⌜ (m ≤ 48) × (q .colours ≤ 8) × (q .budgets ≤ 64) ⌝ }
+    requires { ⌜ (m ≤ mostSlots) × (q .colours ≤ mostColours) × (q .budgets ≤ mostBudgets) ⌝ }
     requires { ⌜ Lies m (q .colours) (stripOf p) ⌝ }
     ensures { λ r. ⌜ r ≡ rowOf m (q .colours) (stripOf p) * q .budgets ⌝ }
 {
@@ -76,7 +78,7 @@ pub fn row_place(q: Measures, m: usize, p: Strip) -> usize
 
 // The places of the rows of the two parts that a label at slot k leaves of a strip.
 pub fn part_places(q: Measures, m: usize, p: Strip, s: Site, low: usize, k: u32) -> PartRows
-    requires { ⌜ (m ≤ 48) × (q .colours ≤ 8) × (q .budgets ≤ 64) × (low + rowsOf m (q .colours) * q .budgets ≤ 18446744073709551615) ⌝ }
+    requires { ⌜ LevelFits q m low mostPlace ⌝ }
     requires { ⌜ Lies m (q .colours) (stripOf p) × (s .c < q .colours) × (k + 1 < p .b) ⌝ }
     ensures { λ r. ⌜ (r .upper ≡ low + rowOf m (q .colours) (upperPart (stripOf p) (pointOf s) k) * q .budgets) × (r .lower ≡ low + rowOf m (q .colours) (lowerPart (stripOf p) (pointOf s) k) * q .budgets) ⌝ }
 {
@@ -101,7 +103,7 @@ pub fn part_places(q: Measures, m: usize, p: Strip, s: Site, low: usize, k: u32)
 
 // The end that comes next: of the same slot, or the first of the next.
 pub fn next_end(colours: u32, e: End) -> End
-    requires { ⌜ (colours ≤ 8) × (e .slot ≤ 64) × (e .colour ≤ colours) ⌝ }
+    requires { ⌜ (colours ≤ mostColours) × (e .slot ≤ mostSlots + 2) × (e .colour ≤ colours) ⌝ }
     ensures { λ r. ⌜ (r .colour ≤ colours) × (endPlace colours (r .slot) (r .colour) ≡ endPlace colours (e .slot) (e .colour) + 1) ⌝ }
 {
     if e.colour < colours {
@@ -118,7 +120,7 @@ pub fn next_end(colours: u32, e: End) -> End
 
 // The strip below the same upper end whose lower end comes next.
 pub fn next_below(colours: u32, p: Strip) -> Strip
-    requires { ⌜ (colours ≤ 8) × (p .b ≤ 64) × (p .cb ≤ colours) ⌝ }
+    requires { ⌜ (colours ≤ mostColours) × (p .b ≤ mostSlots + 2) × (p .cb ≤ colours) ⌝ }
     ensures { λ r. ⌜ (r .a ≡ p .a) × (r .ca ≡ p .ca) × (r .cb ≤ colours) × (endPlace colours (r .b) (r .cb) ≡ endPlace colours (p .b) (p .cb) + 1) ⌝ }
 {
     let e = next_end(
@@ -147,7 +149,7 @@ pub fn is_upper_end(e: End) -> bool
 
 // The strip that holds the height y.
 pub fn hold_of(heights: &[u32], labels: &[u32], y: u32) -> Strip
-    requires { ⌜ (length (now labels) ≡ length (now heights)) × (length (now heights) ≤ 48) ⌝ }
+    requires { ⌜ (length (now labels) ≡ length (now heights)) × (length (now heights) ≤ mostSlots) ⌝ }
     ensures { λ r. ⌜ ((q : measured.Measures) (bs rs ds : List ℕ) → stripOf r ≡ model.hold (instanceBy q (now (heights .entry)) bs rs ds) (now (labels .entry)) (replicate (suc (length (now (heights .entry)))) 0) y) ⌝ }
 {
     let m = labels.len();

@@ -4,9 +4,11 @@ ghost use mathlib.Core.Bool.{cond};
 ghost use Prim.Native.Nat.{_+_, _*_, _<_, _≤_};
 ghost use lib.Dec.{eqb};
 ghost use lib.ListN.{length, getD};
+ghost use Rattle.sheet.specs.Limits.{mostSlots, mostColours, mostBudgets};
 ghost use Rattle.rows.specs.Budgets.{Within};
 ghost use Rattle.rows.specs.Rest.{rowStart, levelSize, StripIn, LevelIn, joinRow, foldRows, restRows};
 use crate::Strip;
+use crate::budgets::BUDGETS_LENGTH;
 use crate::budgets::least_split;
 use crate::row_place;
 use crate::rows_of;
@@ -14,7 +16,7 @@ use arrays::Measures;
 
 // The words of a level of m slots.
 pub fn level_size(q: Measures, m: usize) -> usize
-    requires { ⌜ (m ≤ 48) × (q .colours ≤ 8) × (q .budgets ≤ 64) ⌝ }
+    requires { ⌜ (m ≤ mostSlots) × (q .colours ≤ mostColours) × (q .budgets ≤ mostBudgets) ⌝ }
     ensures { λ r. ⌜ r ≡ levelSize m (q .colours) (q .budgets) ⌝ }
 {
     rows_of(q, m) * (q.budgets as usize)
@@ -122,7 +124,7 @@ pub fn rest_of(
     ensures { λ r. ⌜ r ≡ restRows (now (parts .entry)) (now (counts .entry)) (now (work .entry)) base (length (now (labels .entry))) (q .colours) (q .budgets) (now (labels .entry)) v ⌝ }
 {
     let r = q.budgets as usize;
-    let mut acc = [words::NONE; 64];
+    let mut acc = [words::NONE; BUDGETS_LENGTH];
     acc[0] = 0;
     fold_rows(parts, counts, work, base, q, labels, v, &mut acc[..r])
 }

@@ -6,6 +6,7 @@ use Prim.Native.Nat.{ℕ, suc, _+_}
 use native.Mathlib.Omega.{arith}
 use lib.Dec.{eqb, ltb}
 use lib.ListN.{length, getD}
+use Rattle.sheet.specs.Limits.{unbounded}
 use Rattle.optimum.specs.Slots.{over, under, farFrom, clearFrom}
 use Rattle.optimum.specs.Strips.{Point, Strip, inside, opens, joinsUp, joinsDown, cost}
 use Rattle.optimum.specs.OneSided.{topWord}
@@ -37,14 +38,14 @@ module _ (q : Measures) (hs bs rs ds : List ℕ) where
 
 -- `opens`, by the slot's place, the gap it leaves, and what does not turn on it
 pub opens-split : (q : Measures) (hs bs : List ℕ) (p : Strip) (s : Point) (k : ℕ)
-    → opens (instanceOn q hs bs) p s k ≡ (ltb (p .a) (k + 1) && ltb (k + 1) (p .b) && ltb k (length hs)) && (gapLeft (instanceOn q hs bs) p s k && siteOpens (instanceOn q hs bs) p s)
+    → opens (instanceOn q hs bs) p s k ≡ (ltb (p .a) (k + 1) && ltb (k + 1) (p .b) && ltb k (length hs)) && (gapLeft (slotsBy q hs) p s k && siteOpens (instanceOn q hs bs) p s)
 unfolding opens gapLeft siteOpens
 opens-split q hs bs p s k =
     let P = instanceOn q hs bs in
     let e : k + 1 ≡ suc k = omega arith in
     regroup (ltb (p .a) (suc k)) (ltb (suc k) (p .b)) (ltb k (length hs)) (farFrom (slotsBy q hs) (p .a) (p .ca) k (suc (s .c))) (farFrom (slotsBy q hs) (p .b) (p .cb) k (suc (s .c)))
-    (clearFrom (slotsBy q hs) (p .a) (s .y)) (clearFrom (slotsBy q hs) (p .b) (s .y)) (not (eqb (getD bs (s .c) 255) 0))
-    ∙ ap (λ (z : ℕ). (ltb (p .a) z && ltb z (p .b) && ltb k (length hs)) && (gapLeft P p s k && siteOpens P p s)) (sym e)
+    (clearFrom (slotsBy q hs) (p .a) (s .y)) (clearFrom (slotsBy q hs) (p .b) (s .y)) (not (eqb (getD bs (s .c) unbounded) 0))
+    ∙ ap (λ (z : ℕ). (ltb (p .a) z && ltb z (p .b) && ltb k (length hs)) && (gapLeft (slotsBy q hs) p s k && siteOpens P p s)) (sym e)
   where
     regroup : (a b c d e f g h : Bool) → (((((((((a && b) && c) && d) && e) && f) && g) && h) && true) && true) ≡ (((a && b) && c) && ((d && e) && ((f && g) && h)))
     regroup false b c d e f g h = refl

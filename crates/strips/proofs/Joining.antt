@@ -11,7 +11,9 @@ use Rattle.lists.proofs.Tests.{by-test, by-either, and-both, and-of}
 use Rattle.optimum.specs.Strips.{Point, Strip, opens, joinsUp, joinsDown}
 use Rattle.optimum.specs.OneSided.{topWord}
 use Rattle.arrays.specs.declared.Measures.{Measures}
-use Rattle.strips.specs.Strips.{instanceOn, gapLeft, siteOpens, joinCost, joinLeast, Framed, Stands}
+use Rattle.arrays.specs.Arrays.{slotsBy}
+use Rattle.arrays.specs.Given.{OfSheet, SiteIn, onSlots}
+use Rattle.strips.specs.Strips.{instanceOn, gapLeft, siteOpens, joinCost, joinLeast}
 use Rattle.strips.proofs.Decisions.{opens-split}
 
 -- what opening asks, taken apart
@@ -19,7 +21,7 @@ pub record Opening (q : Measures) (hs bs : List ℕ) (p : Strip) (s : Point) (k 
   pub above : p .a < k + 1
   pub under : k + 1 < p .b
   pub slot : k < length hs
-  pub gap : gapLeft (instanceOn q hs bs) p s k ≡ true
+  pub gap : gapLeft (slotsBy q hs) p s k ≡ true
   pub site : siteOpens (instanceOn q hs bs) p s ≡ true
 
 pub opening : (q : Measures) (hs bs : List ℕ) (p : Strip) (s : Point) (k : ℕ) → opens (instanceOn q hs bs) p s k ≡ true → Opening q hs bs p s k
@@ -64,5 +66,5 @@ module _ (q : Measures) (hs bs : List ℕ) (p : Strip) (s : Point) where
       rw (e, j) (omega arith)
 
   -- a join costs less than none
-  pub join-low : (k : ℕ) → Framed q hs bs → Stands (q .colours) s → joinCost q hs s k < topWord
-  join-low k f g = by-test (q .shortest) (λ e. rw e (omega (arith, f .heightLow k, g .yLow))) (λ e. rw e (omega (arith, f .heightLow k, g .yLow)))
+  pub join-low : (k : ℕ) → OfSheet (onSlots q hs) → SiteIn q s → joinCost q hs s k < topWord
+  join-low k o i = by-test (q .shortest) (λ e. rw e (omega (arith, o .heightLow k, i .yLow))) (λ e. rw e (omega (arith, o .heightLow k, i .yLow)))

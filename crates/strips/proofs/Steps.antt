@@ -5,15 +5,17 @@ use mathlib.Core.List.{List}
 use Prim.Native.Nat.{ℕ, _-_, _<_}
 use native.Mathlib.Omega.{arith}
 use lib.ListN.{getD}
+use Rattle.sheet.specs.Limits.{mostColours}
 use Rattle.search.specs.Radix.{below}
 use Rattle.search.proofs.Radix.{sharing}
 use Rattle.arrays.specs.declared.Measures.{Measures}
 use Rattle.arrays.specs.Arrays.{instanceBy}
+use Rattle.arrays.specs.Given.{Given, OfSheet, SiteIn}
 use Rattle.optimum.specs.Strips.{Point, Strip, opens, joinsUp, joinsDown, cost, draw}
 use Rattle.optimum.specs.OneSided.{topWord}
-use Rattle.strips.specs.Strips.{instanceOn, Small, Measured, openCost, joinCost}
+use Rattle.strips.specs.Strips.{instanceOn, openCost, joinCost}
 use Rattle.strips.proofs.Decisions.{opens-on, cost-on, cost-opens, cost-joins}
-use Rattle.strips.specs.Steps.{priceIn, budgetLeft, SheetArrays, SiteIn}
+use Rattle.strips.specs.Steps.{priceIn, budgetLeft}
 
 module _ (q : Measures) (hs bs rs ds : List ℕ) (p : Strip) (s : Point) (k : ℕ) where
   draw-opens : opens (instanceOn q hs bs) p s k ≡ true → draw (instanceBy q hs bs rs ds) p s k ≡ getD ds (s .c) 0
@@ -40,9 +42,5 @@ module _ (q : Measures) (hs bs rs ds : List ℕ) (p : Strip) (s : Point) (k : �
       (omega (arith, draw-joins o), w ∙ sym (rw (draw-joins o, sharing rs .nothing v) refl))
 
 -- what the decisions ask for
-pub small : (q : Measures) (hs bs rs ds : List ℕ) (s : Point) (k : ℕ) → SheetArrays q hs bs rs ds → SiteIn q s → k < 48 → Small bs (s .c) k
-small q hs bs rs ds s k a i l =
-    record { colourBound = omega (arith, a .bounded, i .colourLow); coloursFew = omega (arith, a .fewColours, i .colourLow); slotLow = omega arith }
-
-pub measured : (q : Measures) (hs bs rs ds : List ℕ) (s : Point) → SheetArrays q hs bs rs ds → SiteIn q s → Measured q hs (s .y)
-measured q hs bs rs ds s a i = record { narrow = a .narrow; heightLow = a .heightLow; yLow = i .yLow }
+pub colour-low : {g : Given} → OfSheet g → {s : Point} → SiteIn (g .measures) s → s .c < mostColours
+colour-low o i = omega (arith, o .fewColours, i .colourLow)

@@ -10,13 +10,13 @@ use lib.ListN.{length, getD}
 use borrow.Author.Tests.{leb-true, le-leb, lt-leb, lt-ltb, le-ltb}
 use Rattle.lists.proofs.Tests.{by-order}
 use Rattle.labelling.specs.Layout.{apart}
-use Rattle.optimum.specs.Slots.{farFrom}
-use Rattle.optimum.specs.Strips.{Point, Strip, Instance}
+use Rattle.optimum.specs.Slots.{Slots, farFrom}
+use Rattle.optimum.specs.Strips.{Point, Strip}
 use Rattle.arrays.specs.declared.Measures.{Measures}
 use Rattle.optimum.proofs.Slots.{rise-le}
 use Rattle.arrays.specs.Arrays.{slotsBy}
 use Rattle.strips.specs.declared.Window.{Window}
-use Rattle.strips.specs.Strips.{instanceOn, gapLeft, FirstFar, FarEnd, WindowOf}
+use Rattle.strips.specs.Strips.{gapLeft, FirstFar, FarEnd, WindowOf}
 
 -- ---- the two scans: one slot more is near its end
 
@@ -28,12 +28,12 @@ near-up t b k h e j l u = by-order k j (λ i. h j i u) (λ i. let f : j ≡ k - 
 
 -- ---- the window
 
-module _ (q : Measures) (hs bs : List ℕ) (rising : (j k : ℕ) → j < k → k < length hs → getD hs j 0 < getD hs k 0) where
-  abbrev P : Instance
-  P = instanceOn q hs bs
+module _ (q : Measures) (hs : List ℕ) (rising : (j k : ℕ) → j < k → k < length hs → getD hs j 0 < getD hs k 0) where
+  abbrev S : Slots
+  S = slotsBy q hs
 
   -- further down from the upper end, further up from the lower one
-  far-down : (a e j k c : ℕ) → a ≤ j → j ≤ k → k < length hs → farFrom (P .slots) a e j c ≡ true → farFrom (P .slots) a e k c ≡ true
+  far-down : (a e j k c : ℕ) → a ≤ j → j ≤ k → k < length hs → farFrom S a e j c ≡ true → farFrom S a e k c ≡ true
   unfolding farFrom
   far-down zero e j k c ha hj hk f = refl
   far-down (suc i) e j k c ha hj hk f =
@@ -41,7 +41,7 @@ module _ (q : Measures) (hs bs : List ℕ) (rising : (j k : ℕ) → j < k → k
       let d : q .gap ≤ apart (getD hs i 0) (getD hs j 0) = leb-true _ _ (rw m at f) in
       rw m (le-leb (q .gap) (apart (getD hs i 0) (getD hs k 0)) (omega (arith, rising i j ha (omega arith), rise-le (slotsBy q hs) rising j k hj hk)))
 
-  far-up : (b e j k c : ℕ) → j ≤ k → k + 1 < b → farFrom (P .slots) b e k c ≡ true → farFrom (P .slots) b e j c ≡ true
+  far-up : (b e j k c : ℕ) → j ≤ k → k + 1 < b → farFrom S b e k c ≡ true → farFrom S b e j c ≡ true
   unfolding farFrom
   far-up zero e j k c hj hb f = refl
   far-up (suc i) e j k c hj hb f =
@@ -52,8 +52,8 @@ module _ (q : Measures) (hs bs : List ℕ) (rising : (j k : ℕ) → j < k → k
       let d : q .gap ≤ apart (getD hs i 0) (getD hs k 0) = leb-true _ _ (rw m at f) in
       rw m (le-leb (q .gap) (apart (getD hs i 0) (getD hs j 0)) (omega (arith, rising k i (omega arith) l, rise-le (slotsBy q hs) rising j k hj (omega arith)))))
 
-  module _ (p : Strip) (s : Point) (w : Window) (low : p .b < length hs + 2) (u : FirstFar P p s (w .from)) (v : FarEnd P p s (w .from) (w .to)) where
-    leaves : (k : ℕ) → p .a ≤ k → k + 1 < p .b → gapLeft P p s k ≡ leb (w .from) k && ltb k (w .to)
+  module _ (p : Strip) (s : Point) (w : Window) (low : p .b < length hs + 2) (u : FirstFar S p s (w .from)) (v : FarEnd S p s (w .from) (w .to)) where
+    leaves : (k : ℕ) → p .a ≤ k → k + 1 < p .b → gapLeft S p s k ≡ leb (w .from) k && ltb k (w .to)
     unfolding gapLeft
     leaves k ha hb =
         rw (← (add-one (s .c)))
@@ -64,5 +64,5 @@ module _ (q : Measures) (hs bs : List ℕ) (rising : (j k : ℕ) → j < k → k
         (λ t. far-up (p .b) (p .cb) k (w .to - 1) _ (omega arith) (omega (arith, v .high (omega arith))) (v .far (omega arith)) ∙ sym (lt-ltb k (w .to) t))))
         (λ f. rw (u .near k ha f, lt-leb (w .from) k f)))
 
-    pub window-of : WindowOf P p s w
+    pub window-of : WindowOf S p s w
     window-of = record { low = u .low; ordered = v .low; high = v .high; leaves = leaves }

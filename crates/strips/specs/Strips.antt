@@ -1,62 +1,50 @@
 -- The part of an instance that decides what may be done in one strip. Definitions.
 use mathlib.Core.Path.{_≡_}
 use mathlib.Core.Bool.{Bool, true, false, cond, _&&_}
-use mathlib.Core.List.{List, []}
+use mathlib.Core.List.{List}
 use Prim.Native.Nat.{ℕ, suc, _+_, _-_, _<_, _≤_, min}
 use lib.Dec.{leb, ltb}
 use lib.ListN.{length, getD}
 use Rattle.labelling.specs.Layout.{apart}
-use Rattle.optimum.specs.Slots.{farFrom, clearFrom}
+use Rattle.optimum.specs.Slots.{Slots, farFrom, clearFrom}
 use Rattle.optimum.specs.Strips.{Point, Strip, Instance, joinsUp, joinsDown}
 use Rattle.optimum.specs.OneSided.{topWord}
 use Rattle.arrays.specs.declared.Measures.{Measures}
-use Rattle.arrays.specs.Arrays.{instanceBy}
+use Rattle.arrays.specs.Given.{onStrip, instanceOf}
 use Rattle.strips.specs.declared.Window.{Window}
 use Rattle.costs.specs.Costs.{wordBy}
 
 -- radices and draws have no part in what is decided on one strip
 abbrev pub instanceOn : Measures → (heights bounds : List ℕ) → Instance
-instanceOn q hs bs = instanceBy q hs bs [] []
-
--- numbers small enough that the cost of a step is one word
-pub record Measured (q : Measures) (heights : List ℕ) (y : ℕ) : Type 0 where
-  pub narrow : q .width < 16384
-  pub heightLow : (k : ℕ) → getD heights k 0 < 16384
-  pub yLow : y < 16384
-
--- a site's colour is one of the sheet's, which are at most 8; a slot, or an edge, has a small number
-pub record Small (bounds : List ℕ) (colour slot : ℕ) : Type 0 where
-  pub colourBound : colour < length bounds
-  pub coloursFew : colour < 8
-  pub slotLow : slot < 64
+instanceOn q hs bs = instanceOf (onStrip q hs bs)
 
 -- of what `opens` asks: both ends of the strip are far enough from slot k; and that which does not turn on the slot
-unfoldable pub gapLeft : Instance → Strip → Point → ℕ → Bool
-gapLeft P p s k = farFrom (P .slots) (p .a) (p .ca) k (suc (s .c)) && farFrom (P .slots) (p .b) (p .cb) k (suc (s .c))
+unfoldable pub gapLeft : Slots → Strip → Point → ℕ → Bool
+gapLeft S p s k = farFrom S (p .a) (p .ca) k (suc (s .c)) && farFrom S (p .b) (p .cb) k (suc (s .c))
 
 unfoldable pub siteOpens : Instance → Strip → Point → Bool
 siteOpens P p s = clearFrom (P .slots) (p .a) (s .y) && clearFrom (P .slots) (p .b) (s .y) && P .may s 0
 
 -- of the slots between the strip's ends, from its upper end on: the first that this end lets open a label
-pub record FirstFar (P : Instance) (p : Strip) (s : Point) (first : ℕ) : Type 0 where
+pub record FirstFar (S : Slots) (p : Strip) (s : Point) (first : ℕ) : Type 0 where
   pub low : p .a ≤ first
   pub high : p .a < first → first < p .b
-  pub near : (k : ℕ) → p .a ≤ k → k < first → farFrom (P .slots) (p .a) (p .ca) k (s .c + 1) ≡ false
-  pub far : first + 1 < p .b → farFrom (P .slots) (p .a) (p .ca) first (s .c + 1) ≡ true
+  pub near : (k : ℕ) → p .a ≤ k → k < first → farFrom S (p .a) (p .ca) k (s .c + 1) ≡ false
+  pub far : first + 1 < p .b → farFrom S (p .a) (p .ca) first (s .c + 1) ≡ true
 
 -- of those, from `from` on: the end of the ones that the lower end lets open a label
-pub record FarEnd (P : Instance) (p : Strip) (s : Point) (from end : ℕ) : Type 0 where
+pub record FarEnd (S : Slots) (p : Strip) (s : Point) (from end : ℕ) : Type 0 where
   pub low : from ≤ end
   pub high : from < end → end < p .b
-  pub near : (k : ℕ) → end ≤ k → k + 1 < p .b → farFrom (P .slots) (p .b) (p .cb) k (s .c + 1) ≡ false
-  pub far : from < end → farFrom (P .slots) (p .b) (p .cb) (end - 1) (s .c + 1) ≡ true
+  pub near : (k : ℕ) → end ≤ k → k + 1 < p .b → farFrom S (p .b) (p .cb) k (s .c + 1) ≡ false
+  pub far : from < end → farFrom S (p .b) (p .cb) (end - 1) (s .c + 1) ≡ true
 
 -- the slots between the strip's ends that leave the gap to both are those of the window; where it holds any, it lies between the ends
-pub record WindowOf (P : Instance) (p : Strip) (s : Point) (w : Window) : Type 0 where
+pub record WindowOf (S : Slots) (p : Strip) (s : Point) (w : Window) : Type 0 where
   pub low : p .a ≤ w .from
   pub ordered : w .from ≤ w .to
   pub high : w .from < w .to → w .to < p .b
-  pub leaves : (k : ℕ) → p .a ≤ k → k + 1 < p .b → gapLeft P p s k ≡ leb (w .from) k && ltb k (w .to)
+  pub leaves : (k : ℕ) → p .a ≤ k → k + 1 < p .b → gapLeft S p s k ≡ leb (w .from) k && ltb k (w .to)
 
 -- what a step costs that opens a label, and one that joins it
 abbrev pub openCost : Measures → (heights : List ℕ) → Point → (slot : ℕ) → ℕ
@@ -70,21 +58,3 @@ unfoldable pub joinLeast : Measures → (heights bounds : List ℕ) → Strip �
 joinLeast q hs bs p s =
     min (cond (ltb (p .a - 1) (length hs) && joinsUp (instanceOn q hs bs) p s (p .a - 1)) (joinCost q hs s (p .a - 1)) topWord)
     (cond (joinsDown (instanceOn q hs bs) p s (p .b - 1)) (joinCost q hs s (p .b - 1)) topWord)
-
--- ---- what is asked of the numbers of a sheet
-
--- the measures, slots' heights and colours' bounds of a sheet
-pub record Framed (q : Measures) (heights bounds : List ℕ) : Type 0 where
-  pub slotsFew : length heights ≤ 48
-  pub coloursFew : q .colours ≤ 8
-  pub bounded : length bounds ≡ q .colours
-  pub budgetsFew : q .budgets ≤ 64
-  pub budgetsSome : 0 < q .budgets
-  pub narrow : q .width < 16384
-  pub heightLow : (k : ℕ) → getD heights k 0 < 16384
-  pub rising : (j k : ℕ) → j < k → k < length heights → getD heights j 0 < getD heights k 0
-
--- a site of the sheet
-pub record Stands (C : ℕ) (s : Point) : Type 0 where
-  pub colourLow : s .c < C
-  pub yLow : s .y < 16384

@@ -1,13 +1,17 @@
 // The decisions on one strip: does the site lie in it, which slots may open a label, which may be joined, and what a step costs.
 // Each is the model's definition for the instance of these arrays.
 ghost use mathlib.Core.Path.{_≡_};
-ghost use Prim.Native.Nat.{ℕ, _+_, _-_, _<_};
-ghost use lib.ListN.{length, getD};
+ghost use mathlib.Core.List.{List};
+ghost use Prim.Native.Nat.{ℕ, _+_, _<_, _≤_};
+ghost use lib.ListN.{length};
+ghost use Rattle.sheet.specs.Limits.{mostSlots, mostColours};
 ghost use Rattle.optimum.specs.Strips as model;
-ghost use Rattle.strips.specs.Strips.{Framed, Stands, joinLeast, instanceOn, Measured, Small, FirstFar, FarEnd, WindowOf, siteOpens, openCost, joinCost};
+ghost use Rattle.strips.specs.Strips.{joinLeast, instanceOn, FirstFar, FarEnd, WindowOf, siteOpens, openCost, joinCost};
 ghost use Rattle.rows.specs.Rows.{stripOf, pointOf, Lies};
-ghost use Rattle.arrays.specs.Arrays.{instanceBy};
-ghost use Rattle.strips.specs.Steps.{priceIn, budgetLeft, SheetArrays, SiteIn};
+ghost use Rattle.arrays.specs.Arrays.{slotsBy};
+ghost use Rattle.arrays.specs.Given.{Given, onSlots, onStep, instanceOf, OfSheet, Bounded, SiteIn};
+ghost use Rattle.arrays.specs.declared.Measures as measured;
+ghost use Rattle.strips.specs.Steps.{priceIn, budgetLeft};
 use arrays::Measures;
 use arrays::places::is_clear;
 use arrays::places::is_far;
@@ -40,19 +44,17 @@ pub struct Step {
     pub price: u32,
 }
 
-pub fn is_inside(q: Measures, heights: &[u32], bounds: &[u32], p: Strip, s: Site) -> bool
-    ensures { λ r. ⌜ r ≡ model.inside (instanceOn q (now (heights .entry)) (now (bounds .entry))) (stripOf p) (pointOf s) ⌝ }
+// The site lies between the strip's ends.
+pub fn is_inside(heights: &[u32], p: Strip, s: Site) -> bool
+    ensures { λ r. ⌜ ((q : measured.Measures) (bs : List ℕ) → r ≡ model.inside (instanceOn q (now (heights .entry)) bs) (stripOf p) (pointOf s)) ⌝ }
 {
-    both(
-        is_over(q, heights, p.a, s.y),
-        is_under(q, heights, p.b, s.y),
-    )
+    both(is_over(heights, p.a, s.y), is_under(heights, p.b, s.y))
 }
 
 // The first slot between the strip's ends that the upper end lets open a label.
-fn first_far(q: Measures, heights: &[u32], bounds: &[u32], p: Strip, s: Site) -> u32
-    requires { ⌜ s .c < 8 ⌝ }
-    ensures { λ r. ⌜ FirstFar (instanceOn q (now (heights .entry)) (now (bounds .entry))) (stripOf p) (pointOf s) r ⌝ }
+fn first_far(q: Measures, heights: &[u32], p: Strip, s: Site) -> u32
+    requires { ⌜ s .c < mostColours ⌝ }
+    ensures { λ r. ⌜ FirstFar (slotsBy q (now (heights .entry))) (stripOf p) (pointOf s) r ⌝ }
 {
     let c = s.c + 1;
     let end = monus(p.b, 1);
@@ -67,9 +69,9 @@ fn first_far(q: Measures, heights: &[u32], bounds: &[u32], p: Strip, s: Site) ->
 }
 
 // The end of the slots from `from` on that the lower end lets open a label.
-fn far_end(q: Measures, heights: &[u32], bounds: &[u32], p: Strip, s: Site, from: u32) -> u32
-    requires { ⌜ s .c < 8 ⌝ }
-    ensures { λ r. ⌜ FarEnd (instanceOn q (now (heights .entry)) (now (bounds .entry))) (stripOf p) (pointOf s) from r ⌝ }
+fn far_end(q: Measures, heights: &[u32], p: Strip, s: Site, from: u32) -> u32
+    requires { ⌜ s .c < mostColours ⌝ }
+    ensures { λ r. ⌜ FarEnd (slotsBy q (now (heights .entry))) (stripOf p) (pointOf s) from r ⌝ }
 {
     let c = s.c + 1;
     let mut k = monus(p.b, 1);
@@ -83,13 +85,12 @@ fn far_end(q: Measures, heights: &[u32], bounds: &[u32], p: Strip, s: Site, from
 }
 
 // The slots between the strip's ends that both ends let open a label: few steps where the gap spans few slots.
-pub fn open_window(q: Measures, heights: &[u32], bounds: &[u32], p: Strip, s: Site) -> Window
-    requires { ⌜ ((j k : ℕ) → j < k → k < length (now heights) → getD (now heights) j 0 < getD (now heights) k 0) ⌝ }
-    requires { ⌜ (p .b < length (now heights) + 2) × (s .c < 8) ⌝ }
-    ensures { λ r. ⌜ WindowOf (instanceOn q (now (heights .entry)) (now (bounds .entry))) (stripOf p) (pointOf s) r ⌝ }
+pub fn open_window(q: Measures, heights: &[u32], p: Strip, s: Site) -> Window
+    requires { ⌜ OfSheet (onSlots q (now heights)) × SiteIn q (pointOf s) × (p .b < length (now heights) + 2) ⌝ }
+    ensures { λ r. ⌜ WindowOf (slotsBy q (now (heights .entry))) (stripOf p) (pointOf s) r ⌝ }
 {
-    let from = first_far(q, heights, bounds, p, s);
-    let to = far_end(q, heights, bounds, p, s, from);
+    let from = first_far(q, heights, p, s);
+    let to = far_end(q, heights, p, s, from);
     Window { from, to }
 }
 
@@ -108,7 +109,7 @@ pub fn site_opens(q: Measures, heights: &[u32], bounds: &[u32], p: Strip, s: Sit
 
 // The site, which lies in the strip, may open a label at slot k.
 fn opens(q: Measures, heights: &[u32], bounds: &[u32], p: Strip, s: Site, k: u32) -> bool
-    requires { ⌜ Small (now bounds) (s .c) k ⌝ }
+    requires { ⌜ (s .c < length (now bounds)) × (s .c < mostColours) × (k ≤ mostSlots) ⌝ }
     ensures { λ r. ⌜ r ≡ model.opens (instanceOn q (now (heights .entry)) (now (bounds .entry))) (stripOf p) (pointOf s) k ⌝ }
 {
     let c = s.c + 1;
@@ -122,17 +123,17 @@ fn opens(q: Measures, heights: &[u32], bounds: &[u32], p: Strip, s: Site, k: u32
 }
 
 // It may join the label above, at slot k; the label below.
-fn joins_up(q: Measures, heights: &[u32], bounds: &[u32], p: Strip, s: Site, k: u32) -> bool
-    requires { ⌜ Small (now bounds) (s .c) k ⌝ }
-    ensures { λ r. ⌜ r ≡ model.joinsUp (instanceOn q (now (heights .entry)) (now (bounds .entry))) (stripOf p) (pointOf s) k ⌝ }
+fn joins_up(q: Measures, heights: &[u32], p: Strip, s: Site, k: u32) -> bool
+    requires { ⌜ (s .c < mostColours) × (k ≤ mostSlots) ⌝ }
+    ensures { λ r. ⌜ ((bs : List ℕ) → r ≡ model.joinsUp (instanceOn q (now (heights .entry)) bs) (stripOf p) (pointOf s) k) ⌝ }
 {
     let own = both(same(p.a, k + 1), same(p.ca, s.c + 1));
     both(own, is_clear(q, heights, p.b, s.y))
 }
 
-fn joins_down(q: Measures, heights: &[u32], bounds: &[u32], p: Strip, s: Site, k: u32) -> bool
-    requires { ⌜ Small (now bounds) (s .c) k ⌝ }
-    ensures { λ r. ⌜ r ≡ model.joinsDown (instanceOn q (now (heights .entry)) (now (bounds .entry))) (stripOf p) (pointOf s) k ⌝ }
+fn joins_down(q: Measures, heights: &[u32], p: Strip, s: Site, k: u32) -> bool
+    requires { ⌜ (s .c < mostColours) × (k ≤ mostSlots) ⌝ }
+    ensures { λ r. ⌜ ((bs : List ℕ) → r ≡ model.joinsDown (instanceOn q (now (heights .entry)) bs) (stripOf p) (pointOf s) k) ⌝ }
 {
     let low = (k as usize) < heights.len();
     let own = both(both(same(p.b, k + 1), low), same(p.cb, s.c + 1));
@@ -141,30 +142,29 @@ fn joins_down(q: Measures, heights: &[u32], bounds: &[u32], p: Strip, s: Site, k
 
 // What it costs to open a label at slot k; to join one there.
 pub fn open_cost(q: Measures, heights: &[u32], s: Site, k: u32) -> u32
-    requires { ⌜ Measured q (now heights) (s .y) ⌝ }
+    requires { ⌜ OfSheet (onSlots q (now heights)) × SiteIn q (pointOf s) ⌝ }
     ensures { λ r. ⌜ r ≡ openCost q (now (heights .entry)) (pointOf s) k ⌝ }
 {
     cost_word(q, 1, monus(q.width, s.x) + apart_of(get(heights, k), s.y))
 }
 
 fn join_cost(q: Measures, heights: &[u32], s: Site, k: u32) -> u32
-    requires { ⌜ Measured q (now heights) (s .y) ⌝ }
+    requires { ⌜ OfSheet (onSlots q (now heights)) × SiteIn q (pointOf s) ⌝ }
     ensures { λ r. ⌜ r ≡ joinCost q (now (heights .entry)) (pointOf s) k ⌝ }
 {
     cost_word(q, 0, apart_of(get(heights, k), s.y))
 }
 
 // The least that joining a label costs.
-pub fn join_least(q: Measures, heights: &[u32], bounds: &[u32], p: Strip, s: Site) -> u32
-    requires { ⌜ Framed q (now heights) (now bounds) ⌝ }
-    requires { ⌜ Lies (length (now heights)) (q .colours) (stripOf p) × Stands (q .colours) (pointOf s) ⌝ }
-    ensures { λ r. ⌜ r ≡ joinLeast q (now (heights .entry)) (now (bounds .entry)) (stripOf p) (pointOf s) ⌝ }
+pub fn join_least(q: Measures, heights: &[u32], p: Strip, s: Site) -> u32
+    requires { ⌜ OfSheet (onSlots q (now heights)) × SiteIn q (pointOf s) × Lies (length (now heights)) (q .colours) (stripOf p) ⌝ }
+    ensures { λ r. ⌜ ((bs : List ℕ) → r ≡ joinLeast q (now (heights .entry)) bs (stripOf p) (pointOf s)) ⌝ }
 {
     let up = monus(p.a, 1);
     let down = monus(p.b, 1);
     let slot = (up as usize) < heights.len();
-    let above = both(slot, joins_up(q, heights, bounds, p, s, up));
-    let below = joins_down(q, heights, bounds, p, s, down);
+    let above = both(slot, joins_up(q, heights, p, s, up));
+    let below = joins_down(q, heights, p, s, down);
     let rise = choose(above, join_cost(q, heights, s, up), NONE);
     lesser(rise, choose(below, join_cost(q, heights, s, down), NONE))
 }
@@ -181,10 +181,11 @@ pub fn step_of(
     v: u32,
     k: u32,
 ) -> Step
-    requires { ⌜ SheetArrays q (now heights) (now bounds) (now radices) (now draws) ⌝ }
-    requires { ⌜ SiteIn q (pointOf s) × (k < 48) ⌝ }
-    ensures { λ r. ⌜ r .left ≡ budgetLeft (instanceBy q (now (heights .entry)) (now (bounds .entry)) (now (radices .entry)) (now (draws .entry))) (stripOf p) (pointOf s) v k ⌝ }
-    ensures { λ r. ⌜ r .price ≡ priceIn (instanceBy q (now (heights .entry)) (now (bounds .entry)) (now (radices .entry)) (now (draws .entry))) (stripOf p) (pointOf s) v k ⌝ }
+    ghost { Given }
+    requires { λ g. ⌜ onStep q (now heights) (now bounds) (now radices) (now draws) ≡ g ⌝ }
+    requires { λ g. ⌜ OfSheet g × Bounded g × SiteIn q (pointOf s) × (k < mostSlots) ⌝ }
+    ensures { λ g r. ⌜ r .left ≡ budgetLeft (instanceOf g) (stripOf p) (pointOf s) v k ⌝ }
+    ensures { λ g r. ⌜ r .price ≡ priceIn (instanceOf g) (stripOf p) (pointOf s) v k ⌝ }
 {
     if opens(q, heights, bounds, p, s, k) {
         let draw = get(draws, s.c);
@@ -195,8 +196,8 @@ pub fn step_of(
         };
     }
     let joins = either(
-        joins_up(q, heights, bounds, p, s, k),
-        joins_down(q, heights, bounds, p, s, k),
+        joins_up(q, heights, p, s, k),
+        joins_down(q, heights, p, s, k),
     );
     Step {
         left: v,

@@ -20,8 +20,8 @@ use Rattle.optimum.proofs.Levels.{Row, entry-asked}
 use Rattle.optimum.proofs.Full.{none-at-full}
 use Rattle.optimum.proofs.Loops.{at-drop}
 use Rattle.arrays.specs.declared.Measures.{Measures}
-use Rattle.arrays.specs.Arrays.{instanceBy, pointsBy}
-use Rattle.strips.specs.Strips.{instanceOn, Stands}
+use Rattle.arrays.specs.Given.{Given, instanceOf, pointsOf, OfSheet, SiteIn}
+use Rattle.strips.specs.Strips.{instanceOn}
 use Rattle.rows.specs.Budgets.{Others, Splits, leftBy}
 use Rattle.rows.specs.Rows.{rowOf, rowsOf, rowIn, levelSize, upperPart, lowerPart}
 use Rattle.rows.proofs.Places.{row-low, row-fits}
@@ -32,24 +32,42 @@ use Rattle.table.proofs.marks.Levels.{next-level, level-within, row-wit
 use Rattle.table.proofs.marks.Points.{points-long, point-at, drop-point}
 use Rattle.table.proofs.marks.Asked.{asks-parts}
 use Rattle.table.proofs.marks.Reach.{asks-by, reached-on, reached-shape}
-use Rattle.table.specs.Levels.{RowFilled, Given, LevelRight, LevelMarked}
+use Rattle.table.specs.Levels.{RowFilled, TableReady, LevelRight, LevelMarked}
 
-module _ (q : Measures) (hs bs rs ds xs ys cs : List ℕ) (area : ℕ) (g : Given q hs bs rs ds xs ys cs area) where
+module _ {g : Given} (o : OfSheet g) where
+  abbrev q : Measures
+  q = g .measures
+
+  abbrev hs : List ℕ
+  hs = g .heights
+
+  abbrev bs : List ℕ
+  bs = g .bounds
+
+  abbrev rs : List ℕ
+  rs = g .radices
+
+  abbrev ds : List ℕ
+  ds = g .draws
+
+  abbrev xs : List ℕ
+  xs = g .xs
+
   abbrev P : Instance
-  P = instanceBy q hs bs rs ds
+  P = instanceOf g
 
   abbrev ss : List Point
-  ss = pointsBy xs ys cs
+  ss = pointsOf g
 
   rising : Rising (P .slots)
-  rising = g .framed .rising
+  rising = o .rising
 
   sites-many : length ss ≡ length xs
-  sites-many = points-long xs ys cs (g .sites .ysLong) (g .sites .csLong)
+  sites-many = points-long xs (g .ys) (g .colours) (o .ysLong) (o .coloursLong)
 
   -- what is reached has a row
   shape : (j : ℕ) → j ≤ length xs → (p : Strip) → Reached P ss j p → Shaped (length hs) (q .colours) p
-  shape j h p r = reached-shape q hs bs (g .framed) xs ys cs (g .sites) j h p (reached-on q hs bs rs ds ss j p r)
+  shape j h p r = reached-shape o j h p (reached-on q hs bs rs ds ss j p r)
 
   -- past the last site nothing is left: the level of zeros
   pub last-right : (work : List ℕ) (base : ℕ) → ((i : ℕ) → i < levelSize q hs → getD work (base + i) 0 ≡ 0) → LevelRight P q ss (length xs) work base
@@ -63,7 +81,7 @@ module _ (q : Measures) (hs bs rs ds xs ys cs : List ℕ) (area : ℕ) (g : Give
       row-inside r rows n v h k = omega (arith, row-within r rows n h)
 
   -- a level from the one below it
-  pub level-right : (old new parts counts left : List ℕ) (j base low : ℕ) (s : Point) → s ≡ record { x = getD xs j 0; y = getD ys j 0; c = getD cs j 0 }
+  pub level-right : (old new parts counts left : List ℕ) (j base low : ℕ) (s : Point) → s ≡ record { x = getD xs j 0; y = getD (g .ys) j 0; c = getD (g .colours) j 0 }
       → Splits rs (q .budgets) parts counts → j < length xs
       → ((v : ℕ) → v < q .budgets → getD left v 0 ≡ leftBy rs (getD ds (s .c) 0) v)
       → ((p : Strip) → Shaped (length hs) (q .colours) p → RowFilled q hs bs parts counts left old new base low s p)
@@ -78,7 +96,7 @@ module _ (q : Measures) (hs bs rs ds xs ys cs : List ℕ) (area : ℕ) (g : Give
       ∙ ap (λ (l : List Point). T (rulesOf P) l p v) (sym (drop-point ss j (omega (arith, sites-many)) ∙ ap (λ (x : Point). x ∷ drop (j + 1) ss) here))
     where
       here : getD ss j noPoint ≡ s
-      here = point-at xs ys cs j (g .sites .ysLong) (g .sites .csLong) h ∙ sym is
+      here = point-at xs (g .ys) (g .colours) j (o .ysLong) (o .coloursLong) h ∙ sym is
 
       next : (x : Strip) → Asks P p s x → Reached P ss (j + 1) x
       next x w = subst (λ (n : ℕ). Reached P ss n x) (sym (add-one j)) (p, a, subst (λ (y : Point). Asks P p y x) (sym here) w)
@@ -93,17 +111,17 @@ module _ (q : Measures) (hs bs rs ds xs ys cs : List ℕ) (area : ℕ) (g : Give
       none x w e k lk =
           let z : (i : ℕ) → low + (rowOf (length hs) (q .colours) x * q .budgets + i) ≡ low + rowOf (length hs) (q .colours) x * q .budgets + i = λ i. omega arith in
           let here : (i : ℕ) → i < q .budgets → rowIn old low (length hs) (q .colours) (q .budgets) x i ≡ T (rulesOf P) (drop (j + 1) ss) x i = λ i li. ap (λ (n : ℕ). getD old n 0) (sym (z i)) ∙ r x i (next x w) li in
-          here k lk ∙ none-at-full P rising (q .budgets) (q .budgets - 1) (g .full) (drop (j + 1) ss) x (sym (here (q .budgets - 1) (omega (arith, g .framed .budgetsSome))) ∙ e) k lk
+          here k lk ∙ none-at-full P rising (q .budgets) (q .budgets - 1) (o .full) (drop (j + 1) ss) x (sym (here (q .budgets - 1) (omega (arith, o .someBudget))) ∙ e) k lk
 
       falls : inside (instanceOn q hs bs) p s ≡ true → (k : ℕ) → opens (instanceOn q hs bs) p s k ≡ true
           → Falls (q .budgets) (rowIn old low (length hs) (q .colours) (q .budgets) (upperPart p s k)) × Falls (q .budgets) (rowIn old low (length hs) (q .colours) (q .budgets) (lowerPart p s k))
-      falls i k o =
-          let a = asks-parts q hs bs p s k i o in
+      falls i k e =
+          let a = asks-parts q hs bs p s k i e in
           (none _ (asks-by q hs bs rs ds p s _ (a .0)), none _ (asks-by q hs bs rs ds p s _ (a .1)))
 
   -- the site of rank j stands on the sheet
-  pub site-stands : (j : ℕ) (s : Point) → s ≡ record { x = getD xs j 0; y = getD ys j 0; c = getD cs j 0 } → j < length xs → Stands (q .colours) s
-  site-stands j s e h = subst (Stands (q .colours)) (sym e) (record { colourLow = g .sites .csLow j h; yLow = g .sites .ysLow j h })
+  pub site-stands : (j : ℕ) (s : Point) → s ≡ record { x = getD xs j 0; y = getD (g .ys) j 0; c = getD (g .colours) j 0 } → j < length xs → SiteIn q s
+  site-stands j s e h = subst (SiteIn q) (sym e) (o .siteIn j h)
 
   -- THE TABLE, from its levels
   pub table-right : (work : List ℕ) → ((j : ℕ) → j ≤ length xs → LevelRight P q ss j work (j * levelSize q hs)) → TableOf P (q .colours) (q .budgets) ss work
@@ -129,27 +147,27 @@ module _ (q : Measures) (hs bs rs ds xs ys cs : List ℕ) (area : ℕ) (g : Give
   before-level p i k size e h l r =
       let f = row-fits (length hs) (q .colours) (q .budgets) p (shape i l p r .lies) in
       let n : k ≡ suc i + (k - suc i) = omega arith in
-      omega (arith, e, f, g .framed .budgetsSome, ap (λ (z : ℕ). z * size) n)
+      omega (arith, e, f, o .someBudget, ap (λ (z : ℕ). z * size) n)
 
   pub done-last : (old new : List ℕ) (size : ℕ) → size ≡ levelSize q hs → ReachMarked (instanceOn q hs bs) q ss old (levelSize q hs) (length xs + 1)
       → Others old new (length xs * size) size → ((i : ℕ) → i < size → getD new (length xs * size + i) 0 ≡ 0) → Done new new size (length xs)
-  done-last old new size e m o z = record {
+  done-last old new size e m d z = record {
     long = refl;
     levels = λ i a b. let n : i ≡ length xs = omega arith in rw n (last-right new (length xs * size) (λ k h. z k (omega (arith, e))));
-    marked = λ i h p r. o .before _ (before-level p i (length xs) size e h (omega arith) r) ∙ subst (λ (n : ℕ). Marked old (i * n) (length hs) (q .colours) (q .budgets) p) (sym e) (m i (omega arith) p (reached-on q hs bs rs ds ss i p r));
+    marked = λ i h p r. d .before _ (before-level p i (length xs) size e h (omega arith) r) ∙ subst (λ (n : ℕ). Marked old (i * n) (length hs) (q .colours) (q .budgets) p) (sym e) (m i (omega arith) p (reached-on q hs bs rs ds ss i p r));
     past = λ i h. refl;
   }
 
   pub done-more : (old new last : List ℕ) (size j k : ℕ) → size ≡ levelSize q hs → j ≡ k + 1 → j ≤ length xs → length last ≡ length new → Others new last (k * size) size
       → (LevelMarked P q ss k new (k * size) → LevelRight P q ss (k + 1) new ((k + 1) * size) → LevelRight P q ss k last (k * size))
       → Done old new size j → Done old last size k
-  done-more old new last size j k e n lj l o f d = record {
+  done-more old new last size j k e n lj l c f d = record {
     long = l ∙ d .long;
     levels = λ i a b. by-order (k + 1) i
-        (λ u p v r w. o .after _ (later i _ (omega arith)) ∙ d .levels i (omega arith) b p v r w)
+        (λ u p v r w. c .after _ (later i _ (omega arith)) ∙ d .levels i (omega arith) b p v r w)
         (λ u. let z : i ≡ k = omega arith in rw z (f (d .marked k (omega arith)) (d .levels (k + 1) (omega arith) (omega arith))));
-    marked = λ i h p r. o .before _ (before-level p i k size e h (omega arith) r) ∙ d .marked i (omega arith) p r;
-    past = λ i h. o .after i (omega (arith, level-within k (length xs) size size _ refl (omega arith) h)) ∙ d .past i h;
+    marked = λ i h p r. c .before _ (before-level p i k size e h (omega arith) r) ∙ d .marked i (omega arith) p r;
+    past = λ i h. c .after i (omega (arith, level-within k (length xs) size size _ refl (omega arith) h)) ∙ d .past i h;
   }
     where
       later : (i x : ℕ) → k < i → k * size + size ≤ i * size + x
@@ -159,7 +177,7 @@ module _ (q : Measures) (hs bs rs ds xs ys cs : List ℕ) (area : ℕ) (g : Give
   pub done-all : (first mid old new : List ℕ) (size : ℕ) → size ≡ levelSize q hs → length old ≡ length first
       → ((i : ℕ) → (length xs + 1) * levelSize q hs ≤ i → getD mid i 0 ≡ getD first i 0) → Others mid old (length xs * size) size → Done old new size 0
       → TableOf P (q .colours) (q .budgets) ss new × (drop ((length xs + 1) * levelSize q hs) new ≡ drop ((length xs + 1) * levelSize q hs) first)
-  done-all first mid old new size e l m o d = (
+  done-all first mid old new size e l m c d = (
     table-right new (λ j l. rw e at (d .levels j (omega arith) l)),
     ext-getD 0 _ _ (length-drop _ new ∙ ap (λ (n : ℕ). n - (length xs + 1) * levelSize q hs) (d .long ∙ l) ∙ sym (length-drop _ first))
         (λ i h. at-drop new _ i ∙ past i ∙ sym (at-drop first _ i)),
@@ -168,8 +186,8 @@ module _ (q : Measures) (hs bs rs ds xs ys cs : List ℕ) (area : ℕ) (g : Give
       past : (i : ℕ) → getD new ((length xs + 1) * levelSize q hs + i) 0 ≡ getD first ((length xs + 1) * levelSize q hs + i) 0
       past i =
           let s = ap (λ (z : ℕ). (length xs + 1) * z) e in
-          d .past _ (omega arith) ∙ o .after _ (omega (arith, next-level (length xs) size)) ∙ m _ (omega arith)
+          d .past _ (omega arith) ∙ c .after _ (omega (arith, next-level (length xs) size)) ∙ m _ (omega arith)
 
 -- the same in an area of the same length
-pub given-area : (q : Measures) (hs bs rs ds xs ys cs : List ℕ) (area now : ℕ) → Given q hs bs rs ds xs ys cs area → now ≡ area → Given q hs bs rs ds xs ys cs now
-given-area q hs bs rs ds xs ys cs area now g e = rw e g
+pub ready-area : {g : Given} {area now : ℕ} → TableReady g area → now ≡ area → TableReady g now
+ready-area r e = rw e r

@@ -1,30 +1,25 @@
 -- The one-sided table, level by level: level j, where the first j sites are tied, stands from word j * levelSize on. Definitions.
 use mathlib.Core.Path.{_≡_}
-use mathlib.Core.Bool.{true}
 use mathlib.Core.List.{List}
-use Prim.Native.Nat.{ℕ, _+_, _*_, _-_, _<_, _≤_}
+use Prim.Native.Nat.{ℕ, _+_, _*_, _<_, _≤_}
 use lib.ListN.{length, getD, drop}
 use Rattle.search.specs.Plan.{T}
-use Rattle.search.specs.Radix.{below}
 use Rattle.optimum.specs.Strips.{Point, Strip, Instance, rulesOf}
-use Rattle.optimum.specs.Reached.{Reached}
+use Rattle.optimum.specs.Reached.{Reached, TableOf}
 use Rattle.arrays.specs.declared.Measures.{Measures}
-use Rattle.rows.specs.Budgets.{Within}
-use Rattle.costs.specs.Masks.{Divides}
-use Rattle.table.specs.Entries.{entryBy}
-use Rattle.strips.specs.Strips.{Framed, Stands}
-use Rattle.rows.specs.Rows.{rowOf, levelSize, rowIn}
-use Rattle.table.specs.Marks.{Sites}
+use Rattle.arrays.specs.Given.{Given, instanceOf, pointsOf, OfSheet, Bounded}
+use Rattle.rows.specs.declared.End.{End}
+use Rattle.rows.specs.Budgets.{Others, Splits}
+use Rattle.rows.specs.Rows.{rowOf, levelSize, rowIn, endPlace, endWords}
 use Rattle.rows.specs.Parts.{Marked}
+use Rattle.table.specs.Marks.{Shaped, Level, slotsIn, coloursIn, wordsIn, Ready, HasEnd, TableFits}
+use Rattle.table.specs.Entries.{BudgetsListed, entryBy}
 
--- a level at the word `base` may be filled from the one at the word `low`
-pub record Ready (q : Measures) (heights bounds parts counts left : List ℕ) (size base low : ℕ) (s : Point) : Type 0 where
-  pub framed : Framed q heights bounds
-  pub listed : Within (q .budgets) parts counts
-  pub leftLong : q .budgets ≤ length left
-  pub stands : Stands (q .colours) s
-  pub apart : base + levelSize q heights ≤ low
-  pub within : low + levelSize q heights ≤ size
+-- the level at the word `base` may be filled from the one at the word `low`
+pub record LevelReady (l : Level) (area : ℕ) : Type 0 where
+  pub ready : Ready l (wordsIn l) area
+  pub budgets : BudgetsListed (l .arrays) (l .left)
+  pub bounded : Bounded (l .arrays)
 
 -- if the strip p was marked, its row holds its entries, worked out from the rows of the level at the word `low`
 abbrev pub RowFilled : (q : Measures) → (heights bounds parts counts left old new : List ℕ) → (base low : ℕ) → Point → Strip → Type 0
@@ -33,14 +28,27 @@ RowFilled q hs bs parts counts left old new base low s p =
     getD new (base + rowOf (length hs) (q .colours) p * q .budgets + v) 0
     ≡ entryBy q hs bs parts counts left (rowIn old low (length hs) (q .colours) (q .budgets)) p s v
 
--- the arrays of a sheet, and row-inside for its table; every budget may be taken from the last
-pub record Given (q : Measures) (heights bounds radices draws xs ys cs : List ℕ) (size : ℕ) : Type 0 where
-  pub framed : Framed q heights bounds
-  pub divides : Divides radices
-  pub full : (v : ℕ) → v < q .budgets → below radices v (q .budgets - 1) ≡ true
-  pub drawn : length draws ≡ q .colours
-  pub sites : Sites q xs ys cs
-  pub within : (length xs + 1) * levelSize q heights ≤ size
+abbrev pub StripFilled : Level → (old new : List ℕ) → Strip → Type 0
+StripFilled l old new =
+    RowFilled (l .arrays .measures) (l .arrays .heights) (l .arrays .bounds) (l .arrays .parts) (l .arrays .counts) (l .left) old new (l .base) (l .low) (l .site)
+
+-- so for all strips of one upper end; for all strips. Nothing else changed
+abbrev pub EndFilled : Level → End → (old new : List ℕ) → Type 0
+EndFilled l e old new =
+    Others old new (l .base + endPlace (coloursIn l) (e .slot) (e .colour) * endWords (l .arrays .measures) (l .arrays .heights)) (endWords (l .arrays .measures) (l .arrays .heights))
+    × ((p : Strip) → Shaped (slotsIn l) (coloursIn l) p → HasEnd l e p → StripFilled l old new p)
+
+abbrev pub LevelFilled : Level → (old new : List ℕ) → Type 0
+LevelFilled l old new = Others old new (l .base) (wordsIn l) × ((p : Strip) → Shaped (slotsIn l) (coloursIn l) p → StripFilled l old new p)
+
+-- ---- all levels
+
+-- what the table is filled from: the arrays of a sheet, and lists of what may be taken from each budget; it fits the area
+pub record TableReady (g : Given) (area : ℕ) : Type 0 where
+  pub sheet : OfSheet g
+  pub bounded : Bounded g
+  pub splits : Splits (g .radices) (g .measures .budgets) (g .parts) (g .counts)
+  pub fits : TableFits g area
 
 -- level j of the table of the sites ss, which begins at the word `base`: right at every strip that is asked for; marked there
 abbrev pub LevelRight : (P : Instance) → Measures → List Point → (j : ℕ) → (work : List ℕ) → (base : ℕ) → Type 0
@@ -50,3 +58,20 @@ LevelRight P q ss j work base =
 
 abbrev pub LevelMarked : (P : Instance) → Measures → List Point → (j : ℕ) → (work : List ℕ) → (base : ℕ) → Type 0
 LevelMarked P q ss j work base = (p : Strip) → Reached P ss j p → Marked work base (P .slots .m) (q .colours) (q .budgets) p
+
+-- the same where level j begins at word j * size
+abbrev pub RightAt : Given → (size j : ℕ) → (work : List ℕ) → Type 0
+RightAt g size j work = LevelRight (instanceOf g) (g .measures) (pointsOf g) j work (j * size)
+
+abbrev pub MarkedAt : Given → (size j : ℕ) → (work : List ℕ) → Type 0
+MarkedAt g size j work = LevelMarked (instanceOf g) (g .measures) (pointsOf g) j work (j * size)
+
+-- level j, if it was marked, is right where level j + 1 was; nothing else changed
+abbrev pub SiteFilled : Given → (size j : ℕ) → (old new : List ℕ) → Type 0
+SiteFilled g size j old new = Others old new (j * size) size × (MarkedAt g size j old → RightAt g size (j + 1) old → RightAt g size j new)
+
+-- THE TABLE is the model's, and the words past it are as before
+abbrev pub TableRight : Given → (old new : List ℕ) → Type 0
+TableRight g old new =
+    TableOf (instanceOf g) (g .measures .colours) (g .measures .budgets) (pointsOf g) new
+    × (drop ((length (g .xs) + 1) * levelSize (g .measures) (g .heights)) new ≡ drop ((length (g .xs) + 1) * levelSize (g .measures) (g .heights)) old)

@@ -1,15 +1,18 @@
 -- Marks: the first word of a strip's row is 1 where the whole sheet leads to the strip. Only marked rows are filled. Definitions.
 use mathlib.Core.Path.{_≡_}
-use mathlib.Core.Bool.{true}
-use mathlib.Core.List.{List}
+use mathlib.Core.Bool.{Bool, true}
+use mathlib.Core.List.{List, []}
 use Prim.Native.Nat.{ℕ, _+_, _*_, _<_, _≤_}
 use lib.ListN.{length, getD}
 use Rattle.optimum.specs.Strips.{Point, Strip, Instance}
-use Rattle.optimum.specs.Reached.{Asks, Reached}
+use Rattle.optimum.specs.Reached.{Asks, Reached, noPoint}
 use Rattle.arrays.specs.declared.Measures.{Measures}
-use Rattle.strips.specs.Strips.{Framed, Stands}
-use Rattle.rows.specs.Parts.{Marked}
-use Rattle.rows.specs.Rows.{upperEnd, levelSize, Lies}
+use Rattle.arrays.specs.Given.{Given, given, pointsOf, OfSheet, SiteIn, Bounded}
+use Rattle.strips.specs.Strips.{instanceOn}
+use Rattle.strips.specs.declared.Window.{Window}
+use Rattle.rows.specs.declared.End.{End}
+use Rattle.rows.specs.Parts.{Marked, Marking, PartsMarked, LevelFits}
+use Rattle.rows.specs.Rows.{upperEnd, rowsOf, levelSize, Lies, endPlace}
 
 -- what the whole sheet leads to has this shape: its upper end stands above its lower end
 pub record Shaped (m C : ℕ) (p : Strip) : Type 0 where
@@ -17,27 +20,128 @@ pub record Shaped (m C : ℕ) (p : Strip) : Type 0 where
   pub falls : p .a < p .b
   pub ends : upperEnd (p .a) (p .ca) ≡ true
 
--- the level at the word `low` may be marked from the one at the word `base`, where the site s comes next
-pub record Ready (q : Measures) (heights bounds : List ℕ) (area base low : ℕ) (s : Point) : Type 0 where
-  pub framed : Framed q heights bounds
-  pub stands : Stands (q .colours) s
-  pub apart : base + levelSize q heights ≤ low
-  pub within : low + levelSize q heights ≤ area
+-- ---- one level, as one value that a contract names once
+
+-- the arrays of the sheet; what a label of the next site's colour leaves of each budget; that site; the word at which the level, or one
+-- of its rows, begins; and the word at which the level below it begins. What a function is not given is an empty list.
+pub record Level : Type 0 where
+  pub arrays : Given
+  pub left : List ℕ
+  pub site : Point
+  pub base : ℕ
+  pub low : ℕ
+
+abbrev pub level : Given → (left : List ℕ) → Point → (base low : ℕ) → Level
+level g left s base low = record { arrays = g; left = left; site = s; base = base; low = low }
+
+abbrev pub slotsIn : Level → ℕ
+slotsIn l = length (l .arrays .heights)
+
+abbrev pub coloursIn : Level → ℕ
+coloursIn l = l .arrays .measures .colours
+
+abbrev pub budgetsIn : Level → ℕ
+budgetsIn l = l .arrays .measures .budgets
+
+abbrev pub wordsIn : Level → ℕ
+wordsIn l = levelSize (l .arrays .measures) (l .arrays .heights)
+
+abbrev pub stripsIn : Level → Instance
+stripsIn l = instanceOn (l .arrays .measures) (l .arrays .heights) (l .arrays .bounds)
+
+-- so many words at `base` may be made from the level at `low`, or that from them, in an area of so many words
+pub record Ready (l : Level) (words area : ℕ) : Type 0 where
+  pub sheet : OfSheet (l .arrays)
+  pub site : SiteIn (l .arrays .measures) (l .site)
+  pub apart : l .base + words ≤ l .low
+  pub within : l .low + wordsIn l ≤ area
+
+-- an upper end of a strip
+abbrev pub EndIn : Level → End → Type 0
+EndIn l e = (e .slot ≤ slotsIn l) × (e .colour ≤ coloursIn l)
+
+-- the strip p may have this upper end
+abbrev pub HasEnd : Level → End → Strip → Type 0
+HasEnd l e p = endPlace (coloursIn l) (p .a) (p .ca) ≡ endPlace (coloursIn l) (e .slot) (e .colour)
+
+-- ---- marking
+
+-- the first word of each of so many rows of n words is 0, and what lies past them is as before
+abbrev pub MarksCleared : (rows n : ℕ) → (old new : List ℕ) → Type 0
+MarksCleared rows n old new = ((r : ℕ) → r < rows → getD new (r * n) 0 ≡ 0) × ((i : ℕ) → rows * n ≤ i → getD new i 0 ≡ getD old i 0)
+
+-- in the level at the word `low`, of m slots, some words became 1 and nothing else changed: among them the mark of the strip's row, if it is to
+-- stay; those of both parts, at each slot of a window
+abbrev pub StripMarked : Measures → (m low : ℕ) → Strip → (stays : Bool) → (old new : List ℕ) → Type 0
+StripMarked q m low p stays old new =
+    Marking old new low (rowsOf m (q .colours) * q .budgets) × (stays ≡ true → Marked new low m (q .colours) (q .budgets) p)
+
+abbrev pub WindowMarked : Measures → (m low : ℕ) → Strip → Point → Window → (old new : List ℕ) → Type 0
+WindowMarked q m low p s w old new =
+    Marking old new low (rowsOf m (q .colours) * q .budgets) × ((k : ℕ) → w .from ≤ k → k < w .to → PartsMarked q new low m p s k)
+
+-- rows of the level at the word `low` may be marked for the strip p
+abbrev pub StripFits : Measures → (m low : ℕ) → Strip → (area : ℕ) → Type 0
+StripFits q m low p area = LevelFits q m low area × Lies m (q .colours) p
+
+-- the same for what a strip asks for whose row is at the word `base`
+pub record MarkReady (l : Level) (p : Strip) (area : ℕ) : Type 0 where
+  pub sheet : OfSheet (l .arrays)
+  pub bounded : Bounded (l .arrays)
+  pub site : SiteIn (l .arrays .measures) (l .site)
+  pub fits : LevelFits (l .arrays .measures) (slotsIn l) (l .low) area
+  pub lies : Lies (slotsIn l) (coloursIn l) p
+  pub here : l .base < area
+
+-- if the row at `base` is marked, all that the strip p asks for is marked in the level at `low`
+abbrev pub RowLed : Level → Strip → (old new : List ℕ) → Type 0
+RowLed l p old new =
+    Marking old new (l .low) (wordsIn l)
+    × (getD old (l .base) 0 ≡ 1 → (x : Strip) → Asks (stripsIn l) p (l .site) x → Marked new (l .low) (slotsIn l) (coloursIn l) (budgetsIn l) x)
 
 -- if the strip p is marked in the level at the word `base`, all that it asks for is marked in the level at the word `low`
 abbrev pub Led : (P : Instance) → Measures → (old new : List ℕ) → (base low : ℕ) → Point → Strip → Type 0
 Led P q old new base low s p =
     Marked old base (P .slots .m) (q .colours) (q .budgets) p → (x : Strip) → Asks P p s x → Marked new low (P .slots .m) (q .colours) (q .budgets) x
 
--- the sites of a sheet, as three arrays of one length
-pub record Sites (q : Measures) (xs ys cs : List ℕ) : Type 0 where
-  pub sitesFew : length xs ≤ 32
-  pub ysLong : length ys ≡ length xs
-  pub csLong : length cs ≡ length xs
-  pub ysLow : (i : ℕ) → i < length xs → getD ys i 0 < 16384
-  pub csLow : (i : ℕ) → i < length xs → getD cs i 0 < q .colours
+-- so for all strips of one upper end; for all strips
+abbrev pub EndLed : Level → End → (old new : List ℕ) → Type 0
+EndLed l e old new =
+    Marking old new (l .low) (wordsIn l)
+    × ((p : Strip) → Shaped (slotsIn l) (coloursIn l) p → HasEnd l e p → Led (stripsIn l) (l .arrays .measures) old new (l .base) (l .low) (l .site) p)
+
+abbrev pub LevelLed : Level → (old new : List ℕ) → Type 0
+LevelLed l old new =
+    Marking old new (l .low) (wordsIn l)
+    × ((p : Strip) → Shaped (slotsIn l) (coloursIn l) p → Led (stripsIn l) (l .arrays .measures) old new (l .base) (l .low) (l .site) p)
+
+-- ---- all levels: level j stands from word j * size on
+
+abbrev pub onSites : Measures → (heights bounds xs ys colours : List ℕ) → Given
+onSites q hs bs xs ys cs = given q hs bs [] [] xs ys cs [] [] []
+
+-- the levels of all sites stand in an area of so many words
+abbrev pub TableFits : Given → (area : ℕ) → Type 0
+TableFits g area = (length (g .xs) + 1) * levelSize (g .measures) (g .heights) ≤ area
+
+-- level j, of so many words, is one of them, and a site comes next
+abbrev pub LevelAt : Given → (size j : ℕ) → Type 0
+LevelAt g size j = (size ≡ levelSize (g .measures) (g .heights)) × (j < length (g .xs))
+
+-- what level j leads to is marked in level j + 1
+abbrev pub SiteLed : Given → (size j : ℕ) → (old new : List ℕ) → Type 0
+SiteLed g size j old new =
+    Marking old new ((j + 1) * size) size
+    × ((p : Strip) → Shaped (length (g .heights)) (g .measures .colours) p
+    → Led (instanceOn (g .measures) (g .heights) (g .bounds)) (g .measures) old new (j * size) ((j + 1) * size) (getD (pointsOf g) j noPoint) p)
 
 -- ALL THAT THE WHOLE SHEET LEADS TO IS MARKED, at the first so many levels; levels of `size` words
 abbrev pub ReachMarked : (P : Instance) → Measures → List Point → (work : List ℕ) → (size levels : ℕ) → Type 0
 ReachMarked P q ss work size levels =
     (i : ℕ) → i < levels → (p : Strip) → Reached P ss i p → Marked work (i * size) (P .slots .m) (q .colours) (q .budgets) p
+
+-- at all levels, and the words past them are as before
+abbrev pub SheetMarked : Given → (old new : List ℕ) → Type 0
+SheetMarked g old new =
+    ReachMarked (instanceOn (g .measures) (g .heights) (g .bounds)) (g .measures) (pointsOf g) new (levelSize (g .measures) (g .heights)) (length (g .xs) + 1)
+    × ((i : ℕ) → (length (g .xs) + 1) * levelSize (g .measures) (g .heights) ≤ i → getD new i 0 ≡ getD old i 0)

@@ -1,15 +1,15 @@
 // Fills one row of the one-sided table, a strip's entries by budget, from the rows of the level below.
 ghost use mathlib.Core.Path.{_≡_};
-ghost use mathlib.Core.Bool.{true};
-ghost use Prim.Native.Nat.{ℕ, _+_, _-_, _<_, _≤_, min};
+ghost use mathlib.Core.List.{[]};
+ghost use Prim.Native.Nat.{_+_, _<_, _≤_, min};
 ghost use lib.ListN.{length, getD};
-ghost use Rattle.search.specs.Cost.{plus, least};
+ghost use Rattle.search.specs.Cost.{plus};
 ghost use Rattle.optimum.specs.OneSided.{topWord};
-ghost use Rattle.strips.specs.Strips.{instanceOn, gapLeft, Measured};
-ghost use Rattle.rows.specs.Rows.{stripOf, pointOf, Lies, rowIn};
-ghost use Rattle.rows.specs.Budgets.{Others, Within};
-ghost use Rattle.rows.specs.Parts.{LevelFits};
-ghost use Rattle.table.specs.Entries.{Ready, openBy, slotTerm, singleTerm, slotsLeast, isSingle, entryBy};
+ghost use Rattle.arrays.specs.Given.{Given, onSlots, Bounded};
+ghost use Rattle.rows.specs.Rows.{stripOf, pointOf};
+ghost use Rattle.rows.specs.Budgets.{Within};
+ghost use Rattle.table.specs.Marks.{Level, level};
+ghost use Rattle.table.specs.Entries.{onRows, RowReady, PartsFit, LeavesGap, WindowReady, RowIs, RowLowered, openAt, windowLeast, isSingle, SlotTried, SlotsTried, EntriesFilled};
 use arrays::Measures;
 use rows::Site;
 use rows::Strip;
@@ -24,8 +24,7 @@ use words::same;
 // A row's n words are those of the row at `from`, at a further cost.
 fn start_row(work: &mut [u32], base: usize, from: usize, n: usize, cost: u32)
     requires { ⌜ (base + n ≤ from) × (from + n ≤ length (now work)) ⌝ }
-    ensures { λ _. ⌜ Others (now (work .entry)) (now (work .exit)) base n ⌝ }
-    ensures { λ _. ⌜ ((v : ℕ) → v < n → getD (now (work .exit)) (base + v) 0 ≡ plus topWord cost (getD (now (work .entry)) (from + v) 0)) ⌝ }
+    ensures { λ _. ⌜ RowIs base n (λ v. plus topWord cost (getD (now (work .entry)) (from + v) 0)) (now (work .entry)) (now (work .exit)) ⌝ }
 {
     let mut v: usize = 0;
     while v < n {
@@ -47,9 +46,8 @@ fn opened(
     cost: u32,
     u: usize,
 ) -> u32
-    requires { ⌜ Within n (now parts) (now counts) ⌝ }
-    requires { ⌜ (upper + n ≤ length (now work)) × (lower + n ≤ length (now work)) ⌝ }
-    ensures { λ r. ⌜ r ≡ min old (openBy (now (parts .entry)) (now (counts .entry)) n cost u (λ w. getD (now (work .entry)) (upper + w) 0) (λ w. getD (now (work .entry)) (lower + w) 0)) ⌝ }
+    requires { ⌜ Within n (now parts) (now counts) × (upper + n ≤ length (now work)) × (lower + n ≤ length (now work)) ⌝ }
+    ensures { λ r. ⌜ r ≡ min old (openAt (now (parts .entry)) (now (counts .entry)) (now (work .entry)) n cost u upper lower) ⌝ }
 {
     if n <= u {
         return old;
@@ -73,10 +71,8 @@ fn open_row(
     n: usize,
     cost: u32,
 )
-    requires { ⌜ Within n (now parts) (now counts) ⌝ }
-    requires { ⌜ (n ≤ length (now left)) × (base + n ≤ upper) × (base + n ≤ lower) × (upper + n ≤ length (now work)) × (lower + n ≤ length (now work)) ⌝ }
-    ensures { λ _. ⌜ Others (now (work .entry)) (now (work .exit)) base n ⌝ }
-    ensures { λ _. ⌜ ((v : ℕ) → v < n → getD (now (work .exit)) (base + v) 0 ≡ min (getD (now (work .entry)) (base + v) 0) (openBy (now (parts .entry)) (now (counts .entry)) n cost (getD (now (left .entry)) v 0) (λ w. getD (now (work .entry)) (upper + w) 0) (λ w. getD (now (work .entry)) (lower + w) 0))) ⌝ }
+    requires { ⌜ Within n (now parts) (now counts) × PartsFit n base (length (now work)) upper lower × (n ≤ length (now left)) ⌝ }
+    ensures { λ _. ⌜ RowLowered base n (λ v. openAt (now (parts .entry)) (now (counts .entry)) (now (work .entry)) n cost (getD (now (left .entry)) v 0) upper lower) (now (work .entry)) (now (work .exit)) ⌝ }
 {
     let mut v: usize = 0;
     while v < n {
@@ -102,7 +98,6 @@ fn open_slot(
     work: &mut [u32],
     q: Measures,
     heights: &[u32],
-    bounds: &[u32],
     parts: &[u8],
     counts: &[u8],
     left: &[u8],
@@ -112,11 +107,10 @@ fn open_slot(
     low: usize,
     k: u32,
 )
-    requires { ⌜ Ready q (now heights) (now bounds) (now parts) (now counts) (now left) (length (now work)) base low (pointOf s) ⌝ }
-    requires { ⌜ Lies (length (now heights)) (q .colours) (stripOf p) × (k + 1 < p .b) ⌝ }
-    requires { ⌜ gapLeft (instanceOn q (now heights) (now bounds)) (stripOf p) (pointOf s) k ≡ true ⌝ }
-    ensures { λ _. ⌜ Others (now (work .entry)) (now (work .exit)) base (q .budgets) ⌝ }
-    ensures { λ _. ⌜ ((v : ℕ) → v < q .budgets → getD (now (work .exit)) (base + v) 0 ≡ min (getD (now (work .entry)) (base + v) 0) (slotTerm q (now (heights .entry)) (now (bounds .entry)) (now (parts .entry)) (now (counts .entry)) (now (left .entry)) (rowIn (now (work .entry)) low (length (now (heights .entry))) (q .colours) (q .budgets)) (stripOf p) (pointOf s) k v)) ⌝ }
+    ghost { Level }
+    requires { λ l. ⌜ level (onRows q (now heights) [] (now parts) (now counts)) (now left) (pointOf s) base low ≡ l ⌝ }
+    requires { λ l. ⌜ RowReady l (stripOf p) (length (now work)) × LeavesGap l (stripOf p) k ⌝ }
+    ensures { λ l _. ⌜ SlotTried l (stripOf p) k (now (work .entry)) (now (work .exit)) ⌝ }
 {
     let at = rows::part_places(q, heights.len(), p, s, low, k);
     let upper = at.upper;
@@ -164,10 +158,10 @@ fn least_open(
     window: Window,
     old: u32,
 ) -> u32
-    requires { ⌜ Measured q (now heights) (s .y) × (s .c < q .colours) × LevelFits q (length (now heights)) low (length (now work)) ⌝ }
-    requires { ⌜ Lies (length (now heights)) (q .colours) (stripOf p) ⌝ }
-    requires { ⌜ (window .from < window .to) × (window .to < p .b) ⌝ }
-    ensures { λ r. ⌜ r ≡ min old (least topWord (window .to - window .from) (λ i. singleTerm q (now (heights .entry)) (rowIn (now (work .entry)) low (length (now (heights .entry))) (q .colours) (q .budgets)) (stripOf p) (pointOf s) (window .from + i))) ⌝ }
+    ghost { Given }
+    requires { λ g. ⌜ onSlots q (now heights) ≡ g ⌝ }
+    requires { λ g. ⌜ WindowReady g (stripOf p) (pointOf s) low window (length (now work)) ⌝ }
+    ensures { λ g r. ⌜ r ≡ min old (windowLeast g (now (work .entry)) low (stripOf p) (pointOf s) window) ⌝ }
 {
     let m = heights.len();
     let mut best = old;
@@ -186,7 +180,6 @@ fn open_slots(
     work: &mut [u32],
     q: Measures,
     heights: &[u32],
-    bounds: &[u32],
     parts: &[u8],
     counts: &[u8],
     left: &[u8],
@@ -195,12 +188,12 @@ fn open_slots(
     base: usize,
     low: usize,
 )
-    requires { ⌜ Ready q (now heights) (now bounds) (now parts) (now counts) (now left) (length (now work)) base low (pointOf s) ⌝ }
-    requires { ⌜ Lies (length (now heights)) (q .colours) (stripOf p) ⌝ }
-    ensures { λ _. ⌜ Others (now (work .entry)) (now (work .exit)) base (q .budgets) ⌝ }
-    ensures { λ _. ⌜ ((v : ℕ) → v < q .budgets → getD (now (work .exit)) (base + v) 0 ≡ min (getD (now (work .entry)) (base + v) 0) (slotsLeast q (now (heights .entry)) (now (bounds .entry)) (now (parts .entry)) (now (counts .entry)) (now (left .entry)) (rowIn (now (work .entry)) low (length (now (heights .entry))) (q .colours) (q .budgets)) (stripOf p) (pointOf s) (p .b - 1 - p .a) v)) ⌝ }
+    ghost { Level }
+    requires { λ l. ⌜ level (onRows q (now heights) [] (now parts) (now counts)) (now left) (pointOf s) base low ≡ l ⌝ }
+    requires { λ l. ⌜ RowReady l (stripOf p) (length (now work)) ⌝ }
+    ensures { λ l _. ⌜ SlotsTried l (stripOf p) (now (work .entry)) (now (work .exit)) ⌝ }
 {
-    let window = strips::open_window(q, heights, bounds, p, s);
+    let window = strips::open_window(q, heights, p, s);
     if window.to <= window.from {
         return;
     }
@@ -211,20 +204,7 @@ fn open_slots(
     }
     let mut k = window.from;
     while k < window.to {
-        open_slot(
-            work,
-            q,
-            heights,
-            bounds,
-            parts,
-            counts,
-            left,
-            p,
-            s,
-            base,
-            low,
-            k,
-        );
+        open_slot(work, q, heights, parts, counts, left, p, s, base, low, k);
         k += 1;
     }
 }
@@ -243,40 +223,22 @@ pub fn fill_row(
     base: usize,
     low: usize,
 )
-    requires { ⌜ Ready q (now heights) (now bounds) (now parts) (now counts) (now left) (length (now work)) base low (pointOf s) ⌝ }
-    requires { ⌜ Lies (length (now heights)) (q .colours) (stripOf p) ⌝ }
-    ensures { λ _. ⌜ Others (now (work .entry)) (now (work .exit)) base (q .budgets) ⌝ }
-    ensures { λ _. ⌜ (getD (now (work .entry)) base 0 ≡ 1 → (v : ℕ) → v < q .budgets → getD (now (work .exit)) (base + v) 0 ≡ entryBy q (now (heights .entry)) (now (bounds .entry)) (now (parts .entry)) (now (counts .entry)) (now (left .entry)) (rowIn (now (work .entry)) low (length (now (heights .entry))) (q .colours) (q .budgets)) (stripOf p) (pointOf s) v) ⌝ }
+    ghost { Level }
+    requires { λ l. ⌜ level (onRows q (now heights) (now bounds) (now parts) (now counts)) (now left) (pointOf s) base low ≡ l ⌝ }
+    requires { λ l. ⌜ RowReady l (stripOf p) (length (now work)) × Bounded (l .arrays) ⌝ }
+    ensures { λ l _. ⌜ EntriesFilled l (stripOf p) (now (work .entry)) (now (work .exit)) ⌝ }
 {
     if work[base] != 1 {
         return;
     }
     let n = q.budgets as usize;
     let same = low + rows::row_place(q, heights.len(), p);
-    if !strips::is_inside(q, heights, bounds, p, s) {
+    if !strips::is_inside(heights, p, s) {
         start_row(work, base, same, n, 0);
         return;
     }
-    start_row(
-        work,
-        base,
-        same,
-        n,
-        strips::join_least(q, heights, bounds, p, s),
-    );
+    start_row(work, base, same, n, strips::join_least(q, heights, p, s));
     if strips::site_opens(q, heights, bounds, p, s) {
-        open_slots(
-            work,
-            q,
-            heights,
-            bounds,
-            parts,
-            counts,
-            left,
-            p,
-            s,
-            base,
-            low,
-        );
+        open_slots(work, q, heights, parts, counts, left, p, s, base, low);
     }
 }

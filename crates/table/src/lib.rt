@@ -3,19 +3,19 @@ pub mod entries;
 pub mod marks;
 
 ghost use mathlib.Core.Path.{_≡_};
-ghost use Prim.Native.Nat.{ℕ, _+_, _-_, _*_, _<_, _≤_};
-ghost use lib.ListN.{length, getD, drop};
-ghost use Rattle.rows.specs.Rows.{pointOf, levelSize, endPlace, endWords};
-ghost use Rattle.optimum.specs.Strips as model;
-ghost use Rattle.table.specs.Marks.{Shaped};
-ghost use Rattle.rows.specs.Budgets.{Others, Splits};
-ghost use Rattle.arrays.specs.Arrays.{instanceBy, pointsBy};
-ghost use Rattle.optimum.specs.Reached.{TableOf};
-ghost use Rattle.table.specs.Levels.{Ready, RowFilled, Given, LevelRight, LevelMarked};
+ghost use mathlib.Core.List.{[]};
+ghost use Prim.Native.Nat.{_+_, _≤_};
+ghost use lib.ListN.{length};
+ghost use Rattle.arrays.specs.Given.{Given, given};
+ghost use Rattle.rows.specs.Rows.{pointOf};
+ghost use Rattle.table.specs.Marks.{Level, level, EndIn, LevelAt};
+ghost use Rattle.table.specs.Entries.{onRows, RowIs};
+ghost use Rattle.table.specs.Levels.{LevelReady, EndFilled, LevelFilled, TableReady, SiteFilled, TableRight};
 use arrays::Measures;
 use rows::End;
 use rows::Site;
 use rows::Strip;
+use rows::budgets::BUDGETS_LENGTH;
 use rows::budgets::list_left;
 
 // Fills the marked rows below one upper end, if a strip may have it.
@@ -32,10 +32,10 @@ fn fill_below(
     base: usize,
     low: usize,
 )
-    requires { ⌜ Ready q (now heights) (now bounds) (now parts) (now counts) (now left) (length (now work)) base low (pointOf s) ⌝ }
-    requires { ⌜ (above .slot ≤ length (now heights)) × (above .colour ≤ q .colours) ⌝ }
-    ensures { λ _. ⌜ Others (now (work .entry)) (now (work .exit)) (base + endPlace (q .colours) (above .slot) (above .colour) * endWords q (now (heights .entry))) (endWords q (now (heights .entry))) ⌝ }
-    ensures { λ _. ⌜ ((p : model.Strip) → Shaped (length (now (heights .entry))) (q .colours) p → endPlace (q .colours) (p .a) (p .ca) ≡ endPlace (q .colours) (above .slot) (above .colour) → RowFilled q (now (heights .entry)) (now (bounds .entry)) (now (parts .entry)) (now (counts .entry)) (now (left .entry)) (now (work .entry)) (now (work .exit)) base low (pointOf s) p) ⌝ }
+    ghost { Level }
+    requires { λ l. ⌜ level (onRows q (now heights) (now bounds) (now parts) (now counts)) (now left) (pointOf s) base low ≡ l ⌝ }
+    requires { λ l. ⌜ LevelReady l (length (now work)) × EndIn l above ⌝ }
+    ensures { λ l _. ⌜ EndFilled l above (now (work .entry)) (now (work .exit)) ⌝ }
 {
     if !rows::is_upper_end(above) {
         return;
@@ -69,9 +69,10 @@ fn fill_level(
     base: usize,
     low: usize,
 )
-    requires { ⌜ Ready q (now heights) (now bounds) (now parts) (now counts) (now left) (length (now work)) base low (pointOf s) ⌝ }
-    ensures { λ _. ⌜ Others (now (work .entry)) (now (work .exit)) base (levelSize q (now (heights .entry))) ⌝ }
-    ensures { λ _. ⌜ ((p : model.Strip) → Shaped (length (now (heights .entry))) (q .colours) p → RowFilled q (now (heights .entry)) (now (bounds .entry)) (now (parts .entry)) (now (counts .entry)) (now (left .entry)) (now (work .entry)) (now (work .exit)) base low (pointOf s) p) ⌝ }
+    ghost { Level }
+    requires { λ l. ⌜ level (onRows q (now heights) (now bounds) (now parts) (now counts)) (now left) (pointOf s) base low ≡ l ⌝ }
+    requires { λ l. ⌜ LevelReady l (length (now work)) ⌝ }
+    ensures { λ l _. ⌜ LevelFilled l (now (work .entry)) (now (work .exit)) ⌝ }
 {
     let ends = (heights.len() as u32) + 1;
     let mut above = End { slot: 0, colour: 0 };
@@ -96,8 +97,7 @@ fn fill_level(
 // Zeros a level.
 fn zero_level(work: &mut [u32], base: usize, size: usize)
     requires { ⌜ base + size ≤ length (now work) ⌝ }
-    ensures { λ _. ⌜ Others (now (work .entry)) (now (work .exit)) base size ⌝ }
-    ensures { λ _. ⌜ ((i : ℕ) → i < size → getD (now (work .exit)) (base + i) 0 ≡ 0) ⌝ }
+    ensures { λ _. ⌜ RowIs base size (λ i. 0) (now (work .entry)) (now (work .exit)) ⌝ }
 {
     let mut i: usize = 0;
     while i < size {
@@ -122,15 +122,14 @@ fn fill_site(
     size: usize,
     j: usize,
 )
-    requires { ⌜ Given q (now heights) (now bounds) (now radices) (now draws) (now xs) (now ys) (now cs) (length (now work)) ⌝ }
-    requires { ⌜ Splits (now radices) (q .budgets) (now parts) (now counts) ⌝ }
-    requires { ⌜ (j < length (now xs)) × (size ≡ levelSize q (now heights)) ⌝ }
-    ensures { λ _. ⌜ Others (now (work .entry)) (now (work .exit)) (j * size) size ⌝ }
-    ensures { λ _. ⌜ (LevelMarked (instanceBy q (now (heights .entry)) (now (bounds .entry)) (now (radices .entry)) (now (draws .entry))) q (pointsBy (now (xs .entry)) (now (ys .entry)) (now (cs .entry))) j (now (work .entry)) (j * size) → LevelRight (instanceBy q (now (heights .entry)) (now (bounds .entry)) (now (radices .entry)) (now (draws .entry))) q (pointsBy (now (xs .entry)) (now (ys .entry)) (now (cs .entry))) (j + 1) (now (work .entry)) ((j + 1) * size) → LevelRight (instanceBy q (now (heights .entry)) (now (bounds .entry)) (now (radices .entry)) (now (draws .entry))) q (pointsBy (now (xs .entry)) (now (ys .entry)) (now (cs .entry))) j (now (work .exit)) (j * size)) ⌝ }
+    ghost { Given }
+    requires { λ g. ⌜ given q (now heights) (now bounds) (now radices) (now draws) (now xs) (now ys) (now cs) [] (now parts) (now counts) ≡ g ⌝ }
+    requires { λ g. ⌜ TableReady g (length (now work)) × LevelAt g size j ⌝ }
+    ensures { λ g _. ⌜ SiteFilled g size j (now (work .entry)) (now (work .exit)) ⌝ }
 {
     let s = rows::site_at(xs, ys, cs, j);
     let draw = words::get(draws, s.c);
-    let mut left = [0u8; 64];
+    let mut left = [0u8; BUDGETS_LENGTH];
     list_left(radices, draw, q.budgets as usize, &mut left);
     fill_level(
         work,
@@ -160,10 +159,10 @@ pub fn fill_table(
     ys: &[u32],
     cs: &[u32],
 )
-    requires { ⌜ Given q (now heights) (now bounds) (now radices) (now draws) (now xs) (now ys) (now cs) (length (now work)) ⌝ }
-    requires { ⌜ Splits (now radices) (q .budgets) (now parts) (now counts) ⌝ }
-    ensures { λ _. ⌜ TableOf (instanceBy q (now (heights .entry)) (now (bounds .entry)) (now (radices .entry)) (now (draws .entry))) (q .colours) (q .budgets) (pointsBy (now (xs .entry)) (now (ys .entry)) (now (cs .entry))) (now (work .exit)) ⌝ }
-    ensures { λ _. ⌜ drop ((length (now (xs .entry)) + 1) * levelSize q (now (heights .entry))) (now (work .exit)) ≡ drop ((length (now (xs .entry)) + 1) * levelSize q (now (heights .entry))) (now (work .entry)) ⌝ }
+    ghost { Given }
+    requires { λ g. ⌜ given q (now heights) (now bounds) (now radices) (now draws) (now xs) (now ys) (now cs) [] (now parts) (now counts) ≡ g ⌝ }
+    requires { λ g. ⌜ TableReady g (length (now work)) ⌝ }
+    ensures { λ g _. ⌜ TableRight g (now (work .entry)) (now (work .exit)) ⌝ }
 {
     let rows = rows::rows_of(q, heights.len());
     let size = rows * (q.budgets as usize);

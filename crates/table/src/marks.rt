@@ -1,15 +1,12 @@
 // Marks, in the first word of its row, each strip that the whole sheet leads to, level by level from the first down.
 ghost use mathlib.Core.Path.{_≡_};
-ghost use mathlib.Core.Bool.{true};
-ghost use Prim.Native.Nat.{ℕ, _+_, _*_, _<_, _≤_};
-ghost use lib.ListN.{length, getD};
-ghost use Rattle.optimum.specs.Strips as model;
-ghost use Rattle.optimum.specs.Reached.{Asks, noPoint};
-ghost use Rattle.arrays.specs.Arrays.{pointsBy};
-ghost use Rattle.strips.specs.Strips.{instanceOn, Framed, Stands};
-ghost use Rattle.rows.specs.Rows.{stripOf, pointOf, rowsOf, levelSize, Lies, endPlace};
-ghost use Rattle.table.specs.Marks.{Shaped, Ready, Led, Sites, ReachMarked};
-ghost use Rattle.rows.specs.Parts.{Marked, Marking, LevelFits, PartsMarked};
+ghost use mathlib.Core.List.{[]};
+ghost use Prim.Native.Nat.{_*_, _<_, _≤_};
+ghost use lib.ListN.{length};
+ghost use Rattle.arrays.specs.Given.{Given, onStrip, OfSheet, Bounded};
+ghost use Rattle.rows.specs.Rows.{stripOf, pointOf, rowsOf};
+ghost use Rattle.table.specs.Marks.{Level, level, wordsIn, Ready, EndIn, MarksCleared, StripMarked, WindowMarked, StripFits, MarkReady, RowLed, EndLed, LevelLed};
+ghost use Rattle.table.specs.Marks.{onSites, TableFits, LevelAt, SiteLed, SheetMarked};
 use arrays::Measures;
 use rows::End;
 use rows::Site;
@@ -20,9 +17,8 @@ use words::less;
 
 // Marks a strip, if it is to be.
 fn mark_own(work: &mut [u32], q: Measures, m: usize, p: Strip, low: usize, stays: bool)
-    requires { ⌜ LevelFits q m low (length (now work)) × Lies m (q .colours) (stripOf p) ⌝ }
-    ensures { λ _. ⌜ Marking (now (work .entry)) (now (work .exit)) low (rowsOf m (q .colours) * q .budgets) ⌝ }
-    ensures { λ _. ⌜ (stays ≡ true → Marked (now (work .exit)) low m (q .colours) (q .budgets) (stripOf p)) ⌝ }
+    requires { ⌜ StripFits q m low (stripOf p) (length (now work)) ⌝ }
+    ensures { λ _. ⌜ StripMarked q m low (stripOf p) stays (now (work .entry)) (now (work .exit)) ⌝ }
 {
     if !stays {
         return;
@@ -41,10 +37,9 @@ fn mark_window(
     low: usize,
     window: Window,
 )
-    requires { ⌜ LevelFits q m low (length (now work)) × Lies m (q .colours) (stripOf p) ⌝ }
+    requires { ⌜ StripFits q m low (stripOf p) (length (now work)) ⌝ }
     requires { ⌜ (s .c < q .colours) × (window .from < window .to → window .to < p .b) ⌝ }
-    ensures { λ _. ⌜ Marking (now (work .entry)) (now (work .exit)) low (rowsOf m (q .colours) * q .budgets) ⌝ }
-    ensures { λ _. ⌜ ((k : ℕ) → window .from ≤ k → k < window .to → PartsMarked q (now (work .exit)) low m (stripOf p) (pointOf s) k) ⌝ }
+    ensures { λ _. ⌜ WindowMarked q m low (stripOf p) (pointOf s) window (now (work .entry)) (now (work .exit)) ⌝ }
 {
     let mut k = window.from;
     while k < window.to {
@@ -64,32 +59,23 @@ fn mark_row(
     at: usize,
     low: usize,
 )
-    requires { ⌜ Framed q (now heights) (now bounds) × Stands (q .colours) (pointOf s) ⌝ }
-    requires { ⌜ LevelFits q (length (now heights)) low (length (now work)) × Lies (length (now heights)) (q .colours) (stripOf p) ⌝ }
-    requires { ⌜ at < length (now work) ⌝ }
-    ensures { λ _. ⌜ Marking (now (work .entry)) (now (work .exit)) low (levelSize q (now (heights .entry))) ⌝ }
-    ensures { λ _. ⌜ (getD (now (work .entry)) at 0 ≡ 1 → (x : model.Strip) → Asks (instanceOn q (now (heights .entry)) (now (bounds .entry))) (stripOf p) (pointOf s) x → Marked (now (work .exit)) low (length (now (heights .entry))) (q .colours) (q .budgets) x) ⌝ }
+    ghost { Level }
+    requires { λ l. ⌜ level (onStrip q (now heights) (now bounds)) [] (pointOf s) at low ≡ l ⌝ }
+    requires { λ l. ⌜ MarkReady l (stripOf p) (length (now work)) ⌝ }
+    ensures { λ l _. ⌜ RowLed l (stripOf p) (now (work .entry)) (now (work .exit)) ⌝ }
 {
     if work[at] != 1 {
         return;
     }
     let m = heights.len();
-    if !strips::is_inside(q, heights, bounds, p, s) {
+    if !strips::is_inside(heights, p, s) {
         mark_own(work, q, m, p, low, true);
         return;
     }
-    let joins = less(strips::join_least(q, heights, bounds, p, s), NONE);
+    let joins = less(strips::join_least(q, heights, p, s), NONE);
     mark_own(work, q, m, p, low, joins);
     if strips::site_opens(q, heights, bounds, p, s) {
-        mark_window(
-            work,
-            q,
-            m,
-            p,
-            s,
-            low,
-            strips::open_window(q, heights, bounds, p, s),
-        );
+        mark_window(work, q, m, p, s, low, strips::open_window(q, heights, p, s));
     }
 }
 
@@ -104,10 +90,10 @@ fn follow_below(
     base: usize,
     low: usize,
 )
-    requires { ⌜ Ready q (now heights) (now bounds) (length (now work)) base low (pointOf s) ⌝ }
-    requires { ⌜ (above .slot ≤ length (now heights)) × (above .colour ≤ q .colours) ⌝ }
-    ensures { λ _. ⌜ Marking (now (work .entry)) (now (work .exit)) low (levelSize q (now (heights .entry))) ⌝ }
-    ensures { λ _. ⌜ ((p : model.Strip) → Shaped (length (now (heights .entry))) (q .colours) p → endPlace (q .colours) (p .a) (p .ca) ≡ endPlace (q .colours) (above .slot) (above .colour) → Led (instanceOn q (now (heights .entry)) (now (bounds .entry))) q (now (work .entry)) (now (work .exit)) base low (pointOf s) p) ⌝ }
+    ghost { Level }
+    requires { λ l. ⌜ level (onStrip q (now heights) (now bounds)) [] (pointOf s) base low ≡ l ⌝ }
+    requires { λ l. ⌜ Ready l (wordsIn l) (length (now work)) × Bounded (l .arrays) × EndIn l above ⌝ }
+    ensures { λ l _. ⌜ EndLed l above (now (work .entry)) (now (work .exit)) ⌝ }
 {
     if !rows::is_upper_end(above) {
         return;
@@ -138,9 +124,10 @@ fn follow_level(
     base: usize,
     low: usize,
 )
-    requires { ⌜ Ready q (now heights) (now bounds) (length (now work)) base low (pointOf s) ⌝ }
-    ensures { λ _. ⌜ Marking (now (work .entry)) (now (work .exit)) low (levelSize q (now (heights .entry))) ⌝ }
-    ensures { λ _. ⌜ ((p : model.Strip) → Shaped (length (now (heights .entry))) (q .colours) p → Led (instanceOn q (now (heights .entry)) (now (bounds .entry))) q (now (work .entry)) (now (work .exit)) base low (pointOf s) p) ⌝ }
+    ghost { Level }
+    requires { λ l. ⌜ level (onStrip q (now heights) (now bounds)) [] (pointOf s) base low ≡ l ⌝ }
+    requires { λ l. ⌜ Ready l (wordsIn l) (length (now work)) × Bounded (l .arrays) ⌝ }
+    ensures { λ l _. ⌜ LevelLed l (now (work .entry)) (now (work .exit)) ⌝ }
 {
     let ends = (heights.len() as u32) + 1;
     let mut above = End { slot: 0, colour: 0 };
@@ -153,8 +140,7 @@ fn follow_level(
 // Clears the first word of each of so many rows.
 fn clear_marks(work: &mut [u32], rows: usize, n: usize)
     requires { ⌜ (rows * n ≤ length (now work)) × (0 < n) ⌝ }
-    ensures { λ _. ⌜ ((r : ℕ) → r < rows → getD (now (work .exit)) (r * n) 0 ≡ 0) ⌝ }
-    ensures { λ _. ⌜ ((i : ℕ) → rows * n ≤ i → getD (now (work .exit)) i 0 ≡ getD (now (work .entry)) i 0) ⌝ }
+    ensures { λ _. ⌜ MarksCleared rows n (now (work .entry)) (now (work .exit)) ⌝ }
 {
     let mut at: usize = 0;
     let mut r: usize = 0;
@@ -177,10 +163,10 @@ fn mark_site(
     size: usize,
     j: usize,
 )
-    requires { ⌜ Framed q (now heights) (now bounds) × Sites q (now xs) (now ys) (now cs) ⌝ }
-    requires { ⌜ (size ≡ levelSize q (now heights)) × ((length (now xs) + 1) * size ≤ length (now work)) × (j < length (now xs)) ⌝ }
-    ensures { λ _. ⌜ Marking (now (work .entry)) (now (work .exit)) ((j + 1) * size) size ⌝ }
-    ensures { λ _. ⌜ ((p : model.Strip) → Shaped (length (now (heights .entry))) (q .colours) p → Led (instanceOn q (now (heights .entry)) (now (bounds .entry))) q (now (work .entry)) (now (work .exit)) (j * size) ((j + 1) * size) (getD (pointsBy (now (xs .entry)) (now (ys .entry)) (now (cs .entry))) j noPoint) p) ⌝ }
+    ghost { Given }
+    requires { λ g. ⌜ onSites q (now heights) (now bounds) (now xs) (now ys) (now cs) ≡ g ⌝ }
+    requires { λ g. ⌜ OfSheet g × Bounded g × TableFits g (length (now work)) × LevelAt g size j ⌝ }
+    ensures { λ g _. ⌜ SiteLed g size j (now (work .entry)) (now (work .exit)) ⌝ }
 {
     let s = rows::site_at(xs, ys, cs, j);
     follow_level(work, q, heights, bounds, s, j * size, (j + 1) * size);
@@ -197,10 +183,10 @@ pub fn mark_table(
     cs: &[u32],
     rows: usize,
 )
-    requires { ⌜ Framed q (now heights) (now bounds) × Sites q (now xs) (now ys) (now cs) ⌝ }
-    requires { ⌜ (rows ≡ rowsOf (length (now heights)) (q .colours)) × ((length (now xs) + 1) * levelSize q (now heights) ≤ length (now work)) ⌝ }
-    ensures { λ _. ⌜ ReachMarked (instanceOn q (now (heights .entry)) (now (bounds .entry))) q (pointsBy (now (xs .entry)) (now (ys .entry)) (now (cs .entry))) (now (work .exit)) (levelSize q (now (heights .entry))) (length (now (xs .entry)) + 1) ⌝ }
-    ensures { λ _. ⌜ ((i : ℕ) → (length (now (xs .entry)) + 1) * levelSize q (now (heights .entry)) ≤ i → getD (now (work .exit)) i 0 ≡ getD (now (work .entry)) i 0) ⌝ }
+    ghost { Given }
+    requires { λ g. ⌜ onSites q (now heights) (now bounds) (now xs) (now ys) (now cs) ≡ g ⌝ }
+    requires { λ g. ⌜ OfSheet g × Bounded g × TableFits g (length (now work)) × (rows ≡ rowsOf (length (now heights)) (q .colours)) ⌝ }
+    ensures { λ g _. ⌜ SheetMarked g (now (work .entry)) (now (work .exit)) ⌝ }
 {
     let n = q.budgets as usize;
     let size = rows * n;

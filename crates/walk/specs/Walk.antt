@@ -9,7 +9,7 @@ use Rattle.optimum.specs.OneSided.{topWord, writeTies}
 use Rattle.arrays.specs.declared.Measures.{Measures}
 use Rattle.rows.specs.Budgets.{Splits}
 use Rattle.rows.specs.Rest.{levelSize, restRows}
-use Rattle.strips.specs.Steps.{SheetArrays, SiteIn}
+use Rattle.arrays.specs.Given.{onStep, OfSheet, Bounded, SiteIn}
 
 -- each step of the walk by these values finds its slot
 unfoldable pub Found : {X Site : Type 0} (G : Process X Site) → (X → List Site → ℕ) → X → List Site → Type 0
@@ -22,7 +22,8 @@ valueIn P parts counts work C R n x ss = restRows parts counts work ((n - length
 
 -- ---- what is asked besides: lists say what may be taken from each budget, the sites come by rising rank, a table fits the work area
 pub record WalkArrays (q : Measures) (heights bounds radices draws parts counts work xs ys colours order : List ℕ) : Type 0 where
-  pub sheet : SheetArrays q heights bounds radices draws
+  pub sheet : OfSheet (onStep q heights bounds radices draws)
+  pub bounded : Bounded (onStep q heights bounds radices draws)
   pub splits : Splits radices (q .budgets) parts counts
   pub fewSites : length order ≤ 32
   pub xsLong : length xs ≡ length order

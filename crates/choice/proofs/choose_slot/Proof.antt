@@ -22,12 +22,12 @@ abbrev μ-loop : tie.MeasureT-loop
 
 cast-m : tie.Need-cast-m Inv-loop μ-loop
 cast-m c =
-    omega (arith, c .before .before .before .before .before .before .before .before .pre .0 .fewSlots)
+    omega (arith, c .before .before .before .before .before .before .before .before .pre .0 .0 .fewSlots)
 
 add-c : tie.Need-add-c Inv-loop μ-loop
 add-c c =
     let p = c .before .before .before .before .before .before .before .before .before .pre in
-    omega (arith, p .0 .fewColours, p .1 .1 .0 .colourLow)
+    omega (arith, p .0 .0 .fewColours, p .1 .1 .0 .colourLow)
 
 loop-holds : tie.Need-loop-holds Inv-loop μ-loop
 loop-holds c =
@@ -36,7 +36,7 @@ loop-holds c =
 step-of-requires : tie.Need-step-of-requires Inv-loop μ-loop
 step-of-requires c κs =
     let p = c .before .before .before .before .before .before .before .before .before .before .before .pre in
-    (p .0, (p .1 .1 .0, omega (arith, p .0 .fewSlots, c .loop-test .taken)))
+    (p .0 .0, p .0 .1, p .1 .1 .0, omega (arith, p .0 .0 .fewSlots, c .loop-test .taken))
 
 keeps-cost-requires : tie.Need-keeps-cost-requires Inv-loop μ-loop
 keeps-cost-requires c κs =
@@ -57,7 +57,8 @@ returns c =
     (tried-found _ _ _ (l .inv .1) (c .before .before .before .before .before .before .loop-test .taken) (sym k ∙ c .if1 .taken), c .before .before .before .keeps-cost .ensures .1 ∙ l .inv .0)
 
 add-k : tie.Need-add-k Inv-loop μ-loop
-add-k c = search needs
+add-k c =
+    omega (arith, c .before .before .before .before .before .before .loop-test .taken, c .before .before .before .before .before .before .before .before .before .before .before .before .before .before .before .before .before .pre .0 .0 .fewSlots)
 
 loop-less : tie.Need-loop-less Inv-loop μ-loop
 loop-less c = search needs

@@ -1,3 +1,4 @@
+use Rattle.arrays.proofs.Narrowed.{no-order}
 use Rattle.onesided.proofs.Facts.{filled-is, wiped-same, wipes-is}
 use mathlib.Core.Path.{refl, _∙_}
 use Prim.Native.Nat.{_-_}
@@ -18,11 +19,11 @@ slice-aggregate-list-splits-2 c = search needs
 
 list-splits-requires : tie.Need-list-splits-requires
 list-splits-requires c κs =
-    let g = c .before .before .before .before .before .before .before .before .before .before .before .before .before .pre .0 in (g .divides, (g .framed .budgetsFew, refl, refl))
+    let g = c .before .before .before .before .before .before .before .before .before .before .before .before .before .pre .0 .sheet in (g .divides, (g .fewBudgets, refl, refl))
 
 fill-table-requires : tie.Need-fill-table-requires
 fill-table-requires c κs =
-    (c .before .before .before .before .before .before .before .before .before .before .before .before .before .before .before .before .before .before .before .pre .0, c .before .before .before .before .before .list-splits .ensures)
+    let g = c .before .before .before .before .before .before .before .before .before .before .before .before .before .before .before .before .before .before .before .pre .0 in record { sheet = no-order (g .sheet); bounded = g .bounded; splits = c .before .before .before .before .before .list-splits .ensures; fits = g .fits }
 
 lay-least-requires : tie.Need-lay-least-requires
 lay-least-requires c κs =
@@ -31,11 +32,11 @@ lay-least-requires c κs =
 
 level-size-requires : tie.Need-level-size-requires
 level-size-requires c κs =
-    let f = c .before .before .before .before .before .before .before .before .before .before .before .before .before .before .before .before .before .before .before .before .before .before .before .before .before .before .before .pre .0 .framed in (f .slotsFew, f .coloursFew, f .budgetsFew)
+    let f = c .before .before .before .before .before .before .before .before .before .before .before .before .before .before .before .before .before .before .before .before .before .before .before .before .before .before .before .pre .0 .sheet in (f .fewSlots, f .fewColours, f .fewBudgets)
 
 add-zero-part : tie.Need-add-zero-part
 add-zero-part c =
-    let p = c .before .before .before .before .before .before .before .before .before .before .before .before .before .before .before .before .before .before .before .before .before .before .before .before .before .before .before .before .before .pre in omega (arith, p .1 .long, p .0 .sites .sitesFew)
+    let p = c .before .before .before .before .before .before .before .before .before .before .before .before .before .before .before .before .before .before .before .before .before .before .before .before .before .before .before .before .before .pre in omega (arith, p .1 .long, p .0 .sheet .fewSites)
 
 mul-zero-part : tie.Need-mul-zero-part
 mul-zero-part c =

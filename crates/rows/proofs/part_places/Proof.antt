@@ -22,22 +22,22 @@ add-t10-2 c = search needs
 row-place-requires : tie.Need-row-place-requires
 row-place-requires c κs =
     let p = c .before .pre in
-    ((p .0 .0, p .0 .1, p .0 .2), upper-lies _ _ (stripOf (c .before .args .p)) (pointOf (c .before .args .s)) (c .before .args .k) (p .1 .0) (p .1 .1) (p .1 .2))
+    ((p .0 .fewSlots, p .0 .fewColours, p .0 .fewBudgets), upper-lies _ _ (stripOf (c .before .args .p)) (pointOf (c .before .args .s)) (c .before .args .k) (p .1 .0) (p .1 .1) (p .1 .2))
 
 add-t12 : tie.Need-add-t12
 add-t12 c =
     let p = c .before .before .pre in
-    omega (arith, c .row-place .ensures, p .0 .3, row-fits _ _ (c .before .before .args .q .budgets) _ (upper-lies _ _ (stripOf (c .before .before .args .p)) (pointOf (c .before .before .args .s)) (c .before .before .args .k) (p .1 .0) (p .1 .1) (p .1 .2)))
+    omega (arith, c .row-place .ensures, p .0 .within, row-fits _ _ (c .before .before .args .q .budgets) _ (upper-lies _ _ (stripOf (c .before .before .args .p)) (pointOf (c .before .before .args .s)) (c .before .before .args .k) (p .1 .0) (p .1 .1) (p .1 .2)))
 
 row-place-requires-2 : tie.Need-row-place-requires-2
 row-place-requires-2 c κs =
     let p = c .before .before .pre in
-    ((p .0 .0, p .0 .1, p .0 .2), lower-lies _ _ (stripOf (c .before .before .args .p)) (pointOf (c .before .before .args .s)) (c .before .before .args .k) (p .1 .0) (p .1 .1) (p .1 .2))
+    ((p .0 .fewSlots, p .0 .fewColours, p .0 .fewBudgets), lower-lies _ _ (stripOf (c .before .before .args .p)) (pointOf (c .before .before .args .s)) (c .before .before .args .k) (p .1 .0) (p .1 .1) (p .1 .2))
 
 add-t14 : tie.Need-add-t14
 add-t14 c =
     let p = c .before .before .before .pre in
-    omega (arith, c .row-place2 .ensures, p .0 .3, row-fits _ _ (c .before .before .before .args .q .budgets) _ (lower-lies _ _ (stripOf (c .before .before .before .args .p)) (pointOf (c .before .before .before .args .s)) (c .before .before .before .args .k) (p .1 .0) (p .1 .1) (p .1 .2)))
+    omega (arith, c .row-place2 .ensures, p .0 .within, row-fits _ _ (c .before .before .before .args .q .budgets) _ (lower-lies _ _ (stripOf (c .before .before .before .args .p)) (pointOf (c .before .before .before .args .s)) (c .before .before .before .args .k) (p .1 .0) (p .1 .1) (p .1 .2)))
 
 returns : tie.Need-returns
 returns c =

@@ -10,7 +10,7 @@ use Rattle.search.specs.Cost.{plus}
 use Rattle.optimum.specs.OneSided.{topWord}
 use Rattle.optimum.specs.Strips.{Point, Strip}
 use Rattle.arrays.specs.declared.Measures.{Measures}
-use Rattle.rows.specs.Rows.{rowOf, rowsOf, rowIn, Lies, upperPart, lowerPart}
+use Rattle.rows.specs.Rows.{rowOf, rowsOf, rowIn, mostPlace, Lies, upperPart, lowerPart}
 use Rattle.rows.proofs.Places.{row-fits, upper-lies, lower-lies}
 use Rattle.rows.specs.Parts.{partsCost, Marked, Marking, PartsMarked, LevelFits}
 
@@ -35,7 +35,7 @@ marking-set old low size at l u h = record {
 -- a strip's row in a level with room
 module _ {q : Measures} {m low area : ℕ} (r : LevelFits q m low area) (p : Strip) (l : Lies m (q .colours) p) where
   pub own-low : low + rowOf m (q .colours) p * q .budgets < low + rowsOf m (q .colours) * q .budgets
-  own-low = omega (arith, row-fits m (q .colours) (q .budgets) p l, r .budgetsSome)
+  own-low = omega (arith, row-fits m (q .colours) (q .budgets) p l, r .someBudget)
 
   pub own-within : low + rowOf m (q .colours) p * q .budgets < area
   own-within = omega (arith, own-low, r .within)
@@ -47,6 +47,11 @@ module _ {q : Measures} {m low area : ℕ} (r : LevelFits q m low area) (p : Str
   pub own-marked : (old : List ℕ) (at : ℕ) → area ≡ length old → at ≡ low + rowOf m (q .colours) p * q .budgets → Marked (set old at 1) low m (q .colours) (q .budgets) p
   own-marked old at a e = rw (← e) (getD-set-same old at 1 0 (omega (arith, e, a, own-within)))
 
+-- its places are numbers that code holds
+pub fits-place : {q : Measures} {m low area : ℕ} → LevelFits q m low area → low + rowsOf m (q .colours) * q .budgets ≤ mostPlace → LevelFits q m low mostPlace
+fits-place r h =
+    record { fewSlots = r .fewSlots; fewColours = r .fewColours; fewBudgets = r .fewBudgets; someBudget = r .someBudget; within = h }
+
 -- what is marked stays so
 pub parts-kept : (q : Measures) (old new : List ℕ) (low m size : ℕ) (p : Strip) (s : Point) {k : ℕ} → Marking old new low size → PartsMarked q old low m p s k → PartsMarked q new low m p s k
 parts-kept q old new low m size p s f h = record { upper = f .kept _ (h .upper); lower = f .kept _ (h .lower) }
@@ -54,11 +59,11 @@ parts-kept q old new low m size p s f h = record { upper = f .kept _ (h .upper);
 -- the rows of the two parts that a label at slot k leaves of a strip
 module _ {q : Measures} {m low area : ℕ} (r : LevelFits q m low area) (p : Strip) (s : Point) (k : ℕ) (l : Lies m (q .colours) p) (c : s .c < q .colours) (b : k + 1 < p .b) (upper lower : ℕ)
     (u : upper ≡ low + rowOf m (q .colours) (upperPart p s k) * q .budgets) (w : lower ≡ low + rowOf m (q .colours) (lowerPart p s k) * q .budgets) where
-  pub upper-within : upper < area
-  upper-within = omega (arith, u, own-within r (upperPart p s k) (upper-lies m (q .colours) p s k l c b))
-
-  pub lower-within : lower < area
-  lower-within = omega (arith, w, own-within r (lowerPart p s k) (lower-lies m (q .colours) p s k l c b))
+  pub both-within : (upper < area) × (lower < area)
+  both-within = (
+    omega (arith, u, own-within r (upperPart p s k) (upper-lies m (q .colours) p s k l c b)),
+    omega (arith, w, own-within r (lowerPart p s k) (lower-lies m (q .colours) p s k l c b)),
+  )
 
   pub parts-cost : (work : List ℕ) (t : ℕ) → t ≡ plus topWord (getD work upper 0) (getD work lower 0) → t ≡ partsCost (rowIn work low m (q .colours) (q .budgets)) p s k
   parts-cost work t f =

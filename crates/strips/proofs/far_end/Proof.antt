@@ -10,10 +10,10 @@ use Rattle.strips.proofs.far_end.Statement.{statement}
 use Rattle.strips.proofs.far_end.Tie as tie
 
 abbrev Inv-loop : tie.InvT-loop
-Inv-loop q heights bounds p from c k₀ k = (0 < k → k < p .b) × ((j : ℕ) → k ≤ j → j + 1 < p .b → farFrom (slotsBy q heights) (p .b) (p .cb) j c ≡ false)
+Inv-loop q heights p from c k₀ k = (0 < k → k < p .b) × ((j : ℕ) → k ≤ j → j + 1 < p .b → farFrom (slotsBy q heights) (p .b) (p .cb) j c ≡ false)
 
 abbrev μ-loop : tie.MeasureT-loop
-μ-loop q heights bounds p from c k₀ k = k - from
+μ-loop q heights p from c k₀ k = k - from
 
 add-c : tie.Need-add-c Inv-loop μ-loop
 add-c c = search needs

@@ -10,10 +10,10 @@ use Rattle.strips.proofs.first_far.Statement.{statement}
 use Rattle.strips.proofs.first_far.Tie as tie
 
 abbrev Inv-loop : tie.InvT-loop
-Inv-loop q heights bounds p c end k₀ k = (p .a ≤ k) × (p .a < k → k < p .b) × ((j : ℕ) → p .a ≤ j → j < k → farFrom (slotsBy q heights) (p .a) (p .ca) j c ≡ false)
+Inv-loop q heights p c end k₀ k = (p .a ≤ k) × (p .a < k → k < p .b) × ((j : ℕ) → p .a ≤ j → j < k → farFrom (slotsBy q heights) (p .a) (p .ca) j c ≡ false)
 
 abbrev μ-loop : tie.MeasureT-loop
-μ-loop q heights bounds p c end k₀ k = end - k
+μ-loop q heights p c end k₀ k = end - k
 
 add-c : tie.Need-add-c Inv-loop μ-loop
 add-c c = search needs

@@ -22,7 +22,7 @@ both-requires c κs = search needs
 returns : tie.Need-returns
 unfolding inside
 returns c =
-    rw (c .both .ensures, c .before .is-under .ensures, c .before .before .is-over .ensures) refl
+    λ q bs. rw (c .both .ensures, c .before .is-under .ensures q, c .before .before .is-over .ensures q) refl
 
 pub is-inside-spec : {M : Type 1} → statement M
 is-inside-spec = tie.close (tie.spec is-over-requires is-under-requires both-requires returns)

@@ -18,7 +18,7 @@ apart-of-requires c κs = search needs
 
 cost-word-requires : tie.Need-cost-word-requires
 cost-word-requires c κs =
-    omega (arith, c .before .before .before .pre .heightLow (c .before .before .before .args .k))
+    let p = c .before .before .before .pre in omega (arith, p .0 .narrow, p .0 .heightLow (c .before .before .before .args .k), p .1 .yLow)
 
 returns : tie.Need-returns
 returns c =

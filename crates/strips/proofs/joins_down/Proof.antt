@@ -36,7 +36,7 @@ both-requires-3 c κs = search needs
 
 returns : tie.Need-returns
 returns c =
-    rw (c .both3 .ensures, c .before .is-clear .ensures, c .before .before .both2 .ensures, c .before .before .before .same2 .ensures, c .before .before .before .before .before .both .ensures, c .before .before .before .before .before .before .same .ensures, joins-down-by) refl
+    λ bs. rw (c .both3 .ensures, c .before .is-clear .ensures, c .before .before .both2 .ensures, c .before .before .before .same2 .ensures, c .before .before .before .before .before .both .ensures, c .before .before .before .before .before .before .same .ensures, joins-down-by) refl
 
 pub joins-down-spec : {M : Type 1} → statement M
 joins-down-spec =

@@ -36,7 +36,7 @@ both-requires-2 c κs = search needs
 returns : tie.Need-returns
 unfolding joinsUp
 returns c =
-    rw (← (add-one (c .before .before .before .before .before .before .before .before .args .s .c)), ← (add-one (c .before .before .before .before .before .before .before .before .args .k)), and-true, c .both2 .ensures, c .before .is-clear .ensures, c .before .before .both .ensures, c .before .before .before .same2 .ensures, c .before .before .before .before .before .same .ensures) refl
+    λ bs. rw (← (add-one (c .before .before .before .before .before .before .before .args .s .c)), ← (add-one (c .before .before .before .before .before .before .before .args .k)), and-true, c .both2 .ensures, c .before .is-clear .ensures, c .before .before .both .ensures, c .before .before .before .same2 .ensures, c .before .before .before .before .before .same .ensures) refl
 
 pub joins-up-spec : {M : Type 1} → statement M
 joins-up-spec =

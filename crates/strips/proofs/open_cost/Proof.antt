@@ -22,11 +22,11 @@ apart-of-requires c κs = search needs
 
 add-cost-word : tie.Need-add-cost-word
 add-cost-word c =
-    omega (arith, c .before .before .before .before .pre .heightLow (c .before .before .before .before .args .k))
+    let p = c .before .before .before .before .pre in omega (arith, p .0 .narrow, p .0 .heightLow (c .before .before .before .before .args .k), p .1 .yLow)
 
 cost-word-requires : tie.Need-cost-word-requires
 cost-word-requires c κs =
-    omega (arith, c .before .before .before .before .pre .heightLow (c .before .before .before .before .args .k))
+    let p = c .before .before .before .before .pre in omega (arith, p .0 .narrow, p .0 .heightLow (c .before .before .before .before .args .k), p .1 .yLow)
 
 returns : tie.Need-returns
 returns c =

@@ -19,10 +19,10 @@ use Rattle.optimum.specs.OneSided.{topWord}
 use Rattle.optimum.specs.Cells.{cellOf, splitCells, stepCell}
 use Rattle.optimum.proofs.Loops.{at-drop}
 use Rattle.arrays.specs.declared.Measures.{Measures}
-use Rattle.arrays.specs.Arrays.{instanceBy}
+use Rattle.arrays.specs.Arrays.{slotsBy, instanceBy}
 use Rattle.strips.specs.Strips.{instanceOn, gapLeft, siteOpens, openCost, joinCost, joinLeast}
 use Rattle.strips.proofs.Decisions.{inside-on, opens-on, joins-up-on, joins-down-on}
-use Rattle.rows.specs.Budgets.{Within, Splits, partAt, splitBy, leftBy}
+use Rattle.rows.specs.Budgets.{Within, Splits, partAt, splitBy, leftBy, notDrawn}
 use Rattle.rows.proofs.Splitting.{split-by}
 use Rattle.rows.proofs.Places.{upper-is, lower-is}
 use Rattle.strips.proofs.Joining.{opening, opens-of, shut, up-at, down-at, up-least, down-least}
@@ -70,7 +70,7 @@ module _ (q : Measures) (hs bs rs ds work parts counts left : List ℕ) (low : �
   step k = stepCell P (q .colours) (q .budgets) (drop low work) p s k v
 
   abbrev term : ℕ → ℕ
-  term k = slotTerm q hs bs parts counts left row p s k v
+  term k = slotTerm q hs parts counts left row p s k v
 
   cell : (x : Strip) (w : ℕ) → x .d ≡ 0 → getD (drop low work) (cellOf P (q .colours) (q .budgets) x w) 0 ≡ row x w
   cell x w d =
@@ -96,11 +96,11 @@ module _ (q : Measures) (hs bs rs ds work parts counts left : List ℕ) (low : �
       rw (u, lt-ltb (v - getD ds (s .c) 0) (q .budgets) (omega arith))
       (ap (plus topWord (openCost q hs s k)) (shared (upperPart p s k) (lowerPart p s k) (v - getD ds (s .c) 0) refl refl (omega arith)))
   by-draw k false e =
-      let u : getD left v 0 ≡ 255 = drawn ∙ rw e in
-      rw (u, le-ltb 255 (q .budgets) (omega (arith, splits .within .few)))
+      let u : getD left v 0 ≡ notDrawn = drawn ∙ rw e in
+      rw (u, le-ltb notDrawn (q .budgets) (omega (arith, splits .within .few)))
 
   -- if a part is none at the full budget, so is the label
-  by-part : inside (instanceOn q hs bs) p s ≡ true → (k : ℕ) → opens (instanceOn q hs bs) p s k ≡ true → (t : Bool) → noPart q hs bs parts counts left row p s k ≡ t
+  by-part : inside (instanceOn q hs bs) p s ≡ true → (k : ℕ) → opens (instanceOn q hs bs) p s k ≡ true → (t : Bool) → noPart q hs parts counts left row p s k ≡ t
       → openBy parts counts (q .budgets) (openCost q hs s k) (getD left v 0) (row (upperPart p s k)) (row (lowerPart p s k))
       ≡ cond t topWord (openBy parts counts (q .budgets) (openCost q hs s k) (getD left v 0) (row (upperPart p s k)) (row (lowerPart p s k)))
   by-part i k o false e = refl
@@ -111,7 +111,7 @@ module _ (q : Measures) (hs bs rs ds work parts counts left : List ℕ) (low : �
   step-open : inside (instanceOn q hs bs) p s ≡ true → (k : ℕ) → opens (instanceOn q hs bs) p s k ≡ true → step k ≡ term k
   unfolding stepCell slotTerm
   step-open i k o =
-      rw (opens-on q hs bs rs ds p s k, o, opening q hs bs p s k o .gap, ← (upper-is p s k), ← (lower-is p s k)) (by-draw k (below rs (getD ds (s .c) 0) v) refl ∙ by-part i k o (noPart q hs bs parts counts left row p s k) refl)
+      rw (opens-on q hs bs rs ds p s k, o, opening q hs bs p s k o .gap, ← (upper-is p s k), ← (lower-is p s k)) (by-draw k (below rs (getD ds (s .c) 0) v) refl ∙ by-part i k o (noPart q hs parts counts left row p s k) refl)
 
   step-join : (k : ℕ) → opens (instanceOn q hs bs) p s k ≡ false → joinsUp (instanceOn q hs bs) p s k || joinsDown (instanceOn q hs bs) p s k ≡ true
       → step k ≡ plus topWord (joinCost q hs s k) (row p v)
@@ -132,7 +132,7 @@ module _ (q : Measures) (hs bs rs ds work parts counts left : List ℕ) (low : �
   unfolding insideEntry
   worked-joins = omega arith
 
-  worked-opens : siteOpens (instanceOn q hs bs) p s ≡ true → worked ≤ slotsLeast q hs bs parts counts left row p s (p .b - 1 - p .a) v
+  worked-opens : siteOpens (instanceOn q hs bs) p s ≡ true → worked ≤ slotsLeast q hs parts counts left row p s (p .b - 1 - p .a) v
   unfolding insideEntry
   worked-opens e = rw e (omega arith)
 
@@ -146,7 +146,7 @@ module _ (q : Measures) (hs bs rs ds work parts counts left : List ℕ) (low : �
       (λ o.
       let g = opening q hs bs p s k o in
       let e : p .a + (k - p .a) ≡ k = omega (arith, g .above) in
-      let l : slotsLeast q hs bs parts counts left row p s (p .b - 1 - p .a) v ≤ term (p .a + (k - p .a)) = least-le topWord (p .b - 1 - p .a) (λ j. term (p .a + j)) (k - p .a) (omega (arith, g .above, g .under)) in
+      let l : slotsLeast q hs parts counts left row p s (p .b - 1 - p .a) v ≤ term (p .a + (k - p .a)) = least-le topWord (p .b - 1 - p .a) (λ j. term (p .a + j)) (k - p .a) (omega (arith, g .above, g .under)) in
       rw (step-open i k o) (le-trans (worked-opens (g .site)) (rw e at l)))
       (λ o. by-test (joinsUp (instanceOn q hs bs) p s k || joinsDown (instanceOn q hs bs) p s k)
       (λ j. rw (step-join k o j) (le-trans worked-joins (raised _ _ (row p v) (by-either (or-e _ _ j) (up-least q hs bs p s k h) (down-least q hs bs p s k)))))
@@ -193,20 +193,20 @@ module _ (q : Measures) (hs bs rs ds work parts counts left : List ℕ) (low : �
   unfolding joinLeast
   total-joins = two-sums total _ _ (row p v) total-up total-down
 
-  term-shut : (k : ℕ) → gapLeft (instanceOn q hs bs) p s k ≡ false → term k ≡ topWord
+  term-shut : (k : ℕ) → gapLeft (slotsBy q hs) p s k ≡ false → term k ≡ topWord
   unfolding slotTerm
   term-shut k e = rw e
 
   total-slot : inside (instanceOn q hs bs) p s ≡ true → siteOpens (instanceOn q hs bs) p s ≡ true → (i : ℕ) → i < p .b - 1 - p .a → total ≤ term (p .a + i)
   total-slot e o i h =
-      by-test (gapLeft (instanceOn q hs bs) p s (p .a + i))
+      by-test (gapLeft (slotsBy q hs) p s (p .a + i))
       (λ g.
       let k : p .a + i < length hs = omega (arith, lies .bLow) in
       let t = opens-of q hs bs p s (p .a + i) (record { above = omega arith; under = omega arith; slot = k; gap = g; site = o }) in
       rw (step-open e (p .a + i) t) at (least-le topWord (length hs) step (p .a + i) k))
       (λ g. rw (term-shut (p .a + i) g) (least-le-top topWord (length hs) step))
 
-  total-opens : inside (instanceOn q hs bs) p s ≡ true → total ≤ cond (siteOpens (instanceOn q hs bs) p s) (slotsLeast q hs bs parts counts left row p s (p .b - 1 - p .a) v) topWord
+  total-opens : inside (instanceOn q hs bs) p s ≡ true → total ≤ cond (siteOpens (instanceOn q hs bs) p s) (slotsLeast q hs parts counts left row p s (p .b - 1 - p .a) v) topWord
   total-opens e =
       by-test (siteOpens (instanceOn q hs bs) p s)
       (λ o. rw o (least-most topWord (p .b - 1 - p .a) (λ i. term (p .a + i)) total (least-le-top topWord (length hs) step) (total-slot e o)))

@@ -1,47 +1,53 @@
 -- The rows that a row is filled from: they stand in the level below, and do not change. Assumes nothing.
 use mathlib.Core.Path.{_≡_, fun-ext}
-use mathlib.Core.List.{List}
+use mathlib.Core.List.{List, []}
 use Prim.Native.Nat.{ℕ, _+_, _*_, _-_, _<_, _≤_}
 use native.Mathlib.Omega.{arith}
-use lib.ListN.{length}
-use Rattle.optimum.specs.Strips.{Point, Strip}
-use Rattle.arrays.specs.declared.Measures.{Measures}
+use Rattle.optimum.specs.Strips.{Strip}
+use Rattle.arrays.proofs.Narrowed.{on-slots}
 use Rattle.rows.specs.Budgets.{Others}
 use Rattle.rows.specs.Rows.{rowOf, rowIn, Lies, upperPart, lowerPart}
 use Rattle.rows.proofs.Places.{row-fits, upper-lies, lower-lies}
-use Rattle.table.specs.Entries.{Ready}
+use Rattle.rows.specs.Parts.{LevelFits}
+use Rattle.table.specs.Marks.{Level, level, slotsIn, coloursIn, budgetsIn, Ready}
+use Rattle.table.specs.Entries.{onRows, RowReady, PartsFit}
+use Rattle.table.proofs.marks.Levels.{level-fits}
 
 -- rows past the words that changed are the same
 pub same-rows : (old new : List ℕ) (base count low m C n : ℕ) → base + count ≤ low → Others old new base count → rowIn new low m C n ≡ rowIn old low m C n
 same-rows old new base count low m C n h o = fun-ext (λ p. fun-ext (λ v. o .after _ (omega arith)))
 
--- two rows of n words stand in an area of `size` words, past the row at `base`
-pub record PartsFit (n base size upper lower : ℕ) : Type 0 where
-  pub some : 0 < n
-  pub upperIn : upper + n ≤ size
-  pub lowerIn : lower + n ≤ size
-  pub upperApart : base + n ≤ upper
-  pub lowerApart : base + n ≤ lower
-
 pub last-in : (at n size : ℕ) → 0 < n → at + n ≤ size → at + (n - 1) < size
 last-in at n size h l = omega arith
 
 -- the rows of both parts stand in the level below, and that of the strip itself
-module _ {q : Measures} {hs bs parts counts left : List ℕ} {size base low : ℕ} {s : Point} (r : Ready q hs bs parts counts left size base low s) where
-  pub own-fits : (p : Strip) → Lies (length hs) (q .colours) p → low + rowOf (length hs) (q .colours) p * q .budgets + q .budgets ≤ size
-  own-fits p l = omega (arith, r .within, row-fits (length hs) (q .colours) (q .budgets) p l)
+module _ {l : Level} {area : ℕ} (r : Ready l (budgetsIn l) area) where
+  pub own-fits : (p : Strip) → Lies (slotsIn l) (coloursIn l) p → l .low + rowOf (slotsIn l) (coloursIn l) p * budgetsIn l + budgetsIn l ≤ area
+  own-fits p h = omega (arith, r .within, row-fits (slotsIn l) (coloursIn l) (budgetsIn l) p h)
 
   -- where a label at slot k leaves two parts
-  pub parts-fit : (p : Strip) (k : ℕ) → Lies (length hs) (q .colours) p → k + 1 < p .b → (upper lower : ℕ)
-      → upper ≡ low + rowOf (length hs) (q .colours) (upperPart p s k) * q .budgets → lower ≡ low + rowOf (length hs) (q .colours) (lowerPart p s k) * q .budgets
-      → PartsFit (q .budgets) base size upper lower
-  parts-fit p k l h upper lower e f =
-      let u = own-fits (upperPart p s k) (upper-lies _ _ p s k l (r .stands .colourLow) h) in
-      let w = own-fits (lowerPart p s k) (lower-lies _ _ p s k l (r .stands .colourLow) h) in
+  pub parts-fit : (p : Strip) (k : ℕ) → Lies (slotsIn l) (coloursIn l) p → k + 1 < p .b → (upper lower : ℕ)
+      → upper ≡ l .low + rowOf (slotsIn l) (coloursIn l) (upperPart p (l .site) k) * budgetsIn l → lower ≡ l .low + rowOf (slotsIn l) (coloursIn l) (lowerPart p (l .site) k) * budgetsIn l
+      → PartsFit (budgetsIn l) (l .base) area upper lower
+  parts-fit p k h b upper lower e f =
+      let u = own-fits (upperPart p (l .site) k) (upper-lies _ _ p (l .site) k h (r .site .colourLow) b) in
+      let w = own-fits (lowerPart p (l .site) k) (lower-lies _ _ p (l .site) k h (r .site .colourLow) b) in
       record {
-        some = r .framed .budgetsSome;
+        some = r .sheet .someBudget;
         upperIn = rw e u;
         lowerIn = rw f w;
         upperApart = omega (arith, e, r .apart);
         lowerApart = omega (arith, f, r .apart);
       }
+
+  pub below-fits : LevelFits (l .arrays .measures) (slotsIn l) (l .low) area
+  below-fits = level-fits (r .sheet) (r .within)
+
+-- bounds have no part in where a row stands
+pub no-bounds : {l : Level} {p : Strip} {area : ℕ} → RowReady l p area
+    → RowReady (level (onRows (l .arrays .measures) (l .arrays .heights) [] (l .arrays .parts) (l .arrays .counts)) (l .left) (l .site) (l .base) (l .low)) p area
+no-bounds r = record {
+  ready = record { sheet = on-slots (r .ready .sheet); site = r .ready .site; apart = r .ready .apart; within = r .ready .within };
+  budgets = record { listed = r .budgets .listed; leftLong = r .budgets .leftLong };
+  lies = r .lies;
+}

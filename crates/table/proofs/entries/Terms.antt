@@ -15,6 +15,7 @@ use Rattle.search.proofs.Cost.{least-le-top}
 use Rattle.optimum.specs.Strips.{Point, Strip, inside}
 use Rattle.optimum.specs.OneSided.{topWord}
 use Rattle.arrays.specs.declared.Measures.{Measures}
+use Rattle.arrays.specs.Arrays.{slotsBy}
 use Rattle.strips.specs.declared.Window.{Window}
 use Rattle.strips.specs.Strips.{instanceOn, WindowOf, gapLeft, siteOpens, openCost, joinLeast}
 use Rattle.rows.specs.Budgets.{Others}
@@ -23,63 +24,62 @@ use Rattle.table.specs.Entries.{openBy, noPart, slotTerm, slotsLeast, in
 use Rattle.rows.specs.Rows.{rowOf, rowIn, upperPart, lowerPart}
 
 -- slots in a window, and out of it
-pub window-gap : (q : Measures) (hs bs : List ℕ) (p : Strip) (s : Point) {w : Window} → WindowOf (instanceOn q hs bs) p s w → (k : ℕ) → w .from ≤ k → k < w .to → gapLeft (instanceOn q hs bs) p s k ≡ true
-window-gap q hs bs p s {w} f k a b =
+pub window-gap : (q : Measures) (hs : List ℕ) (p : Strip) (s : Point) {w : Window} → WindowOf (slotsBy q hs) p s w → (k : ℕ) → w .from ≤ k → k < w .to → gapLeft (slotsBy q hs) p s k ≡ true
+window-gap q hs p s {w} f k a b =
     f .leaves k (omega (arith, f .low)) (omega (arith, f .high (omega arith))) ∙ and-of _ _ (le-leb _ _ a) (lt-ltb _ _ b)
 
-pub window-shut : (q : Measures) (hs bs : List ℕ) (p : Strip) (s : Point) (w : Window) → WindowOf (instanceOn q hs bs) p s w → (k : ℕ) → p .a ≤ k → k + 1 < p .b → (k < w .from) ⊎ (w .to ≤ k)
-    → gapLeft (instanceOn q hs bs) p s k ≡ false
-window-shut q hs bs p s w f k a b (inl h) = f .leaves k a b ∙ rw (lt-leb (w .from) k h)
-window-shut q hs bs p s w f k a b (inr h) = f .leaves k a b ∙ rw (le-ltb k (w .to) h) (and-false (leb (w .from) k))
+pub window-shut : (q : Measures) (hs : List ℕ) (p : Strip) (s : Point) (w : Window) → WindowOf (slotsBy q hs) p s w → (k : ℕ) → p .a ≤ k → k + 1 < p .b → (k < w .from) ⊎ (w .to ≤ k)
+    → gapLeft (slotsBy q hs) p s k ≡ false
+window-shut q hs p s w f k a b (inl h) = f .leaves k a b ∙ rw (lt-leb (w .from) k h)
+window-shut q hs p s w f k a b (inr h) = f .leaves k a b ∙ rw (le-ltb k (w .to) h) (and-false (leb (w .from) k))
   where
     and-false : (b : Bool) → b && false ≡ false
     and-false true = refl
     and-false false = refl
 
-module _ (q : Measures) (hs bs parts counts left : List ℕ) where
+module _ (q : Measures) (hs parts counts left : List ℕ) where
   -- a slot that leaves the gap, and a part that is none
-  pub slot-none : (work : List ℕ) (low : ℕ) (p : Strip) (s : Point) (k v old upper lower : ℕ) (a b : Bool) → old ≤ topWord → gapLeft (instanceOn q hs bs) p s k ≡ true
+  pub slot-none : (work : List ℕ) (low : ℕ) (p : Strip) (s : Point) (k v old upper lower : ℕ) (a b : Bool) → old ≤ topWord → gapLeft (slotsBy q hs) p s k ≡ true
       → upper ≡ low + rowOf (length hs) (q .colours) (upperPart p s k) * q .budgets → lower ≡ low + rowOf (length hs) (q .colours) (lowerPart p s k) * q .budgets
       → a ≡ eqb (getD work (upper + (q .budgets - 1)) 0) topWord → b ≡ eqb (getD work (lower + (q .budgets - 1)) 0) topWord → a || b ≡ true
-      → old ≡ min old (slotTerm q hs bs parts counts left (rowIn work low (length hs) (q .colours) (q .budgets)) p s k v)
+      → old ≡ min old (slotTerm q hs parts counts left (rowIn work low (length hs) (q .colours) (q .budgets)) p s k v)
   unfolding slotTerm
   slot-none work low p s k v old upper lower a b o g f h x y z =
-      let t : noPart q hs bs parts counts left (rowIn work low (length hs) (q .colours) (q .budgets)) p s k ≡ true = rw (← f, ← h, ← x, ← y) z in
+      let t : noPart q hs parts counts left (rowIn work low (length hs) (q .colours) (q .budgets)) p s k ≡ true = rw (← f, ← h, ← x, ← y) z in
       rw (g, t) (omega arith)
 
   -- a slot that leaves the gap, and two parts that are some
-  pub slot-open : (work : List ℕ) (low : ℕ) (p : Strip) (s : Point) (k v c upper lower : ℕ) (a b : Bool) → gapLeft (instanceOn q hs bs) p s k ≡ true → c ≡ openCost q hs s k
+  pub slot-open : (work : List ℕ) (low : ℕ) (p : Strip) (s : Point) (k v c upper lower : ℕ) (a b : Bool) → gapLeft (slotsBy q hs) p s k ≡ true → c ≡ openCost q hs s k
       → upper ≡ low + rowOf (length hs) (q .colours) (upperPart p s k) * q .budgets → lower ≡ low + rowOf (length hs) (q .colours) (lowerPart p s k) * q .budgets
       → a ≡ eqb (getD work (upper + (q .budgets - 1)) 0) topWord → b ≡ eqb (getD work (lower + (q .budgets - 1)) 0) topWord → a || b ≡ false
       → openBy parts counts (q .budgets) c (getD left v 0) (λ w. getD work (upper + w) 0) (λ w. getD work (lower + w) 0)
-      ≡ slotTerm q hs bs parts counts left (rowIn work low (length hs) (q .colours) (q .budgets)) p s k v
+      ≡ slotTerm q hs parts counts left (rowIn work low (length hs) (q .colours) (q .budgets)) p s k v
   unfolding slotTerm
   slot-open work low p s k v c upper lower a b g e f h x y z =
-      let t : noPart q hs bs parts counts left (rowIn work low (length hs) (q .colours) (q .budgets)) p s k ≡ false = rw (← f, ← h, ← x, ← y) z in
+      let t : noPart q hs parts counts left (rowIn work low (length hs) (q .colours) (q .budgets)) p s k ≡ false = rw (← f, ← h, ← x, ← y) z in
       rw (g, t, e, f, h)
 
   -- slots too near an end add nothing
-  pub slots-closed : (row : Strip → ℕ → ℕ) (p : Strip) (s : Point) (count d v : ℕ) → ((i : ℕ) → count ≤ i → i < count + d → gapLeft (instanceOn q hs bs) p s (p .a + i) ≡ false)
-      → slotsLeast q hs bs parts counts left row p s (count + d) v ≡ slotsLeast q hs bs parts counts left row p s count v
+  pub slots-closed : (row : Strip → ℕ → ℕ) (p : Strip) (s : Point) (count d v : ℕ) → ((i : ℕ) → count ≤ i → i < count + d → gapLeft (slotsBy q hs) p s (p .a + i) ≡ false)
+      → slotsLeast q hs parts counts left row p s (count + d) v ≡ slotsLeast q hs parts counts left row p s count v
   unfolding slotTerm
-  slots-closed row p s count zero v h = ap (λ (n : ℕ). least topWord n (λ i. slotTerm q hs bs parts counts left row p s (p .a + i) v)) (omega arith)
+  slots-closed row p s count zero v h = ap (λ (n : ℕ). least topWord n (λ i. slotTerm q hs parts counts left row p s (p .a + i) v)) (omega arith)
   slots-closed row p s count (suc d) v h =
       let e : count + suc d ≡ suc (count + d) = omega arith in
       let g = h (count + d) (omega arith) (omega arith) in
-      ap (λ (n : ℕ). least topWord n (λ i. slotTerm q hs bs parts counts left row p s (p .a + i) v)) e
+      ap (λ (n : ℕ). least topWord n (λ i. slotTerm q hs parts counts left row p s (p .a + i) v)) e
       ∙ one (count + d) g ∙ slots-closed row p s count d v (λ i a b. h i a (omega arith))
     where
-      one : (n : ℕ) → gapLeft (instanceOn q hs bs) p s (p .a + n) ≡ false
-          → least topWord (suc n) (λ i. slotTerm q hs bs parts counts left row p s (p .a + i) v) ≡ least topWord n (λ i. slotTerm q hs bs parts counts left row p s (p .a + i) v)
-      one n g = unfold least in rw g (omega (arith, least-le-top topWord n (λ i. slotTerm q hs bs parts counts left row p s (p .a + i) v)))
+      one : (n : ℕ) → gapLeft (slotsBy q hs) p s (p .a + n) ≡ false
+          → least topWord (suc n) (λ i. slotTerm q hs parts counts left row p s (p .a + i) v) ≡ least topWord n (λ i. slotTerm q hs parts counts left row p s (p .a + i) v)
+      one n g = unfold least in rw g (omega (arith, least-le-top topWord n (λ i. slotTerm q hs parts counts left row p s (p .a + i) v)))
 
-  -- rows a level below do not change while a row is filled
   -- a row after so many of the slots between the strip's ends
   pub record Tried (old new : List ℕ) (base low : ℕ) (p : Strip) (s : Point) (count : ℕ) : Type 0 where
     pub long : length new ≡ length old
     pub others : Others old new base (q .budgets)
     pub row : (v : ℕ) → v < q .budgets → getD new (base + v) 0
-        ≡ min (getD old (base + v) 0) (slotsLeast q hs bs parts counts left (rowIn old low (length hs) (q .colours) (q .budgets)) p s count v)
+        ≡ min (getD old (base + v) 0) (slotsLeast q hs parts counts left (rowIn old low (length hs) (q .colours) (q .budgets)) p s count v)
 
   pub tried-none : (old : List ℕ) (base low : ℕ) (p : Strip) (s : Point) → ((i : ℕ) → getD old i 0 ≤ topWord) → Tried old old base low p s 0
   unfolding least
@@ -88,19 +88,19 @@ module _ (q : Measures) (hs bs parts counts left : List ℕ) where
   pub tried-more : (old new last : List ℕ) (base low : ℕ) (p : Strip) (s : Point) (count : ℕ) → base + q .budgets ≤ low → Tried old new base low p s count
       → length last ≡ length new → Others new last base (q .budgets)
       → ((v : ℕ) → v < q .budgets → getD last (base + v) 0
-      ≡ min (getD new (base + v) 0) (slotTerm q hs bs parts counts left (rowIn new low (length hs) (q .colours) (q .budgets)) p s (p .a + count) v))
+      ≡ min (getD new (base + v) 0) (slotTerm q hs parts counts left (rowIn new low (length hs) (q .colours) (q .budgets)) p s (p .a + count) v))
       → Tried old last base low p s (count + 1)
   unfolding least
   tried-more old new last base low p s count h t l o f = record {
     long = l ∙ t .long;
     others = record { before = λ i k. o .before i k ∙ t .others .before i k; after = λ i k. o .after i k ∙ t .others .after i k };
     row = λ v k.
-        let g = f v k ∙ ap₂ (λ (x : ℕ) (r : Strip → ℕ → ℕ). min x (slotTerm q hs bs parts counts left r p s (p .a + count) v)) (t .row v k) (same-rows old new base (q .budgets) low (length hs) (q .colours) (q .budgets) h (t .others)) in
+        let g = f v k ∙ ap₂ (λ (x : ℕ) (r : Strip → ℕ → ℕ). min x (slotTerm q hs parts counts left r p s (p .a + count) v)) (t .row v k) (same-rows old new base (q .budgets) low (length hs) (q .colours) (q .budgets) h (t .others)) in
         rw add-one (g ∙ omega arith);
   }
 
   pub tried-closed : (old new : List ℕ) (base low : ℕ) (p : Strip) (s : Point) (count d : ℕ) → Tried old new base low p s count
-      → ((i : ℕ) → count ≤ i → i < count + d → gapLeft (instanceOn q hs bs) p s (p .a + i) ≡ false) → Tried old new base low p s (count + d)
+      → ((i : ℕ) → count ≤ i → i < count + d → gapLeft (slotsBy q hs) p s (p .a + i) ≡ false) → Tried old new base low p s (count + d)
   tried-closed old new base low p s count d t h = record {
     long = t .long;
     others = t .others;
@@ -108,24 +108,25 @@ module _ (q : Measures) (hs bs parts counts left : List ℕ) where
   }
 
   -- up to a window, and from its end on
-  pub tried-start : (old : List ℕ) (base low : ℕ) (p : Strip) (s : Point) (w : Window) → WindowOf (instanceOn q hs bs) p s w → w .from < w .to → ((i : ℕ) → getD old i 0 ≤ topWord)
+  pub tried-start : (old : List ℕ) (base low : ℕ) (p : Strip) (s : Point) (w : Window) → WindowOf (slotsBy q hs) p s w → w .from < w .to → ((i : ℕ) → getD old i 0 ≤ topWord)
       → Tried old old base low p s (w .from - p .a)
   tried-start old base low p s w f l h =
       subst (Tried old old base low p s) (omega arith)
-      (tried-closed old old base low p s 0 (w .from - p .a) (tried-none old base low p s h) (λ i a b. window-shut q hs bs p s w f (p .a + i) (omega arith) (omega (arith, f .low, f .high l)) (inl (omega (arith, f .low)))))
+      (tried-closed old old base low p s 0 (w .from - p .a) (tried-none old base low p s h) (λ i a b. window-shut q hs p s w f (p .a + i) (omega arith) (omega (arith, f .low, f .high l)) (inl (omega (arith, f .low)))))
 
-  pub tried-end : (old new : List ℕ) (base low : ℕ) (p : Strip) (s : Point) (w : Window) (k : ℕ) → WindowOf (instanceOn q hs bs) p s w → w .from < w .to → k ≡ w .to
+  pub tried-end : (old new : List ℕ) (base low : ℕ) (p : Strip) (s : Point) (w : Window) (k : ℕ) → WindowOf (slotsBy q hs) p s w → w .from < w .to → k ≡ w .to
       → Tried old new base low p s (k - p .a) → Tried old new base low p s (p .b - 1 - p .a)
   tried-end old new base low p s w k f l e t =
       subst (Tried old new base low p s) (omega (arith, f .low, f .high l, e))
-      (tried-closed old new base low p s (k - p .a) (p .b - 1 - k) t (λ i a b. window-shut q hs bs p s w f (p .a + i) (omega arith) (omega (arith, f .low, f .high l, e)) (inr (omega (arith, f .low, e)))))
+      (tried-closed old new base low p s (k - p .a) (p .b - 1 - k) t (λ i a b. window-shut q hs p s w f (p .a + i) (omega arith) (omega (arith, f .low, f .high l, e)) (inr (omega (arith, f .low, e)))))
 
-  pub tried-empty : (old : List ℕ) (base low : ℕ) (p : Strip) (s : Point) (w : Window) → WindowOf (instanceOn q hs bs) p s w → w .to ≤ w .from → ((i : ℕ) → getD old i 0 ≤ topWord)
+  pub tried-empty : (old : List ℕ) (base low : ℕ) (p : Strip) (s : Point) (w : Window) → WindowOf (slotsBy q hs) p s w → w .to ≤ w .from → ((i : ℕ) → getD old i 0 ≤ topWord)
       → Tried old old base low p s (p .b - 1 - p .a)
   tried-empty old base low p s w f l h =
       subst (Tried old old base low p s) (omega arith)
-      (tried-closed old old base low p s 0 (p .b - 1 - p .a) (tried-none old base low p s h) (λ i a b. window-shut q hs bs p s w f (p .a + i) (omega arith) (omega arith) (by-order (w .from) (p .a + i) (λ x. inr (omega arith)) (λ x. inl x))))
+      (tried-closed old old base low p s 0 (p .b - 1 - p .a) (tried-none old base low p s h) (λ i a b. window-shut q hs p s w f (p .a + i) (omega arith) (omega arith) (by-order (w .from) (p .a + i) (λ x. inr (omega arith)) (λ x. inl x))))
 
+module _ (q : Measures) (hs bs parts counts left : List ℕ) where
   -- the row of a strip that the site lies outside; that of one in which it may only join; that of one in which it may open a label
   pub row-copied : (old new : List ℕ) (base low same : ℕ) (p : Strip) (s : Point) → ((i : ℕ) → getD old i 0 ≤ topWord) → inside (instanceOn q hs bs) p s ≡ false
       → same ≡ low + rowOf (length hs) (q .colours) p * q .budgets → ((v : ℕ) → v < q .budgets → getD new (base + v) 0 ≡ plus topWord 0 (getD old (same + v) 0))
@@ -148,9 +149,9 @@ module _ (q : Measures) (hs bs parts counts left : List ℕ) where
       → c ≡ joinLeast q hs bs p s → same ≡ low + rowOf (length hs) (q .colours) p * q .budgets → Others old mid base (q .budgets)
       → ((v : ℕ) → v < q .budgets → getD mid (base + v) 0 ≡ plus topWord c (getD old (same + v) 0))
       → ((v : ℕ) → v < q .budgets → getD new (base + v) 0
-      ≡ min (getD mid (base + v) 0) (slotsLeast q hs bs parts counts left (rowIn mid low (length hs) (q .colours) (q .budgets)) p s (p .b - 1 - p .a) v))
+      ≡ min (getD mid (base + v) 0) (slotsLeast q hs parts counts left (rowIn mid low (length hs) (q .colours) (q .budgets)) p s (p .b - 1 - p .a) v))
       → (v : ℕ) → v < q .budgets → getD new (base + v) 0 ≡ entryBy q hs bs parts counts left (rowIn old low (length hs) (q .colours) (q .budgets)) p s v
   unfolding entryBy insideEntry
   row-opened old mid new base low same c p s b e o d f others g k v h =
       let start : getD mid (base + v) 0 ≡ plus topWord (joinLeast q hs bs p s) (rowIn old low (length hs) (q .colours) (q .budgets) p v) = g v h ∙ ap₂ (λ (x z : ℕ). plus topWord x (getD old (z + v) 0)) d f in
-      rw (e, o) (k v h ∙ ap₂ (λ (x : ℕ) (r : Strip → ℕ → ℕ). min x (slotsLeast q hs bs parts counts left r p s (p .b - 1 - p .a) v)) start (same-rows old mid base (q .budgets) low (length hs) (q .colours) (q .budgets) b others))
+      rw (e, o) (k v h ∙ ap₂ (λ (x : ℕ) (r : Strip → ℕ → ℕ). min x (slotsLeast q hs parts counts left r p s (p .b - 1 - p .a) v)) start (same-rows old mid base (q .budgets) low (length hs) (q .colours) (q .budgets) b others))

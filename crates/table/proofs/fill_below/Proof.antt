@@ -49,14 +49,14 @@ add-t19 c = search needs
 row-place-requires : tie.Need-row-place-requires Inv-loop μ-loop
 row-place-requires c κs =
     let p = c .before .before .before .before .before .before .before .before .before .before .pre in
-    let f = p .0 .framed in
-    ((f .slotsFew, f .coloursFew, f .budgetsFew), start-lies _ _ _ _ (p .1 .0) (p .1 .1))
+    let f = p .0 .ready .sheet in
+    ((f .fewSlots, f .fewColours, f .fewBudgets), start-lies _ _ _ _ (p .1 .0) (p .1 .1))
 
 add-at : tie.Need-add-at Inv-loop μ-loop
 add-at c =
     let p = c .before .before .before .before .before .before .before .before .before .before .before .pre in
     let a = c .before .before .before .before .before .before .before .before .before .before .before .args in
-    omega (arith, c .row-place .ensures, p .0 .apart, p .0 .within, row-fits (length (a .heights .now)) (a .q .colours) (a .q .budgets) _ (start-lies (length (a .heights .now)) (a .q .colours) (a .above .slot) (a .above .colour) (p .1 .0) (p .1 .1)))
+    omega (arith, c .row-place .ensures, p .0 .ready .apart, p .0 .ready .within, row-fits (length (a .heights .now)) (a .q .colours) (a .q .budgets) _ (start-lies (length (a .heights .now)) (a .q .colours) (a .above .slot) (a .above .colour) (p .1 .0) (p .1 .1)))
 
 loop-holds : tie.Need-loop-holds Inv-loop μ-loop
 loop-holds c =
@@ -71,14 +71,16 @@ fill-row-requires c κs =
     let l = c .before .before .before .loop in
     let r = row-lies (c .before) in (
       record {
-        framed = p .0 .framed;
-        listed = p .0 .listed;
-        leftLong = p .0 .leftLong;
-        stands = p .0 .stands;
-        apart = row-low (a .q) (a .heights .now) (a .bounds .now) (a .parts .now) (a .counts .now) (a .left .now) (a .base) (a .low) (pointOf (a .s)) _ _ (p .0 .apart) r (l .inv .4);
-        within = omega (arith, l .inv .5, p .0 .within);
+        ready = record {
+          sheet = p .0 .ready .sheet;
+          site = p .0 .ready .site;
+          apart = row-low (a .q) (a .heights .now) (a .bounds .now) (a .parts .now) (a .counts .now) (a .left .now) (a .base) (a .low) (pointOf (a .s)) _ _ (p .0 .ready .apart) r (l .inv .4);
+          within = omega (arith, l .inv .5, p .0 .ready .within);
+        };
+        budgets = p .0 .budgets;
+        lies = r;
       },
-      r,
+      p .0 .bounded,
     )
 
 add-at-2 : tie.Need-add-at-2 Inv-loop μ-loop
@@ -87,14 +89,14 @@ add-at-2 c =
     let a = c .before .before .before .before .before .before .before .before .before .before .before .before .before .before .before .before .before .before .args in
     let l = c .before .before .before .before .before .before .loop in
     let r = row-lies (c .before .before .before .before) in
-    let z = row-low (a .q) (a .heights .now) (a .bounds .now) (a .parts .now) (a .counts .now) (a .left .now) (a .base) (a .low) (pointOf (a .s)) (stripOf (l .p)) (l .at) (p .0 .apart) r (l .inv .4) in
+    let z = row-low (a .q) (a .heights .now) (a .bounds .now) (a .parts .now) (a .counts .now) (a .left .now) (a .base) (a .low) (pointOf (a .s)) (stripOf (l .p)) (l .at) (p .0 .ready .apart) r (l .inv .4) in
     omega (arith, z, c .before .before .before .before .before .before .before .before .before .before .before .before .before .before .before .before .before .before .fits)
 
 next-below-requires : tie.Need-next-below-requires Inv-loop μ-loop
 next-below-requires c κs =
     let p = c .before .before .before .before .before .before .before .before .before .before .before .before .before .before .before .before .before .before .pre in
     let l = c .before .before .before .before .before .before .loop in
-    (p .0 .framed .coloursFew, omega (arith, c .before .before .before .before .if2 .taken, p .0 .framed .slotsFew), l .inv .2)
+    (p .0 .ready .sheet .fewColours, omega (arith, c .before .before .before .before .if2 .taken, p .0 .ready .sheet .fewSlots), l .inv .2)
 
 loop-less : tie.Need-loop-less Inv-loop μ-loop
 loop-less c =
@@ -116,7 +118,7 @@ loop-again c =
       omega (arith, z, e .3),
       next-row _ _ _ _ _ (stripOf (l .p)) (stripOf (c .next-below .result)) (e .0) (e .1) (e .3) (l .inv .4),
       f .kept .0 ∙ l .inv .5,
-      rw (e .0, e .1, e .3) (filled-more (a .q) (a .heights .now) (a .bounds .now) (a .parts .now) (a .counts .now) (a .left .now) (a .base) (a .low) (pointOf (a .s)) _ (l .work) (f .last .0) (stripOf (l .p)) _ (l .at) (p .0 .apart) r refl (l .inv .4) (l .inv .6) (f .ensures .0) (f .ensures .1)),
+      rw (e .0, e .1, e .3) (filled-more (a .q) (a .heights .now) (a .bounds .now) (a .parts .now) (a .counts .now) (a .left .now) (a .base) (a .low) (pointOf (a .s)) _ (l .work) (f .last .0) (stripOf (l .p)) _ (l .at) (p .0 .ready .apart) r refl (l .inv .4) (l .inv .6) (f .ensures .0) (f .ensures .1)),
     )
 
 same-length : tie.Need-same-length Inv-loop μ-loop

@@ -40,7 +40,7 @@ next-end-requires : tie.Need-next-end-requires Inv-loop μ-loop
 next-end-requires c κs =
     let p = c .before .before .before .before .before .before .before .before .before .before .before .before .before .pre in
     let l = c .before .before .before .before .before .before .loop in
-    (p .framed .coloursFew, omega (arith, c .before .before .before .before .if1 .taken, p .framed .slotsFew), l .inv .0)
+    (p .ready .sheet .fewColours, omega (arith, c .before .before .before .before .if1 .taken, p .ready .sheet .fewSlots), l .inv .0)
 
 loop-less : tie.Need-loop-less Inv-loop μ-loop
 loop-less c =
@@ -58,7 +58,7 @@ loop-again c =
       e .0,
       omega (arith, z, e .1),
       f .kept .0 ∙ l .inv .2,
-      rw (e .1) (passed-more (a .q) (a .heights .now) (a .bounds .now) (a .parts .now) (a .counts .now) (a .left .now) (a .base) (a .low) (pointOf (a .s)) _ (l .work) (f .last .0) (l .above .slot) (l .above .colour) (p .apart) (omega (arith, c .before .before .before .before .before .if1 .taken)) (l .inv .0) (l .inv .3) (f .ensures .0) (f .ensures .1)),
+      rw (e .1) (passed-more (a .q) (a .heights .now) (a .bounds .now) (a .parts .now) (a .counts .now) (a .left .now) (a .base) (a .low) (pointOf (a .s)) _ (l .work) (f .last .0) (l .above .slot) (l .above .colour) (p .ready .apart) (omega (arith, c .before .before .before .before .before .if1 .taken)) (l .inv .0) (l .inv .3) (f .ensures .0) (f .ensures .1)),
     )
 
 same-length : tie.Need-same-length Inv-loop μ-loop

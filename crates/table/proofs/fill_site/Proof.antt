@@ -1,3 +1,4 @@
+use Rattle.arrays.proofs.Narrowed.{on-slots}
 use Rattle.table.proofs.Filling.{others-of}
 use Rattle.table.proofs.marks.Levels.{next-level, level-within, place-small}
 use Rattle.table.proofs.Right.{level-right, site-stands}
@@ -14,7 +15,7 @@ use Rattle.words.proofs.get.Reads as get-reads
 
 site-at-requires : tie.Need-site-at-requires
 site-at-requires c κs =
-    let p = c .before .before .before .before .before .before .before .before .before .before .pre in (p .1 .1 .0, omega (arith, p .0 .sites .ysLong, p .1 .1 .0), omega (arith, p .0 .sites .csLong, p .1 .1 .0))
+    let p = c .before .before .before .before .before .before .before .before .before .before .pre in (p .1 .1, omega (arith, p .0 .sheet .ysLong, p .1 .1), omega (arith, p .0 .sheet .coloursLong, p .1 .1))
 
 get-requires : tie.Need-get-requires
 get-requires c κs = search needs
@@ -27,7 +28,7 @@ slice-aggregate-list-left c = search needs
 
 list-left-requires : tie.Need-list-left-requires
 list-left-requires c κs =
-    let g = c .before .before .before .before .before .before .before .before .before .before .before .before .before .before .pre .0 in (g .divides, (g .framed .budgetsFew, omega (arith, g .framed .budgetsFew)))
+    let g = c .before .before .before .before .before .before .before .before .before .before .before .before .before .before .pre .0 .sheet in (g .divides, (g .fewBudgets, omega (arith, g .fewBudgets)))
 
 slice-aggregate-fill-level : tie.Need-slice-aggregate-fill-level
 slice-aggregate-fill-level c = search needs
@@ -35,7 +36,7 @@ slice-aggregate-fill-level c = search needs
 mul-fill-level : tie.Need-mul-fill-level
 mul-fill-level c =
     let p = c .before .before .before .before .before .before .before .before .before .before .before .before .before .before .before .before .before .before .pre in
-    omega (arith, place-small _ _ _ (p .0 .framed) (c .before .before .before .before .before .before .before .before .before .before .before .before .before .before .before .before .before .before .args .j) _ (omega (arith, p .1 .1 .0, p .0 .sites .sitesFew)) (p .1 .1 .1))
+    omega (arith, place-small (p .0 .sheet) (c .before .before .before .before .before .before .before .before .before .before .before .before .before .before .before .before .before .before .args .j) _ (omega (arith, p .1 .1, p .0 .sheet .fewSites)) (p .1 .0))
 
 add-fill-level : tie.Need-add-fill-level
 add-fill-level c = search needs
@@ -43,20 +44,22 @@ add-fill-level c = search needs
 mul-fill-level-2 : tie.Need-mul-fill-level-2
 mul-fill-level-2 c =
     let p = c .before .before .before .before .before .before .before .before .before .before .before .before .before .before .before .before .before .before .pre in
-    omega (arith, place-small _ _ _ (p .0 .framed) (c .before .before .before .before .before .before .before .before .before .before .before .before .before .before .before .before .before .before .args .j + 1) _ (omega (arith, p .1 .1 .0, p .0 .sites .sitesFew)) (p .1 .1 .1))
+    omega (arith, place-small (p .0 .sheet) (c .before .before .before .before .before .before .before .before .before .before .before .before .before .before .before .before .before .before .args .j + 1) _ (omega (arith, p .1 .1, p .0 .sheet .fewSites)) (p .1 .0))
 
 fill-level-requires : tie.Need-fill-level-requires
 fill-level-requires c κs =
     let a = c .before .before .before .before .before .before .before .before .before .before .before .before .before .before .before .before .before .before .args in
     let p = c .before .before .before .before .before .before .before .before .before .before .before .before .before .before .before .before .before .before .pre in
-    let r = level-within (a .j) _ (a .size) _ _ (p .1 .1 .1) (p .1 .1 .0) (p .0 .within) in
+    let r = level-within (a .j) _ (a .size) _ _ (p .1 .0) (p .1 .1) (p .0 .fits) in
     record {
-      framed = p .0 .framed;
-      listed = p .1 .0 .within;
-      leftLong = omega (arith, p .0 .framed .budgetsFew, c .before .before .before .list-left .kept);
-      stands = site-stands (a .q) (a .heights .now) (a .bounds .now) (a .radices .now) (a .draws .now) (a .xs .now) (a .ys .now) (a .cs .now) _ (p .0) (a .j) _ (c .before .before .before .before .before .before .before .site-at .ensures) (p .1 .1 .0);
-      apart = omega (arith, next-level (a .j) (a .size), p .1 .1 .1);
-      within = omega (arith, r .1, p .1 .1 .1);
+      ready = record {
+        sheet = on-slots (p .0 .sheet);
+        site = site-stands (p .0 .sheet) (a .j) _ (c .before .before .before .before .before .before .before .site-at .ensures) (p .1 .1);
+        apart = omega (arith, next-level (a .j) (a .size), p .1 .0);
+        within = omega (arith, r .1, p .1 .0);
+      };
+      budgets = record { listed = p .0 .splits .within; leftLong = omega (arith, p .0 .sheet .fewBudgets, c .before .before .before .list-left .kept) };
+      bounded = p .0 .bounded;
     }
 
 same-length : tie.Need-same-length
@@ -68,8 +71,8 @@ returns c =
     let a = c .before .before .before .before .before .before .before .before .before .before .before .before .before .before .before .before .before .before .before .before .before .args in
     let p = c .before .before .before .before .before .before .before .before .before .before .before .before .before .before .before .before .before .before .before .before .before .pre in
     let f = c .before .before .fill-level .ensures in (
-      others-of _ _ _ _ _ (p .1 .1 .1) (f .0),
-      λ m h. level-right (a .q) (a .heights .now) (a .bounds .now) (a .radices .now) (a .draws .now) (a .xs .now) (a .ys .now) (a .cs .now) _ (p .0) (a .work .now) (c .before .before .fill-level .last .0) _ _ _ (a .j) _ _ _ (c .before .before .before .before .before .before .before .before .before .before .site-at .ensures) (p .1 .0) (p .1 .1 .0) (rw (← (c .before .before .before .before .before .before .before .before .before .get .ensures)) (c .before .before .before .before .before .before .list-left .ensures)) (f .1) m h,
+      others-of _ _ _ _ _ (p .1 .0) (f .0),
+      λ m h. level-right (p .0 .sheet) (a .work .now) (c .before .before .fill-level .last .0) _ _ _ (a .j) _ _ _ (c .before .before .before .before .before .before .before .before .before .before .site-at .ensures) (p .0 .splits) (p .1 .1) (rw (← (c .before .before .before .before .before .before .before .before .before .get .ensures)) (c .before .before .before .before .before .before .list-left .ensures)) (f .1) m h,
     )
 
 pub fill-site-spec : {M : Type 1} → statement M

@@ -1,7 +1,9 @@
 use Rattle.rows.specs.Rows.{levelSize}
 use Rattle.table.proofs.marks.Levels.{level-small, place-small, last-within}
-use Rattle.table.specs.Levels.{Given}
-use Rattle.table.proofs.Right.{Done, done-last, done-more, done-all, given-area}
+use mathlib.Core.List.{[]}
+use Rattle.arrays.specs.Given.{given, OfSheet}
+use Rattle.arrays.proofs.Narrowed.{no-radices}
+use Rattle.table.proofs.Right.{Done, done-last, done-more, done-all, ready-area}
 use mathlib.Core.Path.{_≡_, refl, ap, _∙_}
 use Prim.Native.Nat.{ℕ, _-_, _*_, _≤_}
 use native.Mathlib.Omega.{arith}
@@ -17,44 +19,44 @@ use Rattle.rows.proofs.rows_of.Reads as rows-of-reads
 use Rattle.table.proofs.zero_level.Reads as zero-level-reads
 
 abbrev Inv-loop : tie.InvT-loop
-Inv-loop work₀ q heights bounds radices draws parts counts xs ys cs rows size j₀ work j = (size ≡ levelSize q heights) × (j ≤ length xs) × (length work ≡ length work₀) × ((area : ℕ) (g : Given q heights bounds radices draws xs ys cs area) → Done q heights bounds radices draws xs ys cs area g work₀ work size j)
+Inv-loop work₀ q heights bounds radices draws parts counts xs ys cs rows size j₀ work j = (size ≡ levelSize q heights) × (j ≤ length xs) × (length work ≡ length work₀) × ((o : OfSheet (given q heights bounds radices draws xs ys cs [] parts counts)) → Done o work₀ work size j)
 
 abbrev μ-loop : tie.MeasureT-loop
 μ-loop work₀ q heights bounds radices draws parts counts xs ys cs rows size j₀ work j = j
 
 rows-of-requires : tie.Need-rows-of-requires Inv-loop μ-loop
 rows-of-requires c κs =
-    let g = c .before .before .before .before .before .before .before .before .before .before .pre .0 in (g .framed .slotsFew, g .framed .coloursFew)
+    let g = c .before .before .before .before .before .before .before .before .before .before .pre in (g .sheet .fewSlots, g .sheet .fewColours)
 
 cast-size : tie.Need-cast-size Inv-loop μ-loop
 cast-size c = search needs
 
 mul-size : tie.Need-mul-size Inv-loop μ-loop
 mul-size c =
-    let g = c .before .before .before .before .before .before .before .before .before .before .before .before .pre .0 in
-    omega (arith, level-small _ _ _ (g .framed), ap (λ (z : ℕ). z * c .before .before .before .before .before .before .before .before .before .before .before .before .args .q .budgets) (c .before .rows-of .ensures))
+    let g = c .before .before .before .before .before .before .before .before .before .before .before .before .pre in
+    omega (arith, level-small (g .sheet), ap (λ (z : ℕ). z * c .before .before .before .before .before .before .before .before .before .before .before .before .args .q .budgets) (c .before .rows-of .ensures))
 
 mark-table-requires : tie.Need-mark-table-requires Inv-loop μ-loop
 mark-table-requires c κs =
-    let g = c .before .before .before .before .before .before .before .before .before .before .before .before .before .pre .0 in ((g .framed, g .sites), (c .before .before .rows-of .ensures, g .within))
+    let g = c .before .before .before .before .before .before .before .before .before .before .before .before .before .pre in (no-radices (g .sheet), g .bounded, g .fits, c .before .before .rows-of .ensures)
 
 mul-zero-level : tie.Need-mul-zero-level Inv-loop μ-loop
 mul-zero-level c =
-    let g = c .before .before .before .before .before .before .before .before .before .before .before .before .before .before .before .before .before .pre .0 in
-    omega (arith, place-small _ _ _ (g .framed) (length (c .before .before .before .before .before .before .before .before .before .before .before .before .before .before .before .before .before .args .xs .now)) _ (omega (arith, g .sites .sitesFew)) (ap (λ (z : ℕ). z * c .before .before .before .before .before .before .before .before .before .before .before .before .before .before .before .before .before .args .q .budgets) (c .before .before .before .before .before .before .rows-of .ensures)))
+    let g = c .before .before .before .before .before .before .before .before .before .before .before .before .before .before .before .before .before .pre in
+    omega (arith, place-small (g .sheet) (length (c .before .before .before .before .before .before .before .before .before .before .before .before .before .before .before .before .before .args .xs .now)) _ (omega (arith, g .sheet .fewSites)) (ap (λ (z : ℕ). z * c .before .before .before .before .before .before .before .before .before .before .before .before .before .before .before .before .before .args .q .budgets) (c .before .before .before .before .before .before .rows-of .ensures)))
 
 zero-level-requires : tie.Need-zero-level-requires Inv-loop μ-loop
 zero-level-requires c κs =
-    let g = c .before .before .before .before .before .before .before .before .before .before .before .before .before .before .before .before .before .pre .0 in
+    let g = c .before .before .before .before .before .before .before .before .before .before .before .before .before .before .before .before .before .pre in
     let a = c .before .before .before .before .before .before .before .before .before .before .before .before .before .before .before .before .before .args in
-    last-within (length (a .xs .now)) _ _ _ _ (ap (λ (z : ℕ). z * a .q .budgets) (c .before .before .before .before .before .before .rows-of .ensures)) (g .within) (c .before .before .before .mark-table .kept .0)
+    last-within (length (a .xs .now)) _ _ _ _ (ap (λ (z : ℕ). z * a .q .budgets) (c .before .before .before .before .before .before .rows-of .ensures)) (g .fits) (c .before .before .before .mark-table .kept .0)
 
 loop-holds : tie.Need-loop-holds Inv-loop μ-loop
 loop-holds c =
     let a = c .before .before .before .before .before .before .before .before .before .before .before .before .before .before .before .before .before .before .before .before .args in
     let e = ap (λ (z : ℕ). z * a .q .budgets) (c .before .before .before .before .before .before .before .before .before .rows-of .ensures) in
     let z = c .before .before .zero-level .ensures in
-    (e, omega arith, refl, λ area g. done-last (a .q) (a .heights .now) (a .bounds .now) (a .radices .now) (a .draws .now) (a .xs .now) (a .ys .now) (a .cs .now) area g (c .before .before .before .before .before .before .mark-table .last .0) (c .before .before .zero-level .last .0) _ e (c .before .before .before .before .before .before .mark-table .ensures .0) (z .0) (z .1))
+    (e, omega arith, refl, λ o. done-last o (c .before .before .before .before .before .before .mark-table .last .0) (c .before .before .zero-level .last .0) _ e (c .before .before .before .before .before .before .mark-table .ensures .0) (z .0) (z .1))
 
 sub-j : tie.Need-sub-j Inv-loop μ-loop
 sub-j c = search needs
@@ -63,8 +65,8 @@ fill-site-requires : tie.Need-fill-site-requires Inv-loop μ-loop
 fill-site-requires c κs =
     let p = c .before .before .before .before .before .before .before .before .before .before .before .before .before .before .before .before .before .before .before .before .before .before .before .pre in
     let l = c .before .before .loop in (
-      given-area _ _ _ _ _ _ _ _ _ _ (p .0) (l .inv .2 ∙ c .before .before .before .before .before .zero-level .kept .0 ∙ c .before .before .before .before .before .before .before .before .before .mark-table .kept .0),
-      (p .1, (omega (arith, c .before .loop-test .taken, l .inv .1), l .inv .0)),
+      ready-area p (l .inv .2 ∙ c .before .before .before .before .before .zero-level .kept .0 ∙ c .before .before .before .before .before .before .before .before .before .mark-table .kept .0),
+      (l .inv .0, omega (arith, c .before .loop-test .taken, l .inv .1)),
     )
 
 loop-less : tie.Need-loop-less Inv-loop μ-loop
@@ -78,7 +80,7 @@ loop-again c =
       l .inv .0,
       omega (arith, l .inv .1),
       f .kept .0 ∙ l .inv .2,
-      λ area g. done-more (a .q) (a .heights .now) (a .bounds .now) (a .radices .now) (a .draws .now) (a .xs .now) (a .ys .now) (a .cs .now) area g _ (l .work) (f .last .0) _ (l .j) _ (l .inv .0) (omega (arith, c .before .before .before .before .loop-test .taken)) (l .inv .1) (f .kept .0) (f .ensures .0) (f .ensures .1) (l .inv .3 area g),
+      λ o. done-more o _ (l .work) (f .last .0) _ (l .j) _ (l .inv .0) (omega (arith, c .before .before .before .before .loop-test .taken)) (l .inv .1) (f .kept .0) (f .ensures .0) (f .ensures .1) (l .inv .3 o),
     )
 
 same-length : tie.Need-same-length Inv-loop μ-loop
@@ -87,13 +89,13 @@ same-length c =
 
 returns : tie.Need-returns Inv-loop μ-loop
 returns c =
-    let p = c .before .before .before .before .before .before .before .before .before .before .before .before .before .before .before .before .before .before .before .before .before .before .pre .0 in
+    let p = c .before .before .before .before .before .before .before .before .before .before .before .before .before .before .before .before .before .before .before .before .before .before .pre in
     let a = c .before .before .before .before .before .before .before .before .before .before .before .before .before .before .before .before .before .before .before .before .before .before .args in
     let l = c .before .loop in
     let z : l .j ≡ 0 = omega (arith, c .loop-test .left) in
     let m = c .before .before .before .before .before .before .before .before .mark-table in
     let o = c .before .before .before .before .zero-level in
-    done-all (a .q) (a .heights .now) (a .bounds .now) (a .radices .now) (a .draws .now) (a .xs .now) (a .ys .now) (a .cs .now) _ p (a .work .now) (m .last .0) (o .last .0) (l .work) _ (l .inv .0) (o .kept .0 ∙ m .kept .0) (m .ensures .1) (o .ensures .0) (rw z at (l .inv .3 _ p))
+    done-all (p .sheet) (a .work .now) (m .last .0) (o .last .0) (l .work) _ (l .inv .0) (o .kept .0 ∙ m .kept .0) (m .ensures .1) (o .ensures .0) (rw z at (l .inv .3 (p .sheet)))
 
 pub fill-table-spec : {M : Type 1} → statement M
 fill-table-spec =

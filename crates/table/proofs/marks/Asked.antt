@@ -12,7 +12,9 @@ use Rattle.optimum.specs.Strips.{Point, Strip, Instance, inside, opens, joinsUp
 use Rattle.optimum.specs.OneSided.{topWord}
 use Rattle.optimum.specs.Reached.{In, Asks}
 use Rattle.arrays.specs.declared.Measures.{Measures}
-use Rattle.strips.specs.Strips.{instanceOn, siteOpens, WindowOf, Framed, Stands, joinLeast}
+use Rattle.strips.specs.Strips.{instanceOn, siteOpens, WindowOf, joinLeast}
+use Rattle.arrays.specs.Arrays.{slotsBy}
+use Rattle.arrays.specs.Given.{OfSheet, SiteIn, onSlots}
 use Rattle.strips.specs.declared.Window.{Window}
 use Rattle.rows.specs.Rows.{Lies, upperPart, lowerPart}
 use Rattle.rows.proofs.Places.{upper-is, lower-is}
@@ -35,7 +37,7 @@ module _ (q : Measures) (hs bs : List ℕ) (p : Strip) (s : Point) where
     pub which : (x ≡ upperPart p s k) ⊎ (x ≡ lowerPart p s k)
 
   -- a site inside joins a label, which leaves the strip as it is, or opens one
-  pub asked-in : (x : Strip) → Lies (length hs) (q .colours) p → Framed q hs bs → Stands (q .colours) s → inside P p s ≡ true → Asks P p s x
+  pub asked-in : (x : Strip) → Lies (length hs) (q .colours) p → OfSheet (onSlots q hs) → SiteIn q s → inside P p s ≡ true → Asks P p s x
       → ((x ≡ p) × (joinLeast q hs bs p s < topWord)) ⊎ Part x
   unfolding children In
   asked-in x l f g i (inl (e, o)) = clash i e
@@ -73,9 +75,9 @@ module _ (q : Measures) (hs bs : List ℕ) (p : Strip) (s : Point) where
   marked-out work low o h x a = subst (Marked work low (length hs) (q .colours) (q .budgets)) (sym (asked-out x o a)) h
 
   -- where it lies inside, if the strip is, should the site join, and both parts are at each slot of the window, should it open a label
-  pub marked-in : (work : List ℕ) (low : ℕ) (w : Window) → Lies (length hs) (q .colours) p → Framed q hs bs → Stands (q .colours) s → inside P p s ≡ true
+  pub marked-in : (work : List ℕ) (low : ℕ) (w : Window) → Lies (length hs) (q .colours) p → OfSheet (onSlots q hs) → SiteIn q s → inside P p s ≡ true
       → (joinLeast q hs bs p s < topWord → Marked work low (length hs) (q .colours) (q .budgets) p)
-      → (siteOpens P p s ≡ true → WindowOf P p s w × ((k : ℕ) → w .from ≤ k → k < w .to → PartsMarked q work low (length hs) p s k))
+      → (siteOpens P p s ≡ true → WindowOf (slotsBy q hs) p s w × ((k : ℕ) → w .from ≤ k → k < w .to → PartsMarked q work low (length hs) p s k))
       → (x : Strip) → Asks P p s x → Marked work low (length hs) (q .colours) (q .budgets) x
   marked-in work low w l f g i own parts x a =
       by-either (asked-in x l f g i a)

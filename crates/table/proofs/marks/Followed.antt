@@ -13,7 +13,8 @@ use Rattle.arrays.specs.declared.Measures.{Measures}
 use Rattle.strips.specs.Strips.{instanceOn}
 use Rattle.rows.specs.Rows.{rowOf, levelSize, Lies, endPlace, upperEnd}
 use Rattle.rows.proofs.Places.{row-fits}
-use Rattle.table.specs.Marks.{Ready, Shaped, Led}
+use Rattle.table.proofs.marks.Levels.{level-fits}
+use Rattle.table.specs.Marks.{Ready, Shaped, Led, Level, slotsIn, coloursIn, budgetsIn, wordsIn}
 use Rattle.rows.specs.Parts.{Marked, Marking, LevelFits}
 use Rattle.rows.proofs.parts.Marking.{marking-none, marking-join}
 
@@ -138,10 +139,10 @@ lies-at m C p a ca b cb d = record { aLow = omega arith; caLow = omega arith; bL
 pub start-lies : (m C a ca : ℕ) → a ≤ m → ca ≤ C → Lies m C (record { a = a; ca = ca; b = a + 1; cb = 0; d = 0 })
 start-lies m C a ca h k = record { aLow = omega arith; caLow = omega arith; bLow = omega arith; cbLow = omega arith; dLow = refl }
 
-module _ {q : Measures} {hs bs : List ℕ} {area base low : ℕ} {s : Point} (r : Ready q hs bs area base low s) where
-  pub fits-of : LevelFits q (length hs) low area
-  fits-of = record { slotsFew = r .framed .slotsFew; coloursFew = r .framed .coloursFew; budgetsFew = r .framed .budgetsFew; budgetsSome = r .framed .budgetsSome; within = r .within }
+module _ {l : Level} {area : ℕ} (r : Ready l (wordsIn l) area) where
+  pub fits-of : LevelFits (l .arrays .measures) (slotsIn l) (l .low) area
+  fits-of = level-fits (r .sheet) (r .within)
 
   -- a row of the upper level
-  pub at-low : (p : Strip) → Lies (length hs) (q .colours) p → (at : ℕ) → at ≡ base + rowOf (length hs) (q .colours) p * q .budgets → at + q .budgets ≤ low
-  at-low p l at e = omega (arith, e, r .apart, row-fits (length hs) (q .colours) (q .budgets) p l)
+  pub at-low : (p : Strip) → Lies (slotsIn l) (coloursIn l) p → (at : ℕ) → at ≡ l .base + rowOf (slotsIn l) (coloursIn l) p * budgetsIn l → at + budgetsIn l ≤ l .low
+  at-low p h at e = omega (arith, e, r .apart, row-fits (slotsIn l) (coloursIn l) (budgetsIn l) p h)

@@ -1,13 +1,13 @@
 -- Where levels stand, and that their places are small numbers. Assumes nothing.
 use mathlib.Core.Path.{_≡_, refl, ap}
-use mathlib.Core.List.{List}
 use Prim.Native.Nat.{ℕ, suc, _+_, _*_, _-_, _<_, _≤_}
 use native.Mathlib.Nat.{mul-le-mul}
 use native.Mathlib.Omega.{arith}
 use lib.ListN.{length}
-use Rattle.arrays.specs.declared.Measures.{Measures}
-use Rattle.strips.specs.Strips.{Framed}
-use Rattle.rows.specs.Rows.{levelSize}
+use Rattle.sheet.specs.Limits.{mostBudgets, mostSites}
+use Rattle.arrays.specs.Given.{Given, OfSheet}
+use Rattle.rows.specs.Rows.{levelSize, mostRows, mostLevel, mostTable}
+use Rattle.rows.specs.Parts.{LevelFits}
 use Rattle.rows.proofs.Places.{rows-few}
 
 pub next-level : (j size : ℕ) → (j + 1) * size ≡ j * size + size
@@ -20,12 +20,17 @@ level-within j n size level area s h l =
     let f = ap (λ (z : ℕ). z * level) e in
     rw s (omega arith, omega arith)
 
-module _ (q : Measures) (hs bs : List ℕ) (f : Framed q hs bs) where
-  pub level-small : levelSize q hs ≤ 12960000
-  level-small = mul-le-mul {n₂ = 202500} {m₂ = 64} (rows-few (length hs) (q .colours) (f .slotsFew) (f .coloursFew)) (f .budgetsFew)
+module _ {g : Given} (o : OfSheet g) where
+  pub level-small : levelSize (g .measures) (g .heights) ≤ mostLevel
+  level-small = mul-le-mul {n₂ = mostRows} {m₂ = mostBudgets} (rows-few (length (g .heights)) (g .measures .colours) (o .fewSlots) (o .fewColours)) (o .fewBudgets)
 
-  pub place-small : (j size : ℕ) → j ≤ 33 → size ≡ levelSize q hs → j * size ≤ 427680000
-  place-small j size h e = mul-le-mul {n₂ = 33} {m₂ = 12960000} h (omega (arith, level-small))
+  pub place-small : (j size : ℕ) → j ≤ mostSites + 1 → size ≡ levelSize (g .measures) (g .heights) → j * size ≤ mostTable
+  place-small j size h e = mul-le-mul {n₂ = 33} {m₂ = mostLevel} h (omega (arith, level-small))
+
+  -- rows of a level may be marked
+  pub level-fits : {low area : ℕ} → low + levelSize (g .measures) (g .heights) ≤ area → LevelFits (g .measures) (length (g .heights)) low area
+  level-fits h =
+      record { fewSlots = o .fewSlots; fewColours = o .fewColours; fewBudgets = o .fewBudgets; someBudget = o .someBudget; within = h }
 
 -- a row among so many
 pub row-within : (r rows n : ℕ) → r < rows → r * n + n ≤ rows * n
@@ -47,7 +52,7 @@ past-level j n size i h l = level-within j n size size i refl h l .1
 pub enough : (n size level area now : ℕ) → size ≡ level → (n + 1) * level ≤ area → now ≡ area → (n + 1) * size ≤ now
 enough n size level area now e h l = rw (e, l) h
 
-pub few : (n : ℕ) → n ≤ 32 → n + 1 ≤ 33
+pub few : (n : ℕ) → n ≤ mostSites → n + 1 ≤ mostSites + 1
 few n h = omega arith
 
 pub few-rows : (rows r most : ℕ) → rows ≡ r → r ≤ most → rows ≤ most

@@ -12,11 +12,13 @@ use Rattle.optimum.specs.Slots.{over, under, farFrom, clearFrom}
 use Rattle.optimum.specs.Strips.{Point, Strip, Instance, inside, opens, joinsUp, joinsDown, children}
 use Rattle.optimum.specs.Reached.{Asks, Reached, noPoint, wholeSheet}
 use Rattle.arrays.specs.declared.Measures.{Measures}
-use Rattle.arrays.specs.Arrays.{instanceBy, pointsBy}
-use Rattle.strips.specs.Strips.{instanceOn, Framed, Stands}
+use Rattle.arrays.specs.Arrays.{instanceBy}
+use Rattle.arrays.specs.Given.{Given, pointsOf, OfSheet, SiteIn}
+use Rattle.arrays.proofs.Narrowed.{on-slots}
+use Rattle.strips.specs.Strips.{instanceOn}
 use Rattle.rows.specs.Rows.{rowOf, levelSize, upperPart, lowerPart, upperEnd}
 use Rattle.rows.proofs.Places.{upper-lies, lower-lies}
-use Rattle.table.specs.Marks.{Shaped, Led, Sites, ReachMarked}
+use Rattle.table.specs.Marks.{Shaped, Led, ReachMarked}
 use Rattle.rows.specs.Parts.{Marked, Marking}
 use Rattle.table.proofs.marks.Asked.{asked-out, asked-in}
 use Rattle.table.proofs.marks.Points.{point-at}
@@ -52,62 +54,73 @@ to-level P q ss work size level j e f h = rw (← e, ← f) h
 
 -- ---- shapes
 
-module _ (q : Measures) (hs bs : List ℕ) (f : Framed q hs bs) where
-  asked-shape : (p x : Strip) (s : Point) → Stands (q .colours) s → Shaped (length hs) (q .colours) p → Asks (instanceOn q hs bs) p s x → Shaped (length hs) (q .colours) x
+module _ {g : Given} (o : OfSheet g) where
+  abbrev q : Measures
+  q = g .measures
+
+  abbrev hs : List ℕ
+  hs = g .heights
+
+  abbrev bs : List ℕ
+  bs = g .bounds
+
+  abbrev ss : List Point
+  ss = pointsOf g
+
+  asked-shape : (p x : Strip) (s : Point) → SiteIn q s → Shaped (length hs) (q .colours) p → Asks (instanceOn q hs bs) p s x → Shaped (length hs) (q .colours) x
   unfolding upperEnd
-  asked-shape p x s g t a =
+  asked-shape p x s i t a =
       by-test (inside (instanceOn q hs bs) p s)
-      (λ i. by-either (asked-in q hs bs p s x (t .lies) f g i a)
+      (λ e. by-either (asked-in q hs bs p s x (t .lies) (on-slots o) i e a)
       (λ z. subst (Shaped (length hs) (q .colours)) (sym (z .0)) t)
-      (λ z. let o = z .opened in
+      (λ z. let d = z .opened in
       by-either (z .which)
-      (λ e. subst (Shaped (length hs) (q .colours)) (sym e) (upper (z .k) (o .above) (o .under)))
-      (λ e. subst (Shaped (length hs) (q .colours)) (sym e) (lower (z .k) (o .under)))))
-      (λ i. subst (Shaped (length hs) (q .colours)) (sym (asked-out q hs bs p s x i a)) t)
+      (λ e. subst (Shaped (length hs) (q .colours)) (sym e) (upper (z .k) (d .above) (d .under)))
+      (λ e. subst (Shaped (length hs) (q .colours)) (sym e) (lower (z .k) (d .under)))))
+      (λ e. subst (Shaped (length hs) (q .colours)) (sym (asked-out q hs bs p s x e a)) t)
     where
       upper : (k : ℕ) → p .a < k + 1 → k + 1 < p .b → Shaped (length hs) (q .colours) (upperPart p s k)
-      upper k h u = record { lies = upper-lies _ _ p s k (t .lies) (g .colourLow) u; falls = h; ends = t .ends }
+      upper k h u = record { lies = upper-lies _ _ p s k (t .lies) (i .colourLow) u; falls = h; ends = t .ends }
 
       label : (k c : ℕ) → upperEnd (k + 1) (c + 1) ≡ true
       label k c = rw (ne-eqb (k + 1) 0 (λ (e : k + 1 ≡ 0). omega arith), lt-ltb 0 (c + 1) (omega arith))
 
       lower : (k : ℕ) → k + 1 < p .b → Shaped (length hs) (q .colours) (lowerPart p s k)
-      lower k u = record { lies = lower-lies _ _ p s k (t .lies) (g .colourLow) u; falls = u; ends = label k (s .c) }
+      lower k u = record { lies = lower-lies _ _ p s k (t .lies) (i .colourLow) u; falls = u; ends = label k (s .c) }
 
-  module _ (xs ys cs : List ℕ) (g : Sites q xs ys cs) where
-    pub site-stands : (j : ℕ) → j < length xs → Stands (q .colours) (getD (pointsBy xs ys cs) j noPoint)
-    site-stands j h = subst (Stands (q .colours)) (sym (point-at xs ys cs j (g .ysLong) (g .csLong) h)) (record { colourLow = g .csLow j h; yLow = g .ysLow j h })
+  pub site-stands : (j : ℕ) → j < length (g .xs) → SiteIn q (getD ss j noPoint)
+  site-stands j h = subst (SiteIn q) (sym (point-at (g .xs) (g .ys) (g .colours) j (o .ysLong) (o .coloursLong) h)) (o .siteIn j h)
 
-    pub reached-shape : (j : ℕ) → j ≤ length xs → (p : Strip) → Reached (instanceOn q hs bs) (pointsBy xs ys cs) j p → Shaped (length hs) (q .colours) p
-    unfolding Reached upperEnd
-    reached-shape zero h p e = subst (Shaped (length hs) (q .colours)) (sym e) (record {
-      lies = record { aLow = omega arith; caLow = omega arith; bLow = omega arith; cbLow = omega arith; dLow = refl };
-      falls = omega arith;
-      ends = refl;
-    })
-    reached-shape (suc j) h p (x, r, a) = asked-shape x p _ (site-stands j (omega arith)) (reached-shape j (omega arith) x r) a
+  pub reached-shape : (j : ℕ) → j ≤ length (g .xs) → (p : Strip) → Reached (instanceOn q hs bs) ss j p → Shaped (length hs) (q .colours) p
+  unfolding Reached upperEnd
+  reached-shape zero h p e = subst (Shaped (length hs) (q .colours)) (sym e) (record {
+    lies = record { aLow = omega arith; caLow = omega arith; bLow = omega arith; cbLow = omega arith; dLow = refl };
+    falls = omega arith;
+    ends = refl;
+  })
+  reached-shape (suc j) h p (x, r, a) = asked-shape x p _ (site-stands j (omega arith)) (reached-shape j (omega arith) x r) a
 
-    -- ---- levels
+  -- ---- levels
 
-    -- the first level, once the whole sheet is marked
-    pub reach-first : (work : List ℕ) (size : ℕ) → Marked work 0 (length hs) (q .colours) (q .budgets) (wholeSheet (instanceOn q hs bs))
-        → ReachMarked (instanceOn q hs bs) q (pointsBy xs ys cs) work size 1
-    unfolding Reached
-    reach-first work size m zero h p e = subst (Marked work (0 * size) (length hs) (q .colours) (q .budgets)) (sym e) (ap (λ (z : ℕ). getD work (z + rowOf (length hs) (q .colours) (wholeSheet (instanceOn q hs bs)) * q .budgets) 0) (omega arith) ∙ m)
-    reach-first work size m (suc i) h p e = absurd (omega arith)
+  -- the first level, once the whole sheet is marked
+  pub reach-first : (work : List ℕ) (size : ℕ) → Marked work 0 (length hs) (q .colours) (q .budgets) (wholeSheet (instanceOn q hs bs))
+      → ReachMarked (instanceOn q hs bs) q ss work size 1
+  unfolding Reached
+  reach-first work size m zero h p e = subst (Marked work (0 * size) (length hs) (q .colours) (q .budgets)) (sym e) (ap (λ (z : ℕ). getD work (z + rowOf (length hs) (q .colours) (wholeSheet (instanceOn q hs bs)) * q .budgets) 0) (omega arith) ∙ m)
+  reach-first work size m (suc i) h p e = absurd (omega arith)
 
-    -- one level more
-    pub reach-more : (old new : List ℕ) (size j : ℕ) → j < length xs → ReachMarked (instanceOn q hs bs) q (pointsBy xs ys cs) old size (j + 1) → Marking old new ((j + 1) * size) size
-        → ((p : Strip) → Shaped (length hs) (q .colours) p → Led (instanceOn q hs bs) q old new (j * size) ((j + 1) * size) (getD (pointsBy xs ys cs) j noPoint) p)
-        → ReachMarked (instanceOn q hs bs) q (pointsBy xs ys cs) new size (j + 1 + 1)
-    unfolding Reached
-    reach-more old new size j l h m f i u p r =
-        by-order (j + 1) i
-        (λ z. let e : i ≡ suc j = omega arith in next i e r)
-        (λ z. m .kept _ (h i z p r))
-      where
-        next : (i : ℕ) → i ≡ suc j → Reached (instanceOn q hs bs) (pointsBy xs ys cs) i p → Marked new (i * size) (length hs) (q .colours) (q .budgets) p
-        next i e r =
-            let w = subst (λ (n : ℕ). Reached (instanceOn q hs bs) (pointsBy xs ys cs) n p) e r in
-            let a = f (w .0) (reached-shape j (omega arith) (w .0) (w .1)) (h j (omega arith) (w .0) (w .1)) p (w .2) in
-            ap (λ (n : ℕ). getD new (n * size + rowOf (length hs) (q .colours) p * q .budgets) 0) (e ∙ sym (add-one j)) ∙ a
+  -- one level more
+  pub reach-more : (old new : List ℕ) (size j : ℕ) → j < length (g .xs) → ReachMarked (instanceOn q hs bs) q ss old size (j + 1) → Marking old new ((j + 1) * size) size
+      → ((p : Strip) → Shaped (length hs) (q .colours) p → Led (instanceOn q hs bs) q old new (j * size) ((j + 1) * size) (getD ss j noPoint) p)
+      → ReachMarked (instanceOn q hs bs) q ss new size (j + 1 + 1)
+  unfolding Reached
+  reach-more old new size j l h m f i u p r =
+      by-order (j + 1) i
+      (λ z. let e : i ≡ suc j = omega arith in next i e r)
+      (λ z. m .kept _ (h i z p r))
+    where
+      next : (i : ℕ) → i ≡ suc j → Reached (instanceOn q hs bs) ss i p → Marked new (i * size) (length hs) (q .colours) (q .budgets) p
+      next i e r =
+          let w = subst (λ (n : ℕ). Reached (instanceOn q hs bs) ss n p) e r in
+          let a = f (w .0) (reached-shape j (omega arith) (w .0) (w .1)) (h j (omega arith) (w .0) (w .1)) p (w .2) in
+          ap (λ (n : ℕ). getD new (n * size + rowOf (length hs) (q .colours) p * q .budgets) 0) (e ∙ sym (add-one j)) ∙ a

@@ -1,6 +1,6 @@
 use Rattle.walk.proofs.Tying.{base-low, long, level-of, Tied, tied}
 use mathlib.Core.Path.{subst⁻¹}
-use Rattle.strips.specs.Steps.{SiteIn}
+use Rattle.arrays.specs.Given.{SiteIn}
 use Rattle.rows.specs.Rows.{stripOf, pointOf}
 use mathlib.Core.Path.{ap, _∙_}
 use Prim.Native.Nat.{ℕ, _+_, _-_, _*_}
@@ -57,7 +57,7 @@ mul-base c =
 choose-slot-requires : tie.Need-choose-slot-requires
 choose-slot-requires c κs =
     let p = c .before .before .before .before .before .before .before .before .before .before .before .before .before .before .before .before .before .before .pre in let a = c .before .before .before .before .before .before .before .before .before .before .before .before .before .before .before .before .before .before .args in (
-      p .0 .sheet,
+      (p .0 .sheet, p .0 .bounded),
       (
         rw (c .before .level-size .ensures) (level-of (a .q) (a .heights .now) (a .bounds .now) (a .radices .now) (a .draws .now) (a .parts .now) (a .counts .now) (a .work .now) (a .xs .now) (a .ys .now) (a .colours .now) (a .order .now) (p .0) (a .j) _ _ _ _ (p .1 .1) (p .1 .0)),
         (subst⁻¹ (SiteIn (a .q)) (c .before .before .before .before .site-at .ensures) (p .0 .siteIn (a .j) (p .1 .1)), p .1 .0 .budget, p .1 .0 .low, p .1 .0 .labelsLong),
@@ -67,7 +67,7 @@ choose-slot-requires c κs =
 step-of-requires : tie.Need-step-of-requires
 step-of-requires c κs =
     let p = c .before .before .before .before .before .before .before .before .before .before .before .before .before .before .before .before .before .before .before .before .before .pre in let a = c .before .before .before .before .before .before .before .before .before .before .before .before .before .before .before .before .before .before .before .before .before .args in
-    (p .0 .sheet, (subst⁻¹ (SiteIn (a .q)) (c .before .before .before .before .before .before .before .site-at .ensures) (p .0 .siteIn (a .j) (p .1 .1)), omega (arith, mid c .slotLow, p .0 .sheet .fewSlots)))
+    (p .0 .sheet, p .0 .bounded, subst⁻¹ (SiteIn (a .q)) (c .before .before .before .before .before .before .before .site-at .ensures) (p .0 .siteIn (a .j) (p .1 .1)), omega (arith, mid c .slotLow, p .0 .sheet .fewSlots))
 
 write-tie-requires : tie.Need-write-tie-requires
 write-tie-requires c κs =

@@ -7,7 +7,7 @@ use Rattle.arrays.proofs.places.is_over.Tie as tie
 
 returns : tie.Need-returns
 returns c =
-    sym (over-edge _ _ _ (c .if1 .taken))
+    λ q. sym (over-edge _ _ _ (c .if1 .taken))
 
 sub-get : tie.Need-sub-get
 sub-get c = search needs
@@ -20,7 +20,7 @@ at-most-requires c κs = search needs
 
 returns-2 : tie.Need-returns-2
 returns-2 c =
-    c .at-most .ensures ∙ rw (c .before .get .ensures) (sym (over-label _ _ _ (omega arith)))
+    λ q. c .at-most .ensures ∙ rw (c .before .get .ensures) (sym (over-label _ _ _ (omega arith)))
 
 pub is-over-spec : {M : Type 1} → statement M
 is-over-spec = tie.close (tie.spec returns sub-get get-requires at-most-requires returns-2)

@@ -7,7 +7,7 @@ use Rattle.arrays.proofs.places.is_under.Tie as tie
 
 returns : tie.Need-returns
 returns c =
-    sym (under-edge _ _ _ (c .if1 .taken))
+    λ q. sym (under-edge _ _ _ (c .if1 .taken))
 
 sub-k : tie.Need-sub-k
 sub-k c = search needs
@@ -17,7 +17,7 @@ cast-if2 c = search needs
 
 returns-2 : tie.Need-returns-2
 returns-2 c =
-    sym (under-bottom _ _ _ (omega arith) (c .if2 .taken))
+    λ q. sym (under-bottom _ _ _ (omega arith) (c .if2 .taken))
 
 get-requires : tie.Need-get-requires
 get-requires c κs = search needs
@@ -27,7 +27,7 @@ less-requires c κs = search needs
 
 returns-3 : tie.Need-returns-3
 returns-3 c =
-    c .less .ensures ∙ rw (c .before .get .ensures) (sym (under-label _ _ _ (omega arith) (omega arith)))
+    λ q. c .less .ensures ∙ rw (c .before .get .ensures) (sym (under-label _ _ _ (omega arith) (omega arith)))
 
 pub is-under-spec : {M : Type 1} → statement M
 is-under-spec =

@@ -29,16 +29,16 @@ loop-holds : tie.Need-loop-holds Inv-loop μ-loop
 loop-holds c =
     let a = c .before .before .args in
     let e : a .window .from - a .window .from ≡ 0 = omega arith in
-    (omega arith, omega (arith, c .before .before .pre .1 .1 .0), rw e (single-none (a .old) _ (omega (arith, c .before .before .fits .old))))
+    (omega arith, omega (arith, c .before .before .pre .some), rw e (single-none (a .old) _ (omega (arith, c .before .before .fits .old))))
 
 open-cost-requires : tie.Need-open-cost-requires Inv-loop μ-loop
 open-cost-requires c κs =
-    c .before .before .before .before .before .pre .0 .0
+    let p = c .before .before .before .before .before .pre in (p .sheet, p .site)
 
 parts-cost-requires : tie.Need-parts-cost-requires Inv-loop μ-loop
 parts-cost-requires c κs =
     let p = c .before .before .before .before .before .before .pre in
-    ((p .0 .2, p .1 .0), (p .0 .1, omega (arith, p .1 .1 .1, c .before .if1 .taken)))
+    ((p .fits, p .lies), (p .site .colourLow, omega (arith, p .high, c .before .if1 .taken)))
 
 plus-of-requires : tie.Need-plus-of-requires Inv-loop μ-loop
 plus-of-requires c κs = search needs

@@ -45,8 +45,8 @@ slice-read-opened c =
 opened-requires : tie.Need-opened-requires Inv-loop μ-loop
 opened-requires c κs =
     let l = c .before .before .before .before .loop .inv .1 .long in
-    let h = c .before .before .before .before .before .before .before .before .before .pre .1 in
-    (c .before .before .before .before .before .before .before .before .before .pre .0, (omega arith, omega arith))
+    let p = c .before .before .before .before .before .before .before .before .before .pre in
+    (p .0, omega (arith, l, p .1 .upperIn), omega (arith, l, p .1 .lowerIn))
 
 add-work : tie.Need-add-work Inv-loop μ-loop
 add-work c =
@@ -74,10 +74,10 @@ loop-again c =
     let a = c .before .before .before .before .before .before .before .before .before .before .args in
     let h = c .before .before .before .before .before .before .before .before .before .before .pre .1 in
     let w = l .inv .1 in
-    let up = fun-ext (λ (x : ℕ). w .after (a .upper + x) (omega arith)) in
-    let lo = fun-ext (λ (x : ℕ). w .after (a .lower + x) (omega arith)) in (
+    let up = fun-ext (λ (x : ℕ). w .after (a .upper + x) (omega (arith, h .upperApart))) in
+    let lo = fun-ext (λ (x : ℕ). w .after (a .lower + x) (omega (arith, h .lowerApart))) in (
       omega arith,
-      written-more (a .work .now) (l .work) (a .base) (l .v) _ _ (omega arith)
+      written-more (a .work .now) (l .work) (a .base) (l .v) _ _ (omega (arith, h .upperApart, h .upperIn))
           (c .opened .ensures
           ∙ ap₂ min (w .after (a .base + l .v) (omega arith)) (ap₂ (λ (f g : ℕ → ℕ). openBy (a .parts .now) (a .counts .now) (a .n) (a .cost) (getD (a .left .now) (l .v) 0) f g) up lo)) w,
     )

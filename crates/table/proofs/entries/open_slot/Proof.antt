@@ -1,6 +1,9 @@
 use Prim.Native.Nat.{min, _+_, _-_}
 use Rattle.rows.specs.Rows.{stripOf, pointOf}
-use Rattle.table.proofs.entries.Places.{PartsFit, parts-fit, last-in}
+use Rattle.table.proofs.entries.Places.{parts-fit, last-in, below-fits}
+use Rattle.table.specs.Entries.{PartsFit}
+use Rattle.rows.proofs.parts.Marking.{fits-place}
+use Rattle.arrays.proofs.Narrowed.{on-slots}
 use Rattle.table.proofs.entries.Terms.{slot-none, slot-open}
 use mathlib.Core.Path.{refl, ap, sym, _∙_}
 use native.Mathlib.Omega.{arith}
@@ -17,23 +20,22 @@ use Rattle.words.proofs.either.Reads as either-reads
 use Rattle.words.proofs.same.Reads as same-reads
 
 -- the rows of both parts stand below the row that is filled
-fitting : (c : tie.After-part-places) → PartsFit (c .before .before .before .before .before .before .before .args .q .budgets) (c .before .before .before .before .before .before .before .args .base) (length (c .before .before .before .before .before .before .before .args .work .now)) (c .part-places .result .upper) (c .part-places .result .lower)
+fitting : (c : tie.After-part-places) → PartsFit (c .before .before .before .before .before .before .args .q .budgets) (c .before .before .before .before .before .before .args .base) (length (c .before .before .before .before .before .before .args .work .now)) (c .part-places .result .upper) (c .part-places .result .lower)
 fitting c =
-    let p = c .before .before .before .before .before .before .before .pre in
-    parts-fit (p .0) (stripOf (c .before .before .before .before .before .before .before .args .p)) (c .before .before .before .before .before .before .before .args .k) (p .1 .0 .0) (p .1 .0 .1) _ _ (c .part-places .ensures .0) (c .part-places .ensures .1)
+    let p = c .before .before .before .before .before .before .pre in
+    parts-fit (p .0 .ready) (stripOf (c .before .before .before .before .before .before .args .p)) (c .before .before .before .before .before .before .args .k) (p .0 .lies) (p .1 .0) _ _ (c .part-places .ensures .0) (c .part-places .ensures .1)
 
 part-places-requires : tie.Need-part-places-requires
 part-places-requires c κs =
-    let p = c .before .before .before .before .before .before .pre in
-    let f = p .0 .framed in
-    ((f .slotsFew, f .coloursFew, f .budgetsFew, omega (arith, p .0 .within, c .before .before .before .before .before .before .fits)), (p .1 .0 .0, p .0 .stands .colourLow, p .1 .0 .1))
+    let p = c .before .before .before .before .before .pre in
+    (fits-place (below-fits (p .0 .ready)) (omega (arith, p .0 .ready .within, c .before .before .before .before .before .fits)), (p .0 .lies, p .0 .ready .site .colourLow, p .1 .0))
 
 cast-n : tie.Need-cast-n
 cast-n c = search needs
 
 sub-last : tie.Need-sub-last
 sub-last c =
-    omega (arith, c .before .before .before .before .before .before .before .before .pre .0 .framed .budgetsSome)
+    omega (arith, c .before .before .before .before .before .before .before .pre .0 .ready .sheet .someBudget)
 
 add-same : tie.Need-add-same
 add-same c =
@@ -70,20 +72,20 @@ either-requires c κs = search needs
 
 returns : tie.Need-returns
 returns c =
-    let a = c .before .before .before .before .before .before .before .before .before .before .before .before .before .before .args in
-    let p = c .before .before .before .before .before .before .before .before .before .before .before .before .before .before .pre in
+    let a = c .before .before .before .before .before .before .before .before .before .before .before .before .before .args in
+    let p = c .before .before .before .before .before .before .before .before .before .before .before .before .before .pre in
     let e = c .before .before .before .before .before .before .before .part-places .ensures in (
       record { before = λ i h. refl; after = λ i h. refl },
-      λ v h. slot-none (a .q) (a .heights .now) (a .bounds .now) (a .parts .now) (a .counts .now) (a .left .now) (a .work .now) (a .low) (stripOf (a .p)) (pointOf (a .s)) (a .k) v _ _ _ _ _ (omega (arith, c .before .before .before .before .before .before .before .before .before .before .before .before .before .slice-known .given (a .base + v))) (p .1 .1) (e .0) (e .1) (c .before .before .before .before .same .ensures) (c .before .before .same2 .ensures) (sym (c .before .either .ensures) ∙ c .if1 .taken),
+      λ v h. slot-none (a .q) (a .heights .now) (a .parts .now) (a .counts .now) (a .left .now) (a .work .now) (a .low) (stripOf (a .p)) (pointOf (a .s)) (a .k) v _ _ _ _ _ (omega (arith, c .before .before .before .before .before .before .before .before .before .before .before .before .slice-known .given (a .base + v))) (p .1 .1) (e .0) (e .1) (c .before .before .before .before .same .ensures) (c .before .before .same2 .ensures) (sym (c .before .either .ensures) ∙ c .if1 .taken),
     )
 
 open-cost-requires : tie.Need-open-cost-requires
 open-cost-requires c κs =
-    let p = c .before .before .before .before .before .before .before .before .before .before .before .before .before .before .before .pre .0 in record { narrow = p .framed .narrow; heightLow = p .framed .heightLow; yLow = p .stands .yLow }
+    let p = c .before .before .before .before .before .before .before .before .before .before .before .before .before .before .pre .0 in (on-slots (p .ready .sheet), p .ready .site)
 
 open-row-requires : tie.Need-open-row-requires
 open-row-requires c κs =
-    let p = c .before .before .before .before .before .before .before .before .before .before .before .before .before .before .before .before .pre .0 in let f = fitting (c .before .before .before .before .before .before .before .before .before) in (p .listed, (p .leftLong, f .upperApart, f .lowerApart, f .upperIn, f .lowerIn))
+    let p = c .before .before .before .before .before .before .before .before .before .before .before .before .before .before .before .pre .0 in let f = fitting (c .before .before .before .before .before .before .before .before .before) in (p .budgets .listed, f, p .budgets .leftLong)
 
 same-length : tie.Need-same-length
 same-length c =
@@ -91,12 +93,12 @@ same-length c =
 
 returns-2 : tie.Need-returns-2
 returns-2 c =
-    let a = c .before .before .before .before .before .before .before .before .before .before .before .before .before .before .before .before .before .before .before .args in
-    let p = c .before .before .before .before .before .before .before .before .before .before .before .before .before .before .before .before .before .before .before .pre in
+    let a = c .before .before .before .before .before .before .before .before .before .before .before .before .before .before .before .before .before .before .args in
+    let p = c .before .before .before .before .before .before .before .before .before .before .before .before .before .before .before .before .before .before .pre in
     let o = c .before .before .open-row in
     let e = c .before .before .before .before .before .before .before .before .before .before .before .before .part-places .ensures in (
       o .ensures .0,
-      λ v h. o .ensures .1 v h ∙ ap (min (getD (a .work .now) (a .base + v) 0)) (slot-open (a .q) (a .heights .now) (a .bounds .now) (a .parts .now) (a .counts .now) (a .left .now) (a .work .now) (a .low) (stripOf (a .p)) (pointOf (a .s)) (a .k) v _ _ _ _ _ (p .1 .1) (c .before .before .before .open-cost .ensures) (e .0) (e .1) (c .before .before .before .before .before .before .before .before .before .same .ensures) (c .before .before .before .before .before .before .before .same2 .ensures) (sym (c .before .before .before .before .before .before .either .ensures) ∙ c .before .before .before .before .before .if1 .left)),
+      λ v h. o .ensures .1 v h ∙ ap (min (getD (a .work .now) (a .base + v) 0)) (slot-open (a .q) (a .heights .now) (a .parts .now) (a .counts .now) (a .left .now) (a .work .now) (a .low) (stripOf (a .p)) (pointOf (a .s)) (a .k) v _ _ _ _ _ (p .1 .1) (c .before .before .before .open-cost .ensures) (e .0) (e .1) (c .before .before .before .before .before .before .before .before .before .same .ensures) (c .before .before .before .before .before .before .before .same2 .ensures) (sym (c .before .before .before .before .before .before .either .ensures) ∙ c .before .before .before .before .before .if1 .left)),
     )
 
 pub open-slot-spec : {M : Type 1} → statement M

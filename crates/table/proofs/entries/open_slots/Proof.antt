@@ -1,4 +1,6 @@
 use Rattle.rows.specs.Rows.{stripOf, pointOf}
+use Rattle.arrays.proofs.Narrowed.{on-slots}
+use Rattle.table.proofs.entries.Places.{below-fits}
 use Rattle.table.proofs.entries.Terms.{Tried, tried-empty, tried-more, tried-start, tried-end, window-gap}
 use Rattle.table.proofs.entries.Single.{single-of, single-row}
 use mathlib.Core.Path.{_≡_, sym, _∙_}
@@ -15,21 +17,21 @@ use Rattle.table.proofs.entries.open_slot.Reads as open-slot-reads
 use Rattle.strips.proofs.open_window.Reads as open-window-reads
 
 abbrev Inv-loop : tie.InvT-loop
-Inv-loop work₀ q heights bounds parts counts left p s base low window k₀ work k = (window .from ≤ k) × (k ≤ window .to) × Tried q heights bounds parts counts left work₀ work base low (stripOf p) (pointOf s) (k - p .a)
+Inv-loop work₀ q heights parts counts left p s base low window k₀ work k = (window .from ≤ k) × (k ≤ window .to) × Tried q heights parts counts left work₀ work base low (stripOf p) (pointOf s) (k - p .a)
 
 abbrev μ-loop : tie.MeasureT-loop
-μ-loop work₀ q heights bounds parts counts left p s base low window k₀ work k = window .to - k
+μ-loop work₀ q heights parts counts left p s base low window k₀ work k = window .to - k
 
 open-window-requires : tie.Need-open-window-requires Inv-loop μ-loop
 open-window-requires c κs =
-    let p = c .before .before .before .before .before .before .pre in
-    (p .0 .framed .rising, (p .1 .bLow, omega (arith, p .0 .stands .colourLow, p .0 .framed .coloursFew)))
+    let p = c .before .before .before .before .before .pre in
+    (on-slots (p .ready .sheet), p .ready .site, p .lies .bLow)
 
 returns : tie.Need-returns Inv-loop μ-loop
 returns c =
-    let a = c .before .before .before .before .before .before .before .before .before .args in
+    let a = c .before .before .before .before .before .before .before .before .args in
     let w = c .before .before .open-window in
-    let t = tried-empty (a .q) (a .heights .now) (a .bounds .now) (a .parts .now) (a .counts .now) (a .left .now) (a .work .now) (a .base) (a .low) (stripOf (a .p)) (pointOf (a .s)) (w .result) (w .ensures) (c .if1 .taken) (λ i. omega (arith, c .before .before .before .before .before .before .before .before .slice-known .given i)) in
+    let t = tried-empty (a .q) (a .heights .now) (a .parts .now) (a .counts .now) (a .left .now) (a .work .now) (a .base) (a .low) (stripOf (a .p)) (pointOf (a .s)) (w .result) (w .ensures) (c .if1 .taken) (λ i. omega (arith, c .before .before .before .before .before .before .before .slice-known .given i)) in
     (t .others, t .row)
 
 cast-is-single : tie.Need-cast-is-single Inv-loop μ-loop
@@ -37,61 +39,67 @@ cast-is-single c = search needs
 
 is-single-requires : tie.Need-is-single-requires Inv-loop μ-loop
 is-single-requires c κs =
-    let p = c .before .before .before .before .before .before .before .before .before .before .pre in
-    (p .0 .listed, p .0 .leftLong, p .0 .framed .budgetsSome)
+    let p = c .before .before .before .before .before .before .before .before .before .pre in
+    (p .budgets .listed, p .budgets .leftLong, p .ready .sheet .someBudget)
 
 mul-least-open : tie.Need-mul-least-open Inv-loop μ-loop
 mul-least-open c =
-    let p = c .before .before .before .before .before .before .before .before .before .before .before .before .before .pre in
-    omega (arith, p .0 .apart, p .0 .within, p .0 .framed .budgetsSome)
+    let p = c .before .before .before .before .before .before .before .before .before .before .before .before .pre in
+    omega (arith, p .ready .apart, p .ready .within, p .ready .sheet .someBudget)
 
 slice-reshared-read-least-open : tie.Need-slice-reshared-read-least-open Inv-loop μ-loop
 slice-reshared-read-least-open c =
-    let p = c .before .before .before .before .before .before .before .before .before .before .before .before .before .pre in
-    omega (arith, p .0 .apart, p .0 .within, p .0 .framed .budgetsSome)
+    let p = c .before .before .before .before .before .before .before .before .before .before .before .before .pre in
+    omega (arith, p .ready .apart, p .ready .within, p .ready .sheet .someBudget)
 
 least-open-requires : tie.Need-least-open-requires Inv-loop μ-loop
 least-open-requires c κs =
-    let p = c .before .before .before .before .before .before .before .before .before .before .before .before .before .pre in
-    let f = p .0 .framed in
+    let p = c .before .before .before .before .before .before .before .before .before .before .before .before .pre in
     let w = c .before .before .before .before .before .before .open-window .ensures in
     let l = c .before .before .before .before .if1 .left in
-    ((record { narrow = f .narrow; heightLow = f .heightLow; yLow = p .0 .stands .yLow }, p .0 .stands .colourLow, record { slotsFew = f .slotsFew; coloursFew = f .coloursFew; budgetsFew = f .budgetsFew; budgetsSome = f .budgetsSome; within = p .0 .within }), (p .1, (l, w .high l)))
+    record {
+      sheet = on-slots (p .ready .sheet);
+      site = p .ready .site;
+      fits = below-fits (p .ready);
+      lies = p .lies;
+      some = l;
+      high = w .high l;
+    }
 
 mul-work : tie.Need-mul-work Inv-loop μ-loop
 mul-work c =
-    let p = c .before .before .before .before .before .before .before .before .before .before .before .before .before .before .pre in
-    omega (arith, p .0 .apart, p .0 .within, p .0 .framed .budgetsSome)
+    let p = c .before .before .before .before .before .before .before .before .before .before .before .before .before .pre in
+    omega (arith, p .ready .apart, p .ready .within, p .ready .sheet .someBudget)
 
 slice-write-work : tie.Need-slice-write-work Inv-loop μ-loop
 slice-write-work c =
-    let p = c .before .before .before .before .before .before .before .before .before .before .before .before .before .before .pre in
-    omega (arith, p .0 .apart, p .0 .within, p .0 .framed .budgetsSome)
+    let p = c .before .before .before .before .before .before .before .before .before .before .before .before .before .pre in
+    omega (arith, p .ready .apart, p .ready .within, p .ready .sheet .someBudget)
 
 same-length : tie.Need-same-length Inv-loop μ-loop
 same-length c = search needs
 
 returns-2 : tie.Need-returns-2 Inv-loop μ-loop
 returns-2 c =
-    let a = c .before .before .before .before .before .before .before .before .before .before .before .before .before .before .args in
-    let p = c .before .before .before .before .before .before .before .before .before .before .before .before .before .before .pre in
+    let a = c .before .before .before .before .before .before .before .before .before .before .before .before .before .args in
+    let p = c .before .before .before .before .before .before .before .before .before .before .before .before .before .pre in
     let o = single-of (a .q .budgets) (a .parts .now) (a .counts .now) (a .left .now) (sym (c .before .before .before .is-single .ensures) ∙ c .before .before .if2 .taken) in
     let w = c .before .before .before .before .before .before .before .open-window in
-    single-row (a .q) (a .heights .now) (a .bounds .now) (a .parts .now) (a .counts .now) (a .left .now) (a .work .now) (a .base) (a .low) (stripOf (a .p)) (pointOf (a .s)) o (w .result) _ (omega (arith, p .0 .apart, p .0 .within, p .0 .framed .budgetsSome)) (w .ensures) (c .before .before .before .before .before .if1 .left) (c .least-open .ensures)
+    single-row (a .q) (a .heights .now) (a .parts .now) (a .counts .now) (a .left .now) (a .work .now) (a .base) (a .low) (stripOf (a .p)) (pointOf (a .s)) o (w .result) _ (omega (arith, p .ready .apart, p .ready .within, p .ready .sheet .someBudget)) (w .ensures) (c .before .before .before .before .before .if1 .left) (c .least-open .ensures)
 
 loop-holds : tie.Need-loop-holds Inv-loop μ-loop
 loop-holds c =
-    let a = c .before .before .before .before .before .before .before .before .before .before .before .before .args in
-    let p = c .before .before .before .before .before .before .before .before .before .before .before .before .pre in
+    let a = c .before .before .before .before .before .before .before .before .before .before .before .args in
+    let p = c .before .before .before .before .before .before .before .before .before .before .before .pre in
     let w = c .before .before .before .before .before .open-window .ensures in
-    (omega arith, omega (arith, w .ordered), tried-start (a .q) (a .heights .now) (a .bounds .now) (a .parts .now) (a .counts .now) (a .left .now) (a .work .now) (a .base) (a .low) (stripOf (a .p)) (pointOf (a .s)) (c .before .before .before .before .before .open-window .result) w (c .before .before .before .if1 .left) (λ i. omega (arith, c .before .before .before .before .before .before .before .before .before .before .before .slice-known .given i)))
+    (omega arith, omega (arith, w .ordered), tried-start (a .q) (a .heights .now) (a .parts .now) (a .counts .now) (a .left .now) (a .work .now) (a .base) (a .low) (stripOf (a .p)) (pointOf (a .s)) (c .before .before .before .before .before .open-window .result) w (c .before .before .before .if1 .left) (λ i. omega (arith, c .before .before .before .before .before .before .before .before .before .before .slice-known .given i)))
 
 open-slot-requires : tie.Need-open-slot-requires Inv-loop μ-loop
 open-slot-requires c κs =
-    let p = c .before .before .before .before .before .before .before .before .before .before .before .before .before .before .before .before .pre in
+    let p = c .before .before .before .before .before .before .before .before .before .before .before .before .before .before .before .pre in
     let l = c .before .before .before .loop in
     let w = c .before .before .before .before .before .before .before .before .before .open-window .ensures in
-    (rw (l .inv .2 .long) (p .0), ((p .1, omega (arith, c .before .if3 .taken, w .high (c .before .before .before .before .before .before .before .if1 .left))), window-gap (c .before .before .before .before .before .before .before .before .before .before .before .before .before .before .before .before .args .q) (c .before .before .before .before .before .before .before .before .before .before .before .before .before .before .before .before .args .heights .now) (c .before .before .before .before .before .before .before .before .before .before .before .before .before .before .before .before .args .bounds .now) (stripOf (c .before .before .before .before .before .before .before .before .before .before .before .before .before .before .before .before .args .p)) (pointOf (c .before .before .before .before .before .before .before .before .before .before .before .before .before .before .before .before .args .s)) w (l .k) (l .inv .0) (c .before .if3 .taken)))
+    (rw (l .inv .2 .long) p, (omega (arith, c .before .if3 .taken, w .high (c .before .before .before .before .before .before .before .if1 .left)), window-gap (c .before .before .before .before .before .before .before .before .before .before .before .before .before .before .before .args .q) (c .before .before .before .before .before .before .before .before .before .before .before .before .before .before .before .args .heights .now) (stripOf (c .before .before .before .before .before .before .before .before .before .before .before .before .before .before .before .args .p)) (pointOf (c .before .before .before .before .before .before .before .before .before .before .before .before .before .before .before .args .s)) w (l .k) (l .inv .0) (c .before .if3 .taken)))
 
 add-k : tie.Need-add-k Inv-loop μ-loop
 add-k c =
@@ -103,8 +111,8 @@ loop-less c =
 
 loop-again : tie.Need-loop-again Inv-loop μ-loop
 loop-again c =
-    let a = c .before .before .before .before .before .before .before .before .before .before .before .before .before .before .before .before .before .before .before .args in
-    let p = c .before .before .before .before .before .before .before .before .before .before .before .before .before .before .before .before .before .before .before .pre in
+    let a = c .before .before .before .before .before .before .before .before .before .before .before .before .before .before .before .before .before .before .args in
+    let p = c .before .before .before .before .before .before .before .before .before .before .before .before .before .before .before .before .before .before .pre in
     let l = c .before .before .before .before .before .before .loop in
     let o = c .before .before .open-slot in
     let w = c .before .before .before .before .before .before .before .before .before .before .before .before .open-window .ensures in
@@ -112,8 +120,8 @@ loop-again c =
     let f : a .p .a + (l .k - a .p .a) ≡ l .k = omega (arith, l .inv .0, w .low) in (
       omega (arith, l .inv .0),
       omega (arith, c .before .before .before .before .if3 .taken),
-      rw e (tried-more (a .q) (a .heights .now) (a .bounds .now) (a .parts .now) (a .counts .now) (a .left .now) (a .work .now) (l .work) (o .last .0) (a .base) (a .low) (stripOf (a .p)) (pointOf (a .s)) (l .k - a .p .a)
-          (p .0 .apart) (l .inv .2) (o .kept .0) (o .ensures .0) (λ v h. rw f (o .ensures .1 v h))),
+      rw e (tried-more (a .q) (a .heights .now) (a .parts .now) (a .counts .now) (a .left .now) (a .work .now) (l .work) (o .last .0) (a .base) (a .low) (stripOf (a .p)) (pointOf (a .s)) (l .k - a .p .a)
+          (p .ready .apart) (l .inv .2) (o .kept .0) (o .ensures .0) (λ v h. rw f (o .ensures .1 v h))),
     )
 
 same-length-2 : tie.Need-same-length-2 Inv-loop μ-loop
@@ -123,9 +131,9 @@ same-length-2 c =
 returns-3 : tie.Need-returns-3 Inv-loop μ-loop
 returns-3 c =
     let l = c .before .before .loop in
-    let a = c .before .before .before .before .before .before .before .before .before .before .before .before .before .before .before .args in
-    let p = c .before .before .before .before .before .before .before .before .before .before .before .before .before .before .before .pre in
-    let t = tried-end (a .q) (a .heights .now) (a .bounds .now) (a .parts .now) (a .counts .now) (a .left .now) (a .work .now) (l .work) (a .base) (a .low) (stripOf (a .p)) (pointOf (a .s)) (c .before .before .before .before .before .before .before .before .open-window .result) (l .k) (c .before .before .before .before .before .before .before .before .open-window .ensures) (c .before .before .before .before .before .before .if1 .left) (omega (arith, l .inv .1, c .if3 .left)) (l .inv .2) in
+    let a = c .before .before .before .before .before .before .before .before .before .before .before .before .before .before .args in
+    let p = c .before .before .before .before .before .before .before .before .before .before .before .before .before .before .pre in
+    let t = tried-end (a .q) (a .heights .now) (a .parts .now) (a .counts .now) (a .left .now) (a .work .now) (l .work) (a .base) (a .low) (stripOf (a .p)) (pointOf (a .s)) (c .before .before .before .before .before .before .before .before .open-window .result) (l .k) (c .before .before .before .before .before .before .before .before .open-window .ensures) (c .before .before .before .before .before .before .if1 .left) (omega (arith, l .inv .1, c .if3 .left)) (l .inv .2) in
     (t .others, t .row)
 
 pub open-slots-spec : {M : Type 1} → statement M

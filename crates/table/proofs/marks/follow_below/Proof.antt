@@ -25,14 +25,14 @@ abbrev μ-loop : tie.MeasureT-loop
 -- the row that the loop has come to
 row-lies : (c : tie.Then2 Inv-loop μ-loop) → Lies (length (c .before .before .before .before .before .before .before .before .before .before .before .args .heights .now)) (c .before .before .before .before .before .before .before .before .before .before .before .args .q .colours) (stripOf (c .before .before .loop .p))
 row-lies c =
-    let p = c .before .before .before .before .before .before .before .before .before .before .before .pre .1 in
+    let p = c .before .before .before .before .before .before .before .before .before .before .before .pre .2 in
     let l = c .before .before .loop in
     lies-at (length (c .before .before .before .before .before .before .before .before .before .before .before .args .heights .now)) (c .before .before .before .before .before .before .before .before .before .before .before .args .q .colours) (stripOf (l .p)) (omega (arith, l .inv .0, p .0)) (omega (arith, l .inv .1, p .1)) (omega (arith, c .if2 .taken)) (l .inv .2) refl
 
 returns : tie.Need-returns Inv-loop μ-loop
 returns c =
     let a = c .before .before .before .before .before .args in
-    (marking-none _ _ _, λ p t e. absurd (ended _ (a .q .colours) (a .above .slot) (a .above .colour) (c .before .before .before .before .before .pre .1 .1) (sym (c .before .is-upper-end .ensures) ∙ not-f _ (c .if1 .taken)) p t e))
+    (marking-none _ _ _, λ p t e. absurd (ended _ (a .q .colours) (a .above .slot) (a .above .colour) (c .before .before .before .before .before .pre .2 .1) (sym (c .before .is-upper-end .ensures) ∙ not-f _ (c .if1 .taken)) p t e))
 
 cast-n : tie.Need-cast-n Inv-loop μ-loop
 cast-n c = search needs
@@ -49,27 +49,34 @@ add-t16 c = search needs
 row-place-requires : tie.Need-row-place-requires Inv-loop μ-loop
 row-place-requires c κs =
     let p = c .before .before .before .before .before .before .before .pre in
-    let f = p .0 .framed in
-    ((f .slotsFew, f .coloursFew, f .budgetsFew), start-lies _ _ _ _ (p .1 .0) (p .1 .1))
+    let f = p .0 .sheet in
+    ((f .fewSlots, f .fewColours, f .fewBudgets), start-lies _ _ _ _ (p .2 .0) (p .2 .1))
 
 add-at : tie.Need-add-at Inv-loop μ-loop
 add-at c =
     let p = c .before .before .before .before .before .before .before .before .pre in
     let a = c .before .before .before .before .before .before .before .before .args in
-    omega (arith, c .row-place .ensures, p .0 .apart, p .0 .within, row-fits (length (a .heights .now)) (a .q .colours) (a .q .budgets) _ (start-lies (length (a .heights .now)) (a .q .colours) (a .above .slot) (a .above .colour) (p .1 .0) (p .1 .1)))
+    omega (arith, c .row-place .ensures, p .0 .apart, p .0 .within, row-fits (length (a .heights .now)) (a .q .colours) (a .q .budgets) _ (start-lies (length (a .heights .now)) (a .q .colours) (a .above .slot) (a .above .colour) (p .2 .0) (p .2 .1)))
 
 loop-holds : tie.Need-loop-holds Inv-loop μ-loop
 loop-holds c =
     let p = c .before .before .before .before .before .before .before .before .pre in
     let a = c .before .before .before .before .before .before .before .before .args in
-    (refl, refl, omega arith, omega (arith, p .1 .0), ap (λ (z : ℕ). a .base + z) (c .row-place .ensures), refl, followed-none (a .q) (a .heights .now) (a .bounds .now) (a .base) (a .low) (pointOf (a .s)) (a .work .now) (a .above .slot) (a .above .colour) _ (p .1 .1) refl)
+    (refl, refl, omega arith, omega (arith, p .2 .0), ap (λ (z : ℕ). a .base + z) (c .row-place .ensures), refl, followed-none (a .q) (a .heights .now) (a .bounds .now) (a .base) (a .low) (pointOf (a .s)) (a .work .now) (a .above .slot) (a .above .colour) _ (p .2 .1) refl)
 
 mark-row-requires : tie.Need-mark-row-requires Inv-loop μ-loop
 mark-row-requires c κs =
     let p = c .before .before .before .before .before .before .before .before .before .before .before .before .pre in
     let l = c .before .before .before .loop in
     let r = row-lies (c .before) in
-    ((p .0 .framed, p .0 .stands), ((rw (l .inv .5) (fits-of (p .0)), r), omega (arith, at-low (p .0) _ r _ (l .inv .4), l .inv .5, p .0 .within)))
+    record {
+      sheet = p .0 .sheet;
+      bounded = p .1;
+      site = p .0 .site;
+      fits = rw (l .inv .5) (fits-of (p .0));
+      lies = r;
+      here = omega (arith, at-low (p .0) _ r _ (l .inv .4), l .inv .5, p .0 .within, p .0 .sheet .someBudget);
+    }
 
 add-at-2 : tie.Need-add-at-2 Inv-loop μ-loop
 add-at-2 c =
@@ -82,7 +89,7 @@ next-below-requires : tie.Need-next-below-requires Inv-loop μ-loop
 next-below-requires c κs =
     let p = c .before .before .before .before .before .before .before .before .before .before .before .before .before .before .before .pre in
     let l = c .before .before .before .before .before .before .loop in
-    (p .0 .framed .coloursFew, omega (arith, l .inv .3, p .0 .framed .slotsFew), l .inv .2)
+    (p .0 .sheet .fewColours, omega (arith, l .inv .3, p .0 .sheet .fewSlots), l .inv .2)
 
 loop-less : tie.Need-loop-less Inv-loop μ-loop
 loop-less c =
@@ -104,7 +111,7 @@ loop-again c =
       omega (arith, c .before .before .before .before .before .if2 .taken, next-slot (a .q .colours) (l .p .b) (l .p .cb) _ _ (l .inv .2) (e .3)),
       next-row _ _ _ _ _ (stripOf (l .p)) (stripOf (c .next-below .result)) (e .0) (e .1) (e .3) (l .inv .4),
       f .kept .0 ∙ l .inv .5,
-      rw (e .0, e .1, e .3) (followed-more (a .q) (a .heights .now) (a .bounds .now) (a .base) (a .low) (pointOf (a .s)) _ (l .work) (f .last .0) (stripOf (l .p)) _ (l .at) (p .0 .apart) r refl (l .inv .4) (p .0 .framed .budgetsSome) (l .inv .6) (f .ensures .0) (f .ensures .1)),
+      rw (e .0, e .1, e .3) (followed-more (a .q) (a .heights .now) (a .bounds .now) (a .base) (a .low) (pointOf (a .s)) _ (l .work) (f .last .0) (stripOf (l .p)) _ (l .at) (p .0 .apart) r refl (l .inv .4) (p .0 .sheet .someBudget) (l .inv .6) (f .ensures .0) (f .ensures .1)),
     )
 
 same-length : tie.Need-same-length Inv-loop μ-loop

@@ -33,13 +33,13 @@ follow-below-requires : tie.Need-follow-below-requires Inv-loop μ-loop
 follow-below-requires c κs =
     let p = c .before .before .before .before .before .before .before .pre in
     let l = c .before .before .before .loop in
-    (rw (l .inv .2) p, (omega (arith, c .before .if1 .taken), l .inv .0))
+    (rw (l .inv .2) (p .0), p .1, (omega (arith, c .before .if1 .taken), l .inv .0))
 
 next-end-requires : tie.Need-next-end-requires Inv-loop μ-loop
 next-end-requires c κs =
     let p = c .before .before .before .before .before .before .before .before .before .before .pre in
     let l = c .before .before .before .before .before .before .loop in
-    (p .framed .coloursFew, omega (arith, l .inv .1, p .framed .slotsFew), l .inv .0)
+    (p .0 .sheet .fewColours, omega (arith, l .inv .1, p .0 .sheet .fewSlots), l .inv .0)
 
 loop-less : tie.Need-loop-less Inv-loop μ-loop
 loop-less c =
@@ -56,7 +56,7 @@ loop-again c =
       e .0,
       omega (arith, c .before .before .before .before .before .if1 .taken, next-slot (a .q .colours) (l .above .slot) (l .above .colour) _ _ (l .inv .0) (e .1)),
       f .kept .0 ∙ l .inv .2,
-      rw (e .1) (passed-more (a .q) (a .heights .now) (a .bounds .now) (a .base) (a .low) (pointOf (a .s)) _ (l .work) (f .last .0) _ (p .apart) (p .framed .budgetsSome) (l .inv .3) (f .ensures .0) (f .ensures .1)),
+      rw (e .1) (passed-more (a .q) (a .heights .now) (a .bounds .now) (a .base) (a .low) (pointOf (a .s)) _ (l .work) (f .last .0) _ (p .0 .apart) (p .0 .sheet .someBudget) (l .inv .3) (f .ensures .0) (f .ensures .1)),
     )
 
 same-length : tie.Need-same-length Inv-loop μ-loop

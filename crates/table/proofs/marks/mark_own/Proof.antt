@@ -17,7 +17,7 @@ returns c =
 row-place-requires : tie.Need-row-place-requires
 row-place-requires c κs =
     let r = c .before .before .pre .0 in
-    ((r .slotsFew, r .coloursFew, r .budgetsFew), c .before .before .pre .1)
+    ((r .fewSlots, r .fewColours, r .fewBudgets), c .before .before .pre .1)
 
 add-at : tie.Need-add-at
 add-at c =

@@ -3,6 +3,7 @@ use Rattle.lists.proofs.Tests.{not-e, not-f, clash}
 use Rattle.optimum.specs.OneSided.{topWord}
 use Rattle.rows.specs.Rows.{stripOf, pointOf}
 use Rattle.rows.proofs.parts.Marking.{marking-none, marking-join}
+use Rattle.arrays.proofs.Narrowed.{on-slots}
 use Rattle.table.proofs.marks.Asked.{marked-out, marked-in}
 use mathlib.Core.Path.{refl, ap, sym, _∙_}
 use Prim.Native.Nat.{ℕ, _-_}
@@ -30,7 +31,7 @@ is-inside-requires c κs = search needs
 
 mark-own-requires : tie.Need-mark-own-requires
 mark-own-requires c κs =
-    c .before .before .before .before .before .before .before .before .pre .1 .0
+    let p = c .before .before .before .before .before .before .before .before .pre in (p .fits, p .lies)
 
 same-length : tie.Need-same-length
 same-length c =
@@ -40,31 +41,31 @@ returns-2 : tie.Need-returns-2
 returns-2 c =
     let a = c .before .before .before .before .before .before .before .before .before .before .before .args in
     let o = c .before .before .mark-own .ensures in
-    (o .0, λ k. marked-out (a .q) (a .heights .now) (a .bounds .now) (stripOf (a .p)) (pointOf (a .s)) (c .before .before .mark-own .last .0) (a .low) (sym (c .before .before .before .before .before .is-inside .ensures) ∙ not-f _ (c .before .before .before .before .if2 .taken)) (o .1 refl))
+    (o .0, λ k. marked-out (a .q) (a .heights .now) (a .bounds .now) (stripOf (a .p)) (pointOf (a .s)) (c .before .before .mark-own .last .0) (a .low) (sym (c .before .before .before .before .before .is-inside .ensures (a .q) (a .bounds .now)) ∙ not-f _ (c .before .before .before .before .if2 .taken)) (o .1 refl))
 
 join-least-requires : tie.Need-join-least-requires
 join-least-requires c κs =
-    let p = c .before .before .before .before .before .before .before .pre in (p .0 .0, (p .1 .0 .1, p .0 .1))
+    let p = c .before .before .before .before .before .before .before .pre in (on-slots (p .sheet), p .site, p .lies)
 
 less-requires : tie.Need-less-requires
 less-requires c κs = search needs
 
 mark-own-requires-2 : tie.Need-mark-own-requires-2
 mark-own-requires-2 c κs =
-    c .before .before .before .before .before .before .before .before .before .before .pre .1 .0
+    let p = c .before .before .before .before .before .before .before .before .before .before .pre in (p .fits, p .lies)
 
 site-opens-requires : tie.Need-site-opens-requires
 site-opens-requires c κs =
-    let p = c .before .before .before .before .before .before .before .before .before .before .before .before .before .pre in omega (arith, p .0 .1 .colourLow, p .0 .0 .bounded)
+    let p = c .before .before .before .before .before .before .before .before .before .before .before .before .before .pre in omega (arith, p .site .colourLow, p .bounded)
 
 open-window-requires : tie.Need-open-window-requires
 open-window-requires c κs =
-    let p = c .before .before .before .before .before .before .before .before .before .before .before .before .before .before .before .before .pre in (p .0 .0 .rising, (p .1 .0 .1 .bLow, omega (arith, p .0 .1 .colourLow, p .0 .0 .coloursFew)))
+    let p = c .before .before .before .before .before .before .before .before .before .before .before .before .before .before .before .before .pre in (on-slots (p .sheet), p .site, p .lies .bLow)
 
 mark-window-requires : tie.Need-mark-window-requires
 mark-window-requires c κs =
     let p = c .before .before .before .before .before .before .before .before .before .before .before .before .before .before .before .before .before .pre in
-    ((rw (c .before .before .before .before .before .before .mark-own2 .kept .0) (p .1 .0 .0), p .1 .0 .1), (p .0 .1 .colourLow, c .open-window .ensures .high))
+    ((rw (c .before .before .before .before .before .before .mark-own2 .kept .0) (p .fits), p .lies), (p .site .colourLow, c .open-window .ensures .high))
 
 same-length-2 : tie.Need-same-length-2
 same-length-2 c =
@@ -76,10 +77,10 @@ returns-3 c =
     let p = c .before .before .before .before .before .before .before .before .before .before .before .before .before .before .before .before .before .before .before .before .pre in
     let o = c .before .before .before .before .before .before .before .before .before .mark-own2 .ensures in
     let w = c .before .before .mark-window .ensures in
-    let i = sym (c .before .before .before .before .before .before .before .before .before .before .before .before .before .before .is-inside .ensures) ∙ not-e _ (c .before .before .before .before .before .before .before .before .before .before .before .before .before .if2 .left) in (
+    let i = sym (c .before .before .before .before .before .before .before .before .before .before .before .before .before .before .is-inside .ensures (a .q) (a .bounds .now)) ∙ not-e _ (c .before .before .before .before .before .before .before .before .before .before .before .before .before .if2 .left) in (
       marking-join _ _ _ _ _ (o .0) (w .0),
-      λ k. marked-in (a .q) (a .heights .now) (a .bounds .now) (stripOf (a .p)) (pointOf (a .s)) _ (a .low) (c .before .before .before .open-window .result) (p .1 .0 .1) (p .0 .0) (p .0 .1) i
-          (λ h. w .0 .kept _ (o .1 (c .before .before .before .before .before .before .before .before .before .before .before .less .ensures ∙ ap (λ (z : ℕ). ltb z topWord) (c .before .before .before .before .before .before .before .before .before .before .before .before .join-least .ensures) ∙ lt-ltb _ _ h)))
+      λ k. marked-in (a .q) (a .heights .now) (a .bounds .now) (stripOf (a .p)) (pointOf (a .s)) _ (a .low) (c .before .before .before .open-window .result) (p .lies) (on-slots (p .sheet)) (p .site) i
+          (λ h. w .0 .kept _ (o .1 (c .before .before .before .before .before .before .before .before .before .before .before .less .ensures ∙ ap (λ (z : ℕ). ltb z topWord) (c .before .before .before .before .before .before .before .before .before .before .before .before .join-least .ensures (a .bounds .now)) ∙ lt-ltb _ _ h)))
           (λ s. (c .before .before .before .open-window .ensures, w .1)),
     )
 
@@ -92,18 +93,18 @@ returns-4 c =
     let a = c .before .before .before .before .before .before .before .before .before .before .before .before .before .before .before .args in
     let p = c .before .before .before .before .before .before .before .before .before .before .before .before .before .before .before .pre in
     let o = c .before .before .before .before .mark-own2 .ensures in
-    let i = sym (c .before .before .before .before .before .before .before .before .before .is-inside .ensures) ∙ not-e _ (c .before .before .before .before .before .before .before .before .if2 .left) in (
+    let i = sym (c .before .before .before .before .before .before .before .before .before .is-inside .ensures (a .q) (a .bounds .now)) ∙ not-e _ (c .before .before .before .before .before .before .before .before .if2 .left) in (
       o .0,
-      λ k. marked-in (a .q) (a .heights .now) (a .bounds .now) (stripOf (a .p)) (pointOf (a .s)) (c .before .before .before .before .mark-own2 .last .0) (a .low) (record { from = 0; to = 0 }) (p .1 .0 .1) (p .0 .0) (p .0 .1) i
-          (λ h. o .1 (c .before .before .before .before .before .before .less .ensures ∙ ap (λ (z : ℕ). ltb z topWord) (c .before .before .before .before .before .before .before .join-least .ensures) ∙ lt-ltb _ _ h))
+      λ k. marked-in (a .q) (a .heights .now) (a .bounds .now) (stripOf (a .p)) (pointOf (a .s)) (c .before .before .before .before .mark-own2 .last .0) (a .low) (record { from = 0; to = 0 }) (p .lies) (on-slots (p .sheet)) (p .site) i
+          (λ h. o .1 (c .before .before .before .before .before .before .less .ensures ∙ ap (λ (z : ℕ). ltb z topWord) (c .before .before .before .before .before .before .before .join-least .ensures (a .bounds .now)) ∙ lt-ltb _ _ h))
           (λ s. clash s (sym (c .before .site-opens .ensures) ∙ c .if3 .left)),
     )
 
 mul-if1 : tie.Need-mul-if1
-mul-if1 c = search needs
+mul-if1 c = omega (arith, c .before .before .before .pre .here)
 
 slice-read-if1 : tie.Need-slice-read-if1
-slice-read-if1 c = search needs
+slice-read-if1 c = c .before .before .before .before .pre .here
 
 pub mark-row-spec : {M : Type 1} → statement M
 mark-row-spec =

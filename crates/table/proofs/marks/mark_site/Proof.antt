@@ -1,7 +1,8 @@
 use Rattle.table.proofs.marks.Reach.{at-site}
 use Rattle.table.proofs.marks.Levels.{next-level, level-within}
 use Rattle.table.proofs.marks.Points.{point-at}
-use Rattle.strips.specs.Strips.{Stands}
+use Rattle.arrays.specs.Given.{SiteIn}
+use Rattle.arrays.proofs.Narrowed.{on-slots}
 use mathlib.Core.Path.{refl, sym, _∙_, subst}
 use Prim.Native.Nat.{_-_}
 use native.Mathlib.Omega.{arith}
@@ -15,12 +16,12 @@ use Rattle.table.proofs.marks.follow_level.Reads as follow-level-reads
 
 site-at-requires : tie.Need-site-at-requires
 site-at-requires c κs =
-    let p = c .before .before .before .before .before .before .pre in (p .1 .2, omega (arith, p .0 .1 .ysLong, p .1 .2), omega (arith, p .0 .1 .csLong, p .1 .2))
+    let p = c .before .before .before .before .before .before .pre in (p .3 .1, omega (arith, p .0 .ysLong, p .3 .1), omega (arith, p .0 .coloursLong, p .3 .1))
 
 mul-follow-level : tie.Need-mul-follow-level
 mul-follow-level c =
     let p = c .before .before .before .before .before .before .before .before .pre in
-    omega (arith, level-within (c .before .before .before .before .before .before .before .before .args .j) (length (c .before .before .before .before .before .before .before .before .args .xs .now)) (c .before .before .before .before .before .before .before .before .args .size) _ _ refl (p .1 .2) (p .1 .1))
+    omega (arith, level-within (c .before .before .before .before .before .before .before .before .args .j) (length (c .before .before .before .before .before .before .before .before .args .xs .now)) (c .before .before .before .before .before .before .before .before .args .size) _ _ (p .3 .0) (p .3 .1) (p .2))
 
 add-follow-level : tie.Need-add-follow-level
 add-follow-level c = search needs
@@ -28,19 +29,21 @@ add-follow-level c = search needs
 mul-follow-level-2 : tie.Need-mul-follow-level-2
 mul-follow-level-2 c =
     let p = c .before .before .before .before .before .before .before .before .pre in
-    omega (arith, level-within (c .before .before .before .before .before .before .before .before .args .j) (length (c .before .before .before .before .before .before .before .before .args .xs .now)) (c .before .before .before .before .before .before .before .before .args .size) _ _ refl (p .1 .2) (p .1 .1))
+    omega (arith, level-within (c .before .before .before .before .before .before .before .before .args .j) (length (c .before .before .before .before .before .before .before .before .args .xs .now)) (c .before .before .before .before .before .before .before .before .args .size) _ _ (p .3 .0) (p .3 .1) (p .2))
 
 follow-level-requires : tie.Need-follow-level-requires
 follow-level-requires c κs =
     let p = c .before .before .before .before .before .before .before .before .pre in
     let a = c .before .before .before .before .before .before .before .before .args in
-    let r = level-within (a .j) (length (a .xs .now)) (a .size) _ _ refl (p .1 .2) (p .1 .1) in
-    record {
-      framed = p .0 .0;
-      stands = subst (Stands (a .q .colours)) (sym (c .before .site-at .ensures)) (record { colourLow = p .0 .1 .csLow (a .j) (p .1 .2); yLow = p .0 .1 .ysLow (a .j) (p .1 .2) });
-      apart = omega (arith, p .1 .0, next-level (a .j) (a .size));
-      within = omega (arith, p .1 .0, r .1);
-    }
+    let r = level-within (a .j) (length (a .xs .now)) (a .size) _ _ (p .3 .0) (p .3 .1) (p .2) in (
+      record {
+        sheet = on-slots (p .0);
+        site = subst (SiteIn (a .q)) (sym (c .before .site-at .ensures)) (p .0 .siteIn (a .j) (p .3 .1));
+        apart = omega (arith, p .3 .0, next-level (a .j) (a .size));
+        within = omega (arith, p .3 .0, r .1);
+      },
+      p .1,
+    )
 
 same-length : tie.Need-same-length
 same-length c =
@@ -50,7 +53,7 @@ returns : tie.Need-returns
 returns c =
     let p = c .before .before .before .before .before .before .before .before .before .before .before .pre in
     let a = c .before .before .before .before .before .before .before .before .before .before .before .args in
-    at-site (a .q) (a .heights .now) (a .bounds .now) (a .work .now) (c .before .before .follow-level .last .0) (a .size) _ _ _ _ (p .1 .0) (point-at (a .xs .now) (a .ys .now) (a .cs .now) (a .j) (p .0 .1 .ysLong) (p .0 .1 .csLong) (p .1 .2) ∙ sym (c .before .before .before .before .site-at .ensures)) (c .before .before .follow-level .ensures)
+    at-site (a .q) (a .heights .now) (a .bounds .now) (a .work .now) (c .before .before .follow-level .last .0) (a .size) _ _ _ _ (p .3 .0) (point-at (a .xs .now) (a .ys .now) (a .cs .now) (a .j) (p .0 .ysLong) (p .0 .coloursLong) (p .3 .1) ∙ sym (c .before .before .before .before .site-at .ensures)) (c .before .before .follow-level .ensures)
 
 pub mark-site-spec : {M : Type 1} → statement M
 mark-site-spec =

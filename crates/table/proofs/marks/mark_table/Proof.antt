@@ -1,10 +1,11 @@
 use native.Mathlib.Nat.{mul-le-mul}
 use Rattle.arrays.specs.Arrays.{pointsBy}
-use Rattle.strips.specs.Strips.{instanceOn, Framed}
+use Rattle.strips.specs.Strips.{instanceOn}
+use Rattle.arrays.specs.Given.{OfSheet}
 use Rattle.rows.specs.Rows.{levelSize}
 use Rattle.rows.proofs.Places.{rows-few}
-use Rattle.table.specs.Marks.{Sites, ReachMarked}
-use Rattle.table.proofs.marks.Levels.{level-small, count-words, first-within, past-level, enough, few, few-rows}
+use Rattle.table.specs.Marks.{onSites, ReachMarked}
+use Rattle.table.proofs.marks.Levels.{level-small, count-words, first-within, past-level, few, few-rows, level-fits}
 use Rattle.table.proofs.marks.Reach.{reach-first, reach-more, whole-marked, to-level}
 use mathlib.Core.Path.{_≡_, refl, ap, _∙_}
 use Prim.Native.Nat.{ℕ, _+_, _-_, _*_, _≤_}
@@ -20,7 +21,7 @@ use Rattle.table.proofs.marks.mark_own.Reads as mark-own-reads
 use Rattle.table.proofs.marks.mark_site.Reads as mark-site-reads
 
 abbrev Inv-loop : tie.InvT-loop
-Inv-loop work₀ q heights bounds xs ys cs rows n size j₀ work j = (size ≡ levelSize q heights) × (j ≤ length xs) × (length work ≡ length work₀) × ((f : Framed q heights bounds) → Sites q xs ys cs → ReachMarked (instanceOn q heights bounds) q (pointsBy xs ys cs) work size (j + 1)) × ((i : ℕ) → (length xs + 1) * size ≤ i → getD work i 0 ≡ getD work₀ i 0)
+Inv-loop work₀ q heights bounds xs ys cs rows n size j₀ work j = (size ≡ levelSize q heights) × (j ≤ length xs) × (length work ≡ length work₀) × (OfSheet (onSites q heights bounds xs ys cs) → ReachMarked (instanceOn q heights bounds) q (pointsBy xs ys cs) work size (j + 1)) × ((i : ℕ) → (length xs + 1) * size ≤ i → getD work i 0 ≡ getD work₀ i 0)
 
 abbrev μ-loop : tie.MeasureT-loop
 μ-loop work₀ q heights bounds xs ys cs rows n size j₀ work j = length xs - j
@@ -32,7 +33,7 @@ mul-size : tie.Need-mul-size Inv-loop μ-loop
 mul-size c =
     let p = c .before .before .before .before .before .before .before .pre in
     let a = c .before .before .before .before .before .before .before .args in
-    omega (arith, level-small _ _ _ (p .0 .0), ap (λ (z : ℕ). z * a .q .budgets) (p .1 .0))
+    omega (arith, level-small (p .0), ap (λ (z : ℕ). z * a .q .budgets) (p .3))
 
 add-clear-marks : tie.Need-add-clear-marks Inv-loop μ-loop
 add-clear-marks c = search needs
@@ -41,13 +42,13 @@ mul-clear-marks : tie.Need-mul-clear-marks Inv-loop μ-loop
 mul-clear-marks c =
     let p = c .before .before .before .before .before .before .before .before .pre in
     let a = c .before .before .before .before .before .before .before .before .args in
-    omega (arith, mul-le-mul {n₂ = 33} {m₂ = 202500} (few _ (p .0 .1 .sitesFew)) (few-rows _ _ _ (p .1 .0) (rows-few _ _ (p .0 .0 .slotsFew) (p .0 .0 .coloursFew))))
+    omega (arith, mul-le-mul {n₂ = 33} {m₂ = 202500} (few _ (p .0 .fewSites)) (few-rows _ _ _ (p .3) (rows-few _ _ (p .0 .fewSlots) (p .0 .fewColours))))
 
 clear-marks-requires : tie.Need-clear-marks-requires Inv-loop μ-loop
 clear-marks-requires c κs =
     let p = c .before .before .before .before .before .before .before .before .pre in
     let a = c .before .before .before .before .before .before .before .before .args in
-    (count-words (length (a .xs .now) + 1) (a .rows) (a .q .budgets) _ _ (ap (λ (z : ℕ). z * a .q .budgets) (p .1 .0)) (p .1 .1), p .0 .0 .budgetsSome)
+    (count-words (length (a .xs .now) + 1) (a .rows) (a .q .budgets) _ _ (ap (λ (z : ℕ). z * a .q .budgets) (p .3)) (p .2), p .0 .someBudget)
 
 cast-t19 : tie.Need-cast-t19 Inv-loop μ-loop
 cast-t19 c = search needs
@@ -57,15 +58,8 @@ add-t20 c = search needs
 
 mark-own-requires : tie.Need-mark-own-requires Inv-loop μ-loop
 mark-own-requires c κs =
-    let p = c .before .before .before .before .before .before .before .before .before .before .before .before .pre in
-    let f = p .0 .0 in (
-      record {
-        slotsFew = f .slotsFew;
-        coloursFew = f .coloursFew;
-        budgetsFew = f .budgetsFew;
-        budgetsSome = f .budgetsSome;
-        within = rw (c .before .before .before .clear-marks .kept .0) (first-within _ _ _ (p .1 .1));
-      },
+    let p = c .before .before .before .before .before .before .before .before .before .before .before .before .pre in (
+      level-fits (p .0) (rw (c .before .before .before .clear-marks .kept .0) (first-within _ _ _ (p .2))),
       record { aLow = omega arith; caLow = omega arith; bLow = omega arith; cbLow = omega arith; dLow = refl },
     )
 
@@ -73,18 +67,18 @@ loop-holds : tie.Need-loop-holds Inv-loop μ-loop
 loop-holds c =
     let a = c .before .before .before .before .before .before .before .before .before .before .before .before .before .before .before .args in
     let p = c .before .before .before .before .before .before .before .before .before .before .before .before .before .before .before .pre in
-    let e = ap (λ (z : ℕ). z * a .q .budgets) (p .1 .0) in
-    (e, omega arith, refl, λ f g. reach-first (a .q) (a .heights .now) (a .bounds .now) f (a .xs .now) (a .ys .now) (a .cs .now) g (c .before .before .mark-own .last .0) (a .rows * a .q .budgets) (whole-marked (a .q) (a .heights .now) (a .bounds .now) (c .before .before .mark-own .last .0) (c .before .before .mark-own .ensures .1 refl)), λ i h. refl)
+    let e = ap (λ (z : ℕ). z * a .q .budgets) (p .3) in
+    (e, omega arith, refl, λ o. reach-first o (c .before .before .mark-own .last .0) (a .rows * a .q .budgets) (whole-marked (a .q) (a .heights .now) (a .bounds .now) (c .before .before .mark-own .last .0) (c .before .before .mark-own .ensures .1 refl)), λ i h. refl)
 
 mark-site-requires : tie.Need-mark-site-requires Inv-loop μ-loop
 mark-site-requires c κs =
     let p = c .before .before .before .before .before .before .before .before .before .before .before .before .before .before .before .before .before .before .pre in
     let l = c .before .before .loop in
-    (p .0, (l .inv .0, enough _ _ _ _ _ (l .inv .0) (p .1 .1) (l .inv .2 ∙ c .before .before .before .before .before .mark-own .kept .0 ∙ c .before .before .before .before .before .before .before .before .before .clear-marks .kept .0), c .before .loop-test .taken))
+    (p .0, p .1, omega (arith, p .2, l .inv .2 ∙ c .before .before .before .before .before .mark-own .kept .0 ∙ c .before .before .before .before .before .before .before .before .before .clear-marks .kept .0), (l .inv .0, c .before .loop-test .taken))
 
 add-j : tie.Need-add-j Inv-loop μ-loop
 add-j c =
-    omega (arith, c .before .before .before .before .loop-test .taken, c .before .before .before .before .before .before .before .before .before .before .before .before .before .before .before .before .before .before .before .before .before .pre .0 .1 .sitesFew)
+    omega (arith, c .before .before .before .before .loop-test .taken, c .before .before .before .before .before .before .before .before .before .before .before .before .before .before .before .before .before .before .before .before .before .pre .0 .fewSites)
 
 loop-less : tie.Need-loop-less Inv-loop μ-loop
 loop-less c =
@@ -99,7 +93,7 @@ loop-again c =
       l .inv .0,
       omega (arith, c .before .before .before .before .loop-test .taken),
       m .kept .0 ∙ l .inv .2,
-      (λ f g. reach-more (a .q) (a .heights .now) (a .bounds .now) f (a .xs .now) (a .ys .now) (a .cs .now) g (l .work) (m .last .0) _ (l .j) (c .before .before .before .before .loop-test .taken) (l .inv .3 f g) (m .ensures .0) (m .ensures .1)),
+      (λ o. reach-more o (l .work) (m .last .0) _ (l .j) (c .before .before .before .before .loop-test .taken) (l .inv .3 o) (m .ensures .0) (m .ensures .1)),
       λ i h. m .ensures .0 .others .after i (past-level (l .j) (length (a .xs .now)) _ i (c .before .before .before .before .loop-test .taken) h) ∙ l .inv .4 i h,
     )
 
@@ -113,9 +107,9 @@ returns c =
     let p = c .before .before .before .before .before .before .before .before .before .before .before .before .before .before .before .before .before .pre in
     let l = c .before .loop in
     let z : l .j ≡ length (a .xs .now) = omega (arith, c .loop-test .left, l .inv .1) in (
-      to-level (instanceOn (a .q) (a .heights .now) (a .bounds .now)) (a .q) (pointsBy (a .xs .now) (a .ys .now) (a .cs .now)) (l .work) _ _ (l .j) (l .inv .0) z (l .inv .3 (p .0 .0) (p .0 .1)),
+      to-level (instanceOn (a .q) (a .heights .now) (a .bounds .now)) (a .q) (pointsBy (a .xs .now) (a .ys .now) (a .cs .now)) (l .work) _ _ (l .j) (l .inv .0) z (l .inv .3 (p .0)),
       λ i h.
-          let e = ap (λ (z : ℕ). z * a .q .budgets) (p .1 .0) in
+          let e = ap (λ (z : ℕ). z * a .q .budgets) (p .3) in
           l .inv .4 i (rw (l .inv .0) h) ∙ c .before .before .before .before .mark-own .ensures .0 .others .after i (first-within _ _ _ h) ∙ c .before .before .before .before .before .before .before .before .clear-marks .ensures .1 i (count-words (length (a .xs .now) + 1) (a .rows) (a .q .budgets) _ _ e h),
     )
 
