@@ -16,9 +16,10 @@ pub const MARGIN: f64 = 11.0;
 const POINT: f64 = 3.0;
 /// Free room between two numbers.
 const SPACING: f64 = 1.0;
-/// How far from its site a number is tried, and in how many directions.
+/// How far from its site a number is tried, and in which directions of each quarter. They are written out, so that
+/// every machine places numbers alike.
 const DISTANCES: [f64; 13] = [14.0, 17.0, 20.0, 24.0, 29.0, 35.0, 42.0, 50.0, 60.0, 72.0, 86.0, 102.0, 120.0];
-const DIRECTIONS: usize = 24;
+const QUARTER: [Point; 6] = [(1.0, 0.0), (0.966, 0.259), (0.866, 0.5), (0.707, 0.707), (0.5, 0.866), (0.259, 0.966)];
 
 /// A site's number: where the site is, and where the number stands.
 #[derive(Clone, Copy, Debug)]
@@ -115,14 +116,15 @@ impl Surroundings {
             let is_off = !Area::around(at, POINT).overlaps(&balloon.area());
             (is_off && self.room.contains(&balloon.area()) && self.is_free(site, &balloon, places)).then_some(balloon)
         };
-        let around = around(at).filter_map(|centre| free(&centre));
-        let best = around.min_by(|one, other| self.cost(one, places).total_cmp(&self.cost(other, places)));
+        let near = around(at).filter_map(|(far, centre)| free(&centre).map(|found| (far, found)));
+        let near = near.map(|(far, found)| (far + self.cost(&found, places), found));
+        let best = near.min_by(|one, other| one.0.total_cmp(&other.0)).map(|(_, found)| found);
         let cells = || self.cells(reach).filter_map(|centre| free(&centre));
-        let far = |balloon: &Balloon| distance(balloon.site, balloon.centre);
+        let far = |found: &Balloon| (found.centre.0 - at.0).powi(2) + (found.centre.1 - at.1).powi(2);
         best.or_else(|| cells().min_by(|one, other| far(one).total_cmp(&far(other))))
     }
 
-    /// How far off a number is, and how many strokes it and its thin line meet.
+    /// What speaks against a place besides its distance: the strokes that the number and its thin line meet.
     fn cost(&self, balloon: &Balloon, places: &[Option<Balloon>]) -> f64 {
         let line = (balloon.site, balloon.centre);
         let covered = self.strokes.iter().filter(|stroke| meets(&balloon.area(), stroke)).count() as f64;
@@ -130,7 +132,7 @@ impl Surroundings {
         let moved = places.iter().flatten().filter(|other| other.is_moved());
         let tangled = moved.filter(|other| crosses(&(other.site, other.centre), &line)).count() as f64;
         let over = places.iter().flatten().filter(|other| passes(&other.area(), &line)).count() as f64;
-        distance(balloon.site, balloon.centre) + 14.0 * covered + 5.0 * crossed + 40.0 * (tangled + over)
+        14.0 * covered + 5.0 * crossed + 40.0 * (tangled + over)
     }
 
     /// The room in cells of one number each.
@@ -145,14 +147,10 @@ impl Surroundings {
     }
 }
 
-fn around((x, y): Point) -> impl Iterator<Item = Point> {
-    let angle = |direction: usize| direction as f64 * std::f64::consts::TAU / DIRECTIONS as f64;
-    let directions = (0..DIRECTIONS).map(move |direction| angle(direction).sin_cos());
-    directions.flat_map(move |(sine, cosine)| DISTANCES.map(|far| (x + far * cosine, y - far * sine)))
-}
-
-fn distance(from: Point, to: Point) -> f64 {
-    (from.0 - to.0).hypot(from.1 - to.1)
+/// The places that are tried around a point, each with its distance.
+fn around((x, y): Point) -> impl Iterator<Item = (f64, Point)> {
+    let directions = QUARTER.into_iter().flat_map(|(a, b)| [(a, -b), (-b, -a), (-a, b), (b, a)]);
+    directions.flat_map(move |(a, b)| DISTANCES.map(|far| (far, (x + far * a, y + far * b))))
 }
 
 /// Whether a stroke, which is level or upright, meets an area.

@@ -28,14 +28,21 @@ pub struct Scale {
 
 /// The largest scale that is not above the limit.
 fn fitting(limit: f64) -> f64 {
-    let ten = 10f64.powi(limit.log10().floor() as i32);
-    let steps: Vec<f64> = if limit >= 1.0 {
-        STEPS.iter().map(|step| step * ten).collect()
-    } else {
-        STEPS.iter().map(|step| 10.0 * ten / step).collect()
-    };
-    // The tens stand for the case that the logarithm was rounded.
-    steps.into_iter().filter(|step| *step <= limit * 1.000_001).fold(ten, f64::max)
+    let ten = ten_below(limit);
+    let scale = |step: &f64| if limit >= 1.0 { step * ten } else { 10.0 * ten / step };
+    STEPS.iter().map(scale).filter(|scale| *scale <= limit).fold(ten, f64::max)
+}
+
+/// The largest power of ten that is not above a number, by plain steps, which every machine takes alike.
+fn ten_below(number: f64) -> f64 {
+    let mut ten = 1.0;
+    while ten * 10.0 <= number {
+        ten *= 10.0;
+    }
+    while ten > number {
+        ten /= 10.0;
+    }
+    ten
 }
 
 /// The lowest place of a sheet that a slot or a site takes; a sheet has no height of its own.
@@ -85,7 +92,7 @@ const LONGEST_BAR: f64 = 110.0;
 
 /// The largest of 1, 2 and 5, by tens, that is not above a number.
 fn round_below(number: f64) -> f64 {
-    let ten = 10f64.powi(number.log10().floor() as i32);
+    let ten = ten_below(number);
     [1.0, 2.0, 5.0].into_iter().map(|step| step * ten).filter(|step| *step <= number).fold(ten, f64::max)
 }
 

@@ -6,6 +6,7 @@ use backbone::{judge, Layout, Rule, Sheet};
 use common::{elements, example_names, example_picture, folder, hold_texts_apart, strokes, Element};
 use draw::{compare, examples, picture, sheet_and_layout, Options, Side};
 use model::random::{sheet_of, small_sheet, Random, Shape};
+use model::rounding::Rounding;
 use model::rules::layout_words;
 use model::sheet::read;
 
@@ -52,12 +53,18 @@ fn examples_have_the_strokes_of_their_layouts() {
         let words = record.unwrap().words;
         let (_, layout) = sheet_and_layout(&words).unwrap();
         let elements = elements(&example_picture(&name));
-        // A comparison has a frame for each panel; the first is the best layout's.
+        // The picture of rounded lengths has two panels: the best layout, and the rival's.
         let frames: Vec<usize> = (0..elements.len()).filter(|index| elements[*index].is("frame")).collect();
+        assert_eq!(frames.len(), if name == "rounding" { 2 } else { 1 }, "{name}");
         let end = frames.get(1).copied().unwrap_or(elements.len());
         match &layout {
             Some(layout) => hold_strokes(&name, &elements[..end], &words, &layout.slots),
             None => assert!(strokes(&elements, "backbone").is_empty() && strokes(&elements, "drop").is_empty()),
+        }
+        if frames.len() == 2 {
+            let rival = model::rounding::lay_out(&read(&words).unwrap(), Rounding::TenthMillimetre).unwrap();
+            let slots: Vec<u8> = rival.into_iter().map(|slot| slot as u8).collect();
+            hold_strokes(&name, &elements[end..], &words, &slots);
         }
         seen += strokes(&elements[..end], "drop").len();
     }
