@@ -11,7 +11,7 @@ ghost use Rattle.report.specs.Report.{programSheetText, programText, reportSize
 use libc::STDIN_FILENO;
 use libc::STDOUT_FILENO;
 use maker::make_layout;
-use report::input::is_unfit;
+use refusals::refusal_12::is_unfit;
 use report::input::wide;
 use report::put_layout;
 use report::put_refused;

@@ -3,16 +3,17 @@ use mathlib.Core.Path.{_≡_}
 use mathlib.Core.List.{List}
 use Prim.Native.Nat.{ℕ, _≤_}
 use native.Mathlib.Omega.{arith}
+use Rattle.sheet.specs.Limits.{mostSlots, mostColours, mostSites, mostBudgets}
 use Rattle.sheet.specs.Sheet.{coloursIn, bodyOf, productOf, sheetIn, sheetFault}
 use Rattle.sheet.specs.Words.{countKind}
 use Rattle.sheet.proofs.Accepted.{Sound, sound}
 use Rattle.sheet.proofs.Counts.{slots-count, colours-count, sites-count}
 
 pub record Fits (body : List ℕ) : Type 0 where
-  pub slots : countKind 2 body ≤ 48
-  pub colours : countKind 3 body ≤ 8
-  pub sites : countKind 4 body ≤ 32
-  pub product : productOf (coloursIn body) ≤ 64
+  pub slots : countKind 2 body ≤ mostSlots
+  pub colours : countKind 3 body ≤ mostColours
+  pub sites : countKind 4 body ≤ mostSites
+  pub product : productOf (coloursIn body) ≤ mostBudgets
 
 pub fits : (ws : List ℕ) → sheetFault ws ≡ 0 → Fits (bodyOf ws)
 fits ws e =

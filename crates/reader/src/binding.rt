@@ -25,7 +25,7 @@ fn binding_into(sheet: &[u32], out: &mut [u32])
 {
     let mut i: usize = 0;
     while i < sheet.len() {
-        out[i] = binding_word(sheet[i], crate::sites_run(sheet, i + 1));
+        out[i] = binding_word(sheet[i], words::body::sites_run(sheet, i + 1));
         i += 1;
     }
 }

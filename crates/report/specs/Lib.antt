@@ -1,4 +1,3 @@
 pub mod Text
 pub mod Lines
 pub mod Report
-pub mod Input

@@ -6,7 +6,7 @@ use lib.Dec.{ltb, eqb}
 use lib.ListN.{length, drop, replicate}
 use Rattle.sheet.specs.Sheet.{sheetIn}
 use Rattle.labelling.specs.Entry.{makeFault, makeAnswer}
-use Rattle.report.specs.Input.{isUnfit}
+use Rattle.refusals.specs.Input.{isUnfit}
 use Rattle.report.specs.Lines.{wordsIn, refusedLine, layoutText}
 
 -- what the layout maker says of a sheet

@@ -1,17 +1,6 @@
-// An input's bytes: whether they are served, and the word that four of them make.
+// The word that four bytes of an input make.
 ghost use mathlib.Core.Path.{_≡_};
 ghost use Prim.Native.Nat.{_+_, _*_, _<_};
-ghost use Rattle.report.specs.Input.{isUnfit};
-
-// Refusal 12.
-pub fn is_unfit(size: usize) -> bool
-    ensures { λ r. ⌜ r ≡ isUnfit size ⌝ }
-{
-    if 1024 < size {
-        return true;
-    }
-    size % 4 != 0
-}
 
 pub fn wide(b: u8) -> u32
     ensures { λ r. ⌜ (r ≡ b) × (r < 256) ⌝ }
