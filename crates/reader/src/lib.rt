@@ -5,7 +5,7 @@ pub mod faults;
 ghost use mathlib.Core.Path.{_≡_};
 ghost use Prim.Native.Nat.{_<_, _≤_};
 ghost use lib.ListN.{length};
-ghost use Rattle.sheet.specs.Limits.{mostColours, mostSites};
+ghost use Rattle.sheet.specs.Limits.{mostColours, mostSites, byteTop};
 ghost use Rattle.sheet.specs.Sheet.{coloursIn, sheetIn, sheetFault};
 ghost use Rattle.sheet.specs.Words.{countKind};
 ghost use Rattle.reader.specs.Read.{absent, eightOf, readOf, refusedOf, readPost};
@@ -73,7 +73,7 @@ fn colour_sizes(body: &[u32]) -> [ColourSize; MOST_COLOURS]
 }
 
 fn refused(number: u32) -> Sizes
-    requires { ⌜ number < 8 ⌝ }
+    requires { ⌜ number < byteTop ⌝ }
     ensures { λ r. ⌜ r ≡ refusedOf number ⌝ }
 {
     Sizes {

@@ -1,7 +1,7 @@
 use Rattle.report.proofs.Written.{put-more}
 use borrow.Author.Needs.{needs}
-use Rattle.report.proofs.put_named.Statement.{statement}
-use Rattle.report.proofs.put_named.Tie as tie
+use Rattle.report.proofs.lines.put_named.Statement.{statement}
+use Rattle.report.proofs.lines.put_named.Tie as tie
 
 put-bytes-requires : tie.Need-put-bytes-requires
 put-bytes-requires c κs = search needs

@@ -1,8 +1,8 @@
 use Rattle.report.specs.Lines.{layoutText}
 use Rattle.report.proofs.Written.{put-more}
 use borrow.Author.Needs.{needs}
-use Rattle.report.proofs.put_layout.Statement.{statement}
-use Rattle.report.proofs.put_layout.Tie as tie
+use Rattle.report.proofs.lines.put_layout.Statement.{statement}
+use Rattle.report.proofs.lines.put_layout.Tie as tie
 
 get-requires : tie.Need-get-requires
 get-requires c κs = search needs

@@ -4,8 +4,8 @@ use mathlib.Core.Path.{refl, sym}
 use mathlib.Core.List.{[], _∷_}
 use native.Mathlib.Omega.{arith}
 use borrow.Author.Needs.{needs}
-use Rattle.report.proofs.put_word.Statement.{statement}
-use Rattle.report.proofs.put_word.Tie as tie
+use Rattle.report.proofs.input.put_word.Statement.{statement}
+use Rattle.report.proofs.input.put_word.Tie as tie
 
 mul-words : tie.Need-mul-words
 mul-words c = search needs

@@ -21,15 +21,15 @@ unfolding siteLines sitesIn
 lines-of ls i c w ws =
     by-test (eqb (kindOf w) 3)
     (λ e. let k : kindOf w ≡ 3 = eqb-true (kindOf w) 3 e in
-    let f : eqb (kindOf w) 4 ≡ false = ne-eqb (kindOf w) 4 (λ z. omega arith) in rw (e, f, add-one c) refl)
-    λ e. by-test (eqb (kindOf w) 4) (λ f. rw (e, f, add-one i) refl) λ f. rw (e, f) refl
+    let f : eqb (kindOf w) 4 ≡ false = ne-eqb (kindOf w) 4 (λ z. omega arith) in rw (e, f, add-one c, none i) refl)
+    λ e. by-test (eqb (kindOf w) 4) (λ f. rw (e, f, add-one i, none c) refl) λ f. rw (e, f, none i, none c) refl
+  where
+    none : (n : ℕ) → n + 0 ≡ n
+    none n = omega arith
 
 pub lines-at : (ls : List ℕ) (i c : ℕ) (s : List ℕ) (j : ℕ) → j < length s →
     siteLines ls i (sitesIn c (drop j s)) ≡ lineOf ls i c (getD s j 0) ++ siteLines ls (countWith i 4 (getD s j 0)) (sitesIn (countWith c 3 (getD s j 0)) (drop (j + 1) s))
 lines-at ls i c s j h = rw (drop-cons s j 0 h, add-one j) (lines-of ls i c (getD s j 0) (drop (suc j) s))
-
-pub count-le : (n k w : ℕ) → countWith n k w ≤ n + 1
-count-le n k w = by-test (eqb (kindOf w) k) (λ e. rw e (omega arith)) λ e. rw e (omega arith)
 
 -- A LINE from its parts, each a name, a number and a last byte
 abbrev Part : (name : List ℕ) (number last : ℕ) → List ℕ
@@ -43,10 +43,6 @@ part-more {m} {o} {p} {q} l at s x name n y a b = subst (λ (t : List ℕ). Put 
 
 pub layout-put : {m o : List ℕ} {p q : ℕ} (l : List ℕ) (at c s : ℕ) → Put l m at p (Part (ascii "labels ") c 32) → Put m o p q (Part (ascii "length ") s 10) → Put l o at q (layoutLine c s)
 layout-put l at c s = part-more l at (ascii "labels " ++ decimal c) (32 ∷ []) (ascii "length ") (decimal s) (10 ∷ [])
-
--- bits 20 to 0
-pub lowest-bits : (w : ℕ) → w % 2097152 ≡ bits w 0 21
-lowest-bits w = omega arith
 
 pub site-put : {m o e : List ℕ} {p q r : ℕ} (l : List ℕ) (at i c k : ℕ) → Put l m at p (Part (ascii "site ") i 32) → Put m o p q (Part (ascii "colour ") c 32) →
     Put o e q r (Part (ascii "slot ") k 10) → Put l e at r (siteLine i c k)

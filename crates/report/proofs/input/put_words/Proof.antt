@@ -1,4 +1,4 @@
-use Rattle.report.specs.Lines.{wordsIn}
+use Rattle.report.specs.Input.{wordsIn}
 use Rattle.report.proofs.Words.{words-at, words-end}
 use Rattle.report.proofs.Written.{Left, left-all, left-more, left-none}
 use mathlib.Core.Path.{refl, _∙_}
@@ -7,8 +7,8 @@ use Prim.Native.Nat.{_+_, _-_, _≤_}
 use native.Mathlib.Omega.{arith}
 use lib.ListN.{length, drop}
 use borrow.Author.Needs.{needs}
-use Rattle.report.proofs.put_words.Statement.{statement}
-use Rattle.report.proofs.put_words.Tie as tie
+use Rattle.report.proofs.input.put_words.Statement.{statement}
+use Rattle.report.proofs.input.put_words.Tie as tie
 
 abbrev Inv-loop : tie.InvT-loop
 Inv-loop words₀ bytes past₀ i₀ words past i = (i ≤ length bytes) × Left words₀ 0 (wordsIn bytes) words past (wordsIn (drop i bytes))
