@@ -38,7 +38,8 @@ fn put_answer(text: &mut [u8], sheet: &[u32], answer: &[u32], fault: u8) -> usiz
     ensures { λ r. ⌜ now (text .exit) ≡ written (now (text .entry)) 0 (cond (eqb fault 0) (layoutText (sheetIn (now (sheet .entry))) (now (answer .entry))) (refusedLine fault)) ⌝ }
 {
     if fault != 0 {
-        return put_refused(text, 0, fault as u64);
+        let number = fault as u64;
+        return put_refused(text, 0, number);
     }
     put_layout(text, answer, sheet)
 }

@@ -2,7 +2,7 @@
 use mathlib.Core.Path.{_≡_, refl, subst}
 use mathlib.Core.Bool.{false}
 use mathlib.Core.List.{List, [], _∷_, _++_, append-assoc}
-use Prim.Native.Nat.{ℕ, suc, _+_, _%_, _<_, _≤_}
+use Prim.Native.Nat.{ℕ, suc, _+_, _<_}
 use native.Mathlib.Numerals.{add-one}
 use native.Mathlib.Omega.{arith}
 use lib.Dec.{eqb}
@@ -12,7 +12,7 @@ use borrow.Author.Tests.{eqb-true, ne-eqb}
 use Rattle.lists.proofs.Tests.{by-test}
 use Rattle.report.specs.Text.{ascii, decimal}
 use Rattle.report.proofs.Written.{Put, put-more}
-use Rattle.sheet.specs.Sheet.{bits, kindOf, sitesIn}
+use Rattle.sheet.specs.Sheet.{kindOf, sitesIn}
 use Rattle.report.specs.Lines.{layoutLine, siteLine, siteLines, lineOf, countWith}
 
 pub lines-of : (ls : List ℕ) (i c w : ℕ) (ws : List ℕ) →

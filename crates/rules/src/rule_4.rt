@@ -1,6 +1,6 @@
 // Rule 4: no vertical shares a point with the backbone of another label.
 ghost use mathlib.Core.Path.{_≡_};
-ghost use Rattle.labelling.specs.Layout.{isOver, verticalHas};
+ghost use Rattle.labelling.specs.Layout.{isBetween, verticalHas};
 ghost use Rattle.rules.specs.Rules.{missesPass};
 use words::both;
 use words::choose;
@@ -13,7 +13,7 @@ use words::tied::start_of;
 
 // Whether a height lies between two others, both included.
 fn is_between(low: u32, high: u32, h: u32) -> bool
-    ensures { λ r. ⌜ r ≡ isOver low high h ⌝ }
+    ensures { λ r. ⌜ r ≡ isBetween low high h ⌝ }
 {
     let below = low <= h;
     let above = h <= high;

@@ -1,4 +1,4 @@
--- `wordwise::is_head` meets its contract.
+-- `refusals::refusal_1::is_head` meets its contract.
 use mathlib.Core.Bool.{true}
 use mathlib.Core.Path.{_≡_, refl}
 use native.Mathlib.Omega.{arith}

@@ -1,4 +1,4 @@
--- `stages::has_spare` meets its contract.
+-- `refusals::refusal_2::has_spare` meets its contract.
 use mathlib.Core.Path.{refl}
 use native.Mathlib.Omega.{arith}
 use borrow.Author.Tests.{eq-eqb, ne-eqb}

@@ -1,4 +1,4 @@
--- `refusals::in_order` meets its contract.
+-- `refusals::refusal_2::in_order` meets its contract.
 use mathlib.Core.Path.{_≡_, refl, sym, _∙_}
 use Prim.Native.Nat.{_-_}
 use lib.ListN.{drop-of-length-le, length, getD, drop}

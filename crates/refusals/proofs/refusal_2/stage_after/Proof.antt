@@ -1,4 +1,4 @@
--- `stages::stage_after` meets its contract.
+-- `refusals::refusal_2::stage_after` meets its contract.
 use mathlib.Core.Bool.{true, false}
 use mathlib.Core.Path.{_≡_, refl, sym, _∙_}
 use native.Mathlib.Omega.{arith}

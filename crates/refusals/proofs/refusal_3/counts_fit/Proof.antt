@@ -1,4 +1,4 @@
--- `counts::counts_fit` meets its contract.
+-- `refusals::refusal_3::counts_fit` meets its contract.
 use mathlib.Core.Path.{refl}
 use Rattle.sheet.proofs.Counts.{slots-count, colours-count, sites-count}
 use borrow.Author.Needs.{needs}

@@ -1,4 +1,4 @@
--- `wordwise::low_next` meets its contract.
+-- `refusals::refusal_4::low_next` meets its contract.
 use mathlib.Core.Path.{_≡_, refl}
 use Prim.Native.Nat.{_%_}
 use native.Mathlib.Omega.{arith}

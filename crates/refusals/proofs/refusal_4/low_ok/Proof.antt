@@ -1,4 +1,4 @@
--- `wordwise::low_ok` meets its contract.
+-- `refusals::refusal_4::low_ok` meets its contract.
 use mathlib.Core.Path.{refl}
 use borrow.Author.Needs.{needs}
 use Rattle.refusals.proofs.refusal_4.low_ok.Statement.{statement}

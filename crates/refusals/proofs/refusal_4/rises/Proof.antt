@@ -1,4 +1,4 @@
--- `refusals::rises` meets its contract.
+-- `refusals::refusal_4::rises` meets its contract.
 use mathlib.Core.Path.{_≡_, refl, sym, _∙_}
 use Prim.Native.Nat.{_-_, _≤_}
 use lib.ListN.{drop-of-length-le, length, getD, drop}

@@ -1,4 +1,4 @@
--- `refusals::all_inside` meets its contract.
+-- `refusals::refusal_5::all_inside` meets its contract.
 use mathlib.Core.Path.{_≡_, refl, sym, _∙_}
 use Prim.Native.Nat.{_-_}
 use lib.ListN.{drop-of-length-le, length, drop}

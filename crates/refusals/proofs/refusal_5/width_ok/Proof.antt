@@ -1,4 +1,4 @@
--- `wordwise::width_ok` meets its contract.
+-- `refusals::refusal_5::width_ok` meets its contract.
 use mathlib.Core.Path.{refl}
 use borrow.Author.Needs.{needs}
 use Rattle.refusals.proofs.refusal_5.width_ok.Statement.{statement}

@@ -1,4 +1,4 @@
--- `ranks::is_ranked` meets its contract.
+-- `refusals::refusal_6::is_ranked` meets its contract.
 use mathlib.Core.Path.{refl}
 use borrow.Author.Needs.{needs}
 use Rattle.refusals.proofs.refusal_6.is_ranked.Statement.{statement}

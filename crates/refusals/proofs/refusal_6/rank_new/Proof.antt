@@ -1,4 +1,4 @@
--- `ranks::rank_new` meets its contract.
+-- `refusals::refusal_6::rank_new` meets its contract.
 use mathlib.Core.Path.{refl}
 use borrow.Author.Needs.{needs}
 use Rattle.refusals.proofs.refusal_6.rank_new.Statement.{statement}

@@ -1,4 +1,4 @@
--- `refusals::ranks_differ` meets its contract.
+-- `refusals::refusal_6::ranks_differ` meets its contract.
 use mathlib.Core.Path.{_≡_, refl, sym, _∙_}
 use Prim.Native.Nat.{_-_}
 use lib.ListN.{drop-of-length-le, length, drop}

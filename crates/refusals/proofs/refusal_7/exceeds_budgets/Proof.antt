@@ -1,4 +1,4 @@
--- `products::exceeds_budgets` meets its contract.
+-- `refusals::refusal_7::exceeds_budgets` meets its contract.
 use Rattle.sheet.specs.Sheet.{coloursIn, productOf}
 use borrow.Author.Needs.{needs}
 use Rattle.refusals.proofs.refusal_7.Factors.{capped-over}

@@ -1,4 +1,4 @@
--- `products::factor` meets its contract.
+-- `refusals::refusal_7::factor` meets its contract.
 use mathlib.Core.Path.{_≡_, refl}
 use Prim.Native.Nat.{_%_}
 use native.Mathlib.Omega.{arith}

@@ -1,4 +1,4 @@
--- `products::product` meets its contract.
+-- `refusals::refusal_7::product` meets its contract.
 use mathlib.Core.Path.{_≡_, _∙_}
 use Prim.Native.Nat.{_+_, _-_, _*_, _≤_}
 use native.Mathlib.Nat.{mul-one, mul-le-mul, le-mul-of-pos-right, lt-of-le-of-lt}

@@ -1,4 +1,4 @@
--- `refusals::body_of` meets its contract.
+-- `words::body::body_of` meets its contract.
 use mathlib.Core.Path.{sym, _∙_}
 use Prim.Native.Nat.{_≤_}
 use native.Mathlib.Omega.{arith}

@@ -1,4 +1,4 @@
--- `counts::count_kind` meets its contract.
+-- `words::body::count_kind` meets its contract.
 use mathlib.Core.Path.{_≡_, ap}
 use mathlib.Core.List.{List}
 use mathlib.Core.Logic.{⊎-elim}

@@ -1,4 +1,4 @@
--- `reader::sites_run` meets its contract.
+-- `words::body::sites_run` meets its contract.
 use mathlib.Core.Path.{_≡_, ap}
 use mathlib.Core.List.{List}
 use Prim.Native.Nat.{ℕ, _+_, _-_, _≤_}

@@ -9,14 +9,14 @@ use Rattle.sheet.specs.Words.{countKind}
 use Rattle.sheet.proofs.Accepted.{Sound, sound}
 use Rattle.sheet.proofs.Counts.{slots-count, colours-count, sites-count}
 
-pub record Fits (body : List ℕ) : Type 0 where
+pub record WithinLimits (body : List ℕ) : Type 0 where
   pub slots : countKind 2 body ≤ mostSlots
   pub colours : countKind 3 body ≤ mostColours
   pub sites : countKind 4 body ≤ mostSites
   pub product : productOf (coloursIn body) ≤ mostBudgets
 
-pub fits : (ws : List ℕ) → sheetFault ws ≡ 0 → Fits (bodyOf ws)
-fits ws e =
+pub within : (ws : List ℕ) → sheetFault ws ≡ 0 → WithinLimits (bodyOf ws)
+within ws e =
     let s : Sound (sheetIn ws) = sound ws e in
     let body = bodyOf ws in
     record {

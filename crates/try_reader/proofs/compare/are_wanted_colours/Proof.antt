@@ -1,7 +1,7 @@
 use Prim.Native.Nat.{_-_, _≤_}
 use borrow.Author.Needs.{needs}
-use Rattle.try_reader.proofs.compare.same_colours.Statement.{statement}
-use Rattle.try_reader.proofs.compare.same_colours.Tie as tie
+use Rattle.try_reader.proofs.compare.are_wanted_colours.Statement.{statement}
+use Rattle.try_reader.proofs.compare.are_wanted_colours.Tie as tie
 
 abbrev Inv-loop : tie.InvT-loop
 Inv-loop wanted colours i₀ i = i ≤ 8
@@ -21,26 +21,26 @@ array-copy-out-colour c = search needs
 wide-requires : tie.Need-wide-requires Inv-loop μ-loop
 wide-requires c κs = search needs
 
-mul-word-at : tie.Need-mul-word-at Inv-loop μ-loop
-mul-word-at c = search needs
+mul-number-at : tie.Need-mul-number-at Inv-loop μ-loop
+mul-number-at c = search needs
 
-add-word-at : tie.Need-add-word-at Inv-loop μ-loop
-add-word-at c = search needs
+add-number-at : tie.Need-add-number-at Inv-loop μ-loop
+add-number-at c = search needs
 
-word-at-requires : tie.Need-word-at-requires Inv-loop μ-loop
-word-at-requires c κs = search needs
+number-at-requires : tie.Need-number-at-requires Inv-loop μ-loop
+number-at-requires c κs = search needs
 
 wide-requires-2 : tie.Need-wide-requires-2 Inv-loop μ-loop
 wide-requires-2 c κs = search needs
 
-mul-word-at-2 : tie.Need-mul-word-at-2 Inv-loop μ-loop
-mul-word-at-2 c = search needs
+mul-number-at-2 : tie.Need-mul-number-at-2 Inv-loop μ-loop
+mul-number-at-2 c = search needs
 
-add-word-at-2 : tie.Need-add-word-at-2 Inv-loop μ-loop
-add-word-at-2 c = search needs
+add-number-at-2 : tie.Need-add-number-at-2 Inv-loop μ-loop
+add-number-at-2 c = search needs
 
-word-at-requires-2 : tie.Need-word-at-requires-2 Inv-loop μ-loop
-word-at-requires-2 c κs = search needs
+number-at-requires-2 : tie.Need-number-at-requires-2 Inv-loop μ-loop
+number-at-requires-2 c κs = search needs
 
 returns : tie.Need-returns Inv-loop μ-loop
 returns c = search needs
@@ -57,8 +57,8 @@ loop-again c = search needs
 returns-2 : tie.Need-returns-2 Inv-loop μ-loop
 returns-2 c = search needs
 
-pub same-colours-spec : {M : Type 1} → statement M
-same-colours-spec =
+pub are-wanted-colours-spec : {M : Type 1} → statement M
+are-wanted-colours-spec =
     tie.close
     (tie.spec
     Inv-loop
@@ -67,13 +67,13 @@ same-colours-spec =
     mul-colour
     array-copy-out-colour
     wide-requires
-    mul-word-at
-    add-word-at
-    word-at-requires
+    mul-number-at
+    add-number-at
+    number-at-requires
     wide-requires-2
-    mul-word-at-2
-    add-word-at-2
-    word-at-requires-2
+    mul-number-at-2
+    add-number-at-2
+    number-at-requires-2
     returns
     add-i
     loop-less
