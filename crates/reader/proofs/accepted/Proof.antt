@@ -25,7 +25,7 @@ colours-are c = c .count-kind3 .ensures ∙ rw (c .before .before .before .body-
 product-is : (c : tie.After-product) → c .product .result ≡ productOf (coloursIn (bodyOf (c .before .before .before .before .before .before .args .sheet .now)))
 product-is c =
     let ws = c .before .before .before .before .before .before .args .sheet .now in
-    c .product .ensures ∙ rw (c .before .before .before .before .body-of .ensures) (capped-same (productOf (coloursIn (bodyOf ws))) (fits ws (c .before .before .before .before .before .before .pre) .product))
+    c .product .ensures ∙ rw (c .before .before .before .before .body-of .ensures) (capped-same (productOf (coloursIn (bodyOf ws))) (within ws (c .before .before .before .before .before .before .pre) .product))
 
 -- all of them, where the last is known
 record Known (ws : List ℕ) (n m c p : ℕ) : Type 0 where
