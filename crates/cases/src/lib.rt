@@ -3,6 +3,19 @@ ghost use Prim.Native.Nat.{_≤_};
 ghost use lib.ListN.{length};
 use libc::STDOUT_FILENO;
 
+// Words enough for each case of a test.
+pub const CASE_WORDS: usize = 128;
+
+// A word has eight hexadecimal digits; one more moves the first out, so that 2^28 is what the other seven are below.
+const DIGITS: usize = 8;
+
+const DIGIT_TOP: u32 = 16;
+
+const SEVEN_DIGITS_TOP: u32 = 268435456;
+
+// How many counts a test may print.
+const COUNTS: usize = 12;
+
 // The value of a hexadecimal digit: a letter has bit 6, and the low bits 1 for A.
 fn digit(b: u8) -> u32
     ensures { λ r. ⌜ r ≤ 15 ⌝ }
@@ -26,7 +39,7 @@ fn take_byte(words: &mut [u32], begun: usize, b: u8) -> usize
         return 0;
     }
     let last = begun - 1;
-    words[last] = words[last] % 268435456 * 16 + digit(b);
+    words[last] = words[last] % SEVEN_DIGITS_TOP * DIGIT_TOP + digit(b);
     begun
 }
 
@@ -77,7 +90,7 @@ pub fn print_number(before: &[u8], number: u32) {
 
 fn print_word(word: u32) {
     io::write_all(STDOUT_FILENO, b" ");
-    io::print_hex(STDOUT_FILENO, word as u64, 8);
+    io::print_hex(STDOUT_FILENO, word as u64, DIGITS);
 }
 
 // Ends a line with what the layout maker gives.
@@ -96,7 +109,7 @@ pub fn print_answer(fault: u8, answer: &[u32]) {
 }
 
 // Each count with its name: a line of a text, after the byte >.
-pub fn print_counts(text: &[u8], counts: [u32; 12]) {
+pub fn print_counts(text: &[u8], counts: [u32; COUNTS]) {
     let mut i: usize = 0;
     let mut from = place_of(text, 0, b'>');
     while from < text.len() {
@@ -104,6 +117,6 @@ pub fn print_counts(text: &[u8], counts: [u32; 12]) {
         from = place_of(text, start, b'>');
         io::print_decimal(STDOUT_FILENO, counts[i] as u64);
         io::write_all(STDOUT_FILENO, &text[start..from]);
-        i = (i + 1) % 12;
+        i = (i + 1) % COUNTS;
     }
 }

@@ -1,14 +1,23 @@
-// THE DECODING: the numbers of an accepted sheet in arrays. All that works on a sheet after its refusals works on these.
-// Each function writes its array from the front and leaves the places past it.
+// The numbers of an accepted sheet in arrays: all that works on a sheet after its refusals works on these. Its functions are internal
+// to judge and maker, which have refused first: each asks for an accepted sheet, or for an array that is long enough.
 ghost use mathlib.Core.Path.{_≡_};
 ghost use mathlib.Core.Bool.{cond};
 ghost use mathlib.Core.List.{_++_};
 ghost use lib.Dec.{eqb};
 ghost use Prim.Native.Nat.{_+_, _<_, _≤_};
 ghost use lib.ListN.{length, drop};
+ghost use Rattle.sheet.specs.Limits.{mostSlots, mostColours, mostSites, topWord};
 ghost use Rattle.sheet.specs.Sheet.{sheetIn, sheetFault};
 ghost use Rattle.sheet.specs.Words.{countKind};
 ghost use Rattle.decoding.specs.Decoding.{headBy, padded, boundsOf, xsOf, ysOf, coloursOf, collected, siteColours};
+use words::BYTE_TOP;
+use words::COLOUR;
+use words::MOST_COLOURS;
+use words::MOST_SITES;
+use words::MOST_SLOTS;
+use words::NUMBER_TOP;
+use words::SITE;
+use words::SLOT;
 use words::tied::Head;
 
 // Side, gap and width.
@@ -43,10 +52,10 @@ pub fn collect(sheet: &[u32], kind: u32, place: u32, size: u32, out: &mut [u32])
 
 // How many colours have come, after a word of a kind.
 fn colour_after(c: u32, kind: u32) -> u32
-    requires { ⌜ c < 4294967295 ⌝ }
+    requires { ⌜ c < topWord ⌝ }
     ensures { λ r. ⌜ r ≡ cond (eqb kind 3) (c + 1) c ⌝ }
 {
-    if kind == 3 {
+    if kind == COLOUR {
         return c + 1;
     }
     c
@@ -55,7 +64,7 @@ fn colour_after(c: u32, kind: u32) -> u32
 // The number of each site's colour.
 pub fn site_colours(sheet: &[u32], out: &mut [u32])
     requires { ⌜ countKind 4 (drop 1 (now sheet)) ≤ length (now out) ⌝ }
-    requires { ⌜ countKind 3 (drop 1 (now sheet)) ≤ 8 ⌝ }
+    requires { ⌜ countKind 3 (drop 1 (now sheet)) ≤ mostColours ⌝ }
     ensures { λ _. ⌜ now (out .exit) ≡ siteColours 0 (drop 1 (now (sheet .entry))) ++ drop (countKind 4 (drop 1 (now (sheet .entry)))) (now (out .entry)) ⌝ }
 {
     let mut n: usize = 0;
@@ -64,7 +73,7 @@ pub fn site_colours(sheet: &[u32], out: &mut [u32])
     while i < sheet.len() {
         let k = words::kind_of(sheet[i]);
         c = colour_after(c, k);
-        if k == 4 {
+        if k == SITE {
             out[n] = words::monus(c, 1);
             n += 1;
         }
@@ -75,49 +84,49 @@ pub fn site_colours(sheet: &[u32], out: &mut [u32])
 // ---- the arrays of an accepted sheet, whole: zeros past its numbers
 
 // All slots' heights.
-pub fn heights_of(sheet: &[u32]) -> [u32; 48]
+pub fn heights_of(sheet: &[u32]) -> [u32; MOST_SLOTS]
     requires { ⌜ sheetFault (now sheet) ≡ 0 ⌝ }
-    ensures { λ r. ⌜ r ≡ padded 48 (sheetIn (now (sheet .entry)) .slots) ⌝ }
+    ensures { λ r. ⌜ r ≡ padded mostSlots (sheetIn (now (sheet .entry)) .slots) ⌝ }
 {
-    let mut out = [0u32; 48];
-    collect(sheet, 2, 1, 16384, &mut out);
+    let mut out = [0u32; MOST_SLOTS];
+    collect(sheet, SLOT, 1, NUMBER_TOP, &mut out);
     out
 }
 
 // All colours' bounds.
-pub fn bounds_of(sheet: &[u32]) -> [u32; 8]
+pub fn bounds_of(sheet: &[u32]) -> [u32; MOST_COLOURS]
     requires { ⌜ sheetFault (now sheet) ≡ 0 ⌝ }
-    ensures { λ r. ⌜ r ≡ padded 8 (boundsOf (sheetIn (now (sheet .entry)) .colours)) ⌝ }
+    ensures { λ r. ⌜ r ≡ padded mostColours (boundsOf (sheetIn (now (sheet .entry)) .colours)) ⌝ }
 {
-    let mut out = [0u32; 8];
-    collect(sheet, 3, 1, 256, &mut out);
+    let mut out = [0u32; MOST_COLOURS];
+    collect(sheet, COLOUR, 1, BYTE_TOP, &mut out);
     out
 }
 
 // All sites' x, y and colours, in sheet order.
-pub fn xs_of(sheet: &[u32]) -> [u32; 32]
+pub fn xs_of(sheet: &[u32]) -> [u32; MOST_SITES]
     requires { ⌜ sheetFault (now sheet) ≡ 0 ⌝ }
-    ensures { λ r. ⌜ r ≡ padded 32 (xsOf (sheetIn (now (sheet .entry)) .sites)) ⌝ }
+    ensures { λ r. ⌜ r ≡ padded mostSites (xsOf (sheetIn (now (sheet .entry)) .sites)) ⌝ }
 {
-    let mut out = [0u32; 32];
-    collect(sheet, 4, 16384, 16384, &mut out);
+    let mut out = [0u32; MOST_SITES];
+    collect(sheet, SITE, NUMBER_TOP, NUMBER_TOP, &mut out);
     out
 }
 
-pub fn ys_of(sheet: &[u32]) -> [u32; 32]
+pub fn ys_of(sheet: &[u32]) -> [u32; MOST_SITES]
     requires { ⌜ sheetFault (now sheet) ≡ 0 ⌝ }
-    ensures { λ r. ⌜ r ≡ padded 32 (ysOf (sheetIn (now (sheet .entry)) .sites)) ⌝ }
+    ensures { λ r. ⌜ r ≡ padded mostSites (ysOf (sheetIn (now (sheet .entry)) .sites)) ⌝ }
 {
-    let mut out = [0u32; 32];
-    collect(sheet, 4, 1, 16384, &mut out);
+    let mut out = [0u32; MOST_SITES];
+    collect(sheet, SITE, 1, NUMBER_TOP, &mut out);
     out
 }
 
-pub fn colours_of(sheet: &[u32]) -> [u32; 32]
+pub fn colours_of(sheet: &[u32]) -> [u32; MOST_SITES]
     requires { ⌜ sheetFault (now sheet) ≡ 0 ⌝ }
-    ensures { λ r. ⌜ r ≡ padded 32 (coloursOf (sheetIn (now (sheet .entry)) .sites)) ⌝ }
+    ensures { λ r. ⌜ r ≡ padded mostSites (coloursOf (sheetIn (now (sheet .entry)) .sites)) ⌝ }
 {
-    let mut out = [0u32; 32];
+    let mut out = [0u32; MOST_SITES];
     site_colours(sheet, &mut out);
     out
 }

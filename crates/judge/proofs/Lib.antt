@@ -1,1 +1,3 @@
-pub mod Ruled
+mod Loops
+mod RulesKept
+mod Ruled

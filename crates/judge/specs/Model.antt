@@ -1,19 +1,20 @@
 -- The model that the loops follow: tests and sums over the sites by their numbers, on a sheet's decoded numbers and the ties.
--- Assumes nothing: these are definitions. proofs/Kept shows that they come to document 01's rules.
-use mathlib.Core.Bool.{Bool, true, _&&_, _||_, not, cond}
+-- Assumes nothing: these are definitions. proofs/RulesKept shows that they come to document 01's rules.
+use mathlib.Core.Bool.{Bool, true, not, cond}
 use mathlib.Core.List.{List}
 use Prim.Native.Nat.{ℕ, zero, suc, _+_, _-_, _≤_, _<_, min}
-use lib.Dec.{eqb, leb}
+use lib.Dec.{eqb}
 use lib.ListN.{length, getD}
-use Rattle.sheet.specs.Sheet.{bits}
+use Rattle.sheet.specs.Limits.{mostSites, numberTop}
+use Rattle.rules.specs.Rules.{boundKept, isStated}
 use Rattle.labelling.specs.Counted.{allBefore, sumBefore, isFirst}
 use Rattle.decoding.specs.Decoding.{shareBy}
 use Rattle.words.specs.declared.tied.TiedSite.{TiedSite}
 use Rattle.words.specs.declared.tied.Head.{Head}
-use Rattle.judge.specs.declared.stored.pairs.Test.{Test}
-use Rattle.judge.specs.declared.stored.pairs.Test.the-variants.{Colours, Gaps, Misses, Clears}
-use Rattle.judge.specs.declared.stored.Among.{Among}
-use Rattle.judge.specs.declared.stored.Among.the-variants.{All, Of}
+use Rattle.judge.specs.declared.pairs.Test.{Test}
+use Rattle.judge.specs.declared.pairs.Test.the-variants.{Colours, Gaps, Misses, Clears}
+use Rattle.judge.specs.declared.labels.Among.{Among}
+use Rattle.judge.specs.declared.labels.Among.the-variants.{All, Of}
 use Rattle.judge.specs.Pairs.{passes}
 
 abbrev pub oneIf : Bool → ℕ
@@ -24,12 +25,12 @@ pub record Fits (xs ys colours ties : List ℕ) : Type 0 where
   pub xs-long : length ties ≤ length xs
   pub ys-long : length ties ≤ length ys
   pub colours-long : length ties ≤ length colours
-  pub few : length ties ≤ 32
+  pub few : length ties ≤ mostSites
 
 pub record Low (h : Head) (hs bs : List ℕ) : Type 0 where
-  pub width : h .width < 16384
-  pub heights : (k : ℕ) → getD hs k 0 < 16384
-  pub ys : (i : ℕ) → getD bs i 0 < 16384
+  pub width : h .width < numberTop
+  pub heights : (k : ℕ) → getD hs k 0 < numberTop
+  pub ys : (i : ℕ) → getD bs i 0 < numberTop
 
 -- THE TIED SITE of a number
 abbrev pub tiedAt : (heights xs ys colours ties : List ℕ) → ℕ → TiedSite
@@ -51,10 +52,7 @@ amongBy (Of c) cs i = eqb (getD cs i 0) c
 abbrev pub countOn : Among → (colours ties : List ℕ) → (count : ℕ) → ℕ
 countOn a cs js n = sumBefore (λ i. oneIf (isFirst (amongBy a cs) js i)) n
 
--- RULE 2: a bound is kept by so many labels; each colour's is
-abbrev pub boundKept : (labels bound : ℕ) → Bool
-boundKept n b = eqb b 255 || leb n b
-
+-- RULE 2: each colour's bound is kept
 abbrev pub boundsOn : (bounds colours ties : List ℕ) → (count : ℕ) → Bool
 boundsOn bs cs js n = allBefore (λ c. boundKept (countOn (Of c) cs js n) (getD bs c 0)) (length bs)
 
@@ -75,7 +73,7 @@ abbrev pub lengthOn : Head → (heights xs ys colours ties : List ℕ) → (coun
 lengthOn h hs xs ys cs js n = sumBefore (lengthAt h hs xs ys cs js n) n
 
 abbrev pub statedOn : Head → (stated : ℕ) → (heights xs ys colours ties : List ℕ) → (count : ℕ) → Bool
-statedOn h w hs xs ys cs js n = eqb (bits w 21 7) (countOn All cs js n) && eqb (bits w 0 21) (lengthOn h hs xs ys cs js n)
+statedOn h w hs xs ys cs js n = isStated w (countOn All cs js n) (lengthOn h hs xs ys cs js n)
 
 -- THE LEAST BROKEN RULE: the first of six tests that fails, or 0
 abbrev pub firstBroken : (one two three four five six : Bool) → ℕ

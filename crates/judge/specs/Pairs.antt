@@ -1,16 +1,10 @@
--- Tests of a tied site t beside another, u. Assumes nothing: these are definitions.
-use mathlib.Core.Bool.{Bool, _||_, not}
-use lib.Dec.{eqb}
+-- The tests of a tied site t beside another, u, by their names. Assumes nothing: this is a definition.
+use mathlib.Core.Bool.{Bool}
 use Rattle.words.specs.declared.tied.TiedSite.{TiedSite}
 use Rattle.words.specs.declared.tied.Head.{Head}
-use Rattle.rules.specs.Verticals.{missesPass}
-use Rattle.rules.specs.Clearance.{gapsPass, clearsPass}
-use Rattle.judge.specs.declared.stored.pairs.Test.{Test}
-use Rattle.judge.specs.declared.stored.pairs.Test.the-variants.{Colours, Gaps, Misses, Clears}
-
--- 1: sites that share a slot share a colour
-abbrev pub coloursPass : (t u : TiedSite) → Bool
-coloursPass t u = not (eqb (t .slot) (u .slot)) || eqb (t .colour) (u .colour)
+use Rattle.rules.specs.Rules.{coloursPass, gapsPass, missesPass, clearsPass}
+use Rattle.judge.specs.declared.pairs.Test.{Test}
+use Rattle.judge.specs.declared.pairs.Test.the-variants.{Colours, Gaps, Misses, Clears}
 
 abbrev pub passes : Test → Head → (t u : TiedSite) → Bool
 passes Colours h t u = coloursPass t u

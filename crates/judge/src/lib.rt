@@ -1,12 +1,20 @@
 // The judge: a refusal, or the least broken rule of a stored sheet.
-pub mod stored;
+mod labels;
+mod least_broken;
+mod pairs;
+mod refusal_11;
+mod rule_2;
+mod rule_6;
+mod ties;
 
 ghost use mathlib.Core.Path.{_≡_};
 ghost use mathlib.Core.Bool.{true};
 ghost use Rattle.sheet.specs.Sheet.{sheetIn, sheetFault};
 ghost use Rattle.labelling.specs.Layout.{isLayout, brokenBy};
 ghost use Rattle.judge.specs.Judge.{judgePost, partsPost};
-use crate::stored::rulings::broken_by;
+use crate::least_broken::broken_by;
+use crate::refusal_11::is_layout;
+use crate::refusal_11::layout_start;
 use decoding::bounds_of;
 use decoding::colours_of;
 use decoding::head_of;
@@ -14,10 +22,9 @@ use decoding::heights_of;
 use decoding::xs_of;
 use decoding::ys_of;
 use reader::faults::sheet_fault;
-use reader::scans::body_of;
-use reader::scans::layouts::is_layout;
-use reader::scans::layouts::layout_start;
-use refusals::counts::count_kind;
+use words::COLOUR;
+use words::body::body_of;
+use words::body::count_kind;
 
 // refusal: 1 to 7 or 11, 0 for none. rule: the least broken one, 0 for none and beside a refusal.
 #[repr(C)]
@@ -37,13 +44,13 @@ fn rule_of(sheet: &[u32], layout: &[u32]) -> u8
     let xs = xs_of(sheet);
     let ys = ys_of(sheet);
     let colours = colours_of(sheet);
-    let kinds = count_kind(body_of(sheet), 3);
+    let colour_count = count_kind(body_of(sheet), COLOUR);
     let stated = layout[0];
     broken_by(
         head_of(sheet),
         stated,
         &heights,
-        &bounds[..kinds],
+        &bounds[..colour_count],
         &xs,
         &ys,
         &colours,

@@ -114,12 +114,12 @@ gapsKept s ts = all (gapsOf s ts) ts
 
 -- RULE 4: no vertical shares a point with the backbone of another label, left end and right end included
 -- a height lies between two, ends included
-abbrev pub isOver : (low high h : ℕ) → Bool
-isOver a b h = leb a h && leb h b
+abbrev pub isBetween : (low high h : ℕ) → Bool
+isBetween a b h = leb a h && leb h b
 
 -- the vertical from a site's y to the height of its backbone, both ends included, has a point at this height
 abbrev pub verticalHas : (y end h : ℕ) → Bool
-verticalHas y e h = isOver (lesser y e) (cond (ltb y e) e y) h
+verticalHas y e h = isBetween (lesser y e) (cond (ltb y e) e y) h
 
 -- a backbone from this left end to W has a point at x; no site's x is above W
 abbrev pub reaches : (left x : ℕ) → Bool

@@ -22,9 +22,9 @@ use Rattle.areas.proofs.lengths.Lengths.{lengths-sheet, lengths-work, lengths-o
 use Rattle.reader.specs.declared.Sizes.{Sizes}
 use Rattle.reader.specs.Read.{readOf, readPost}
 use Rattle.reader.proofs.Reading.{reading, refusal-is}
-use Rattle.refusals.specs.Products.{capped}
+use Rattle.refusals.specs.Wordwise.{capped}
 use Rattle.refusals.specs.Work.{workOf}
-use Rattle.refusals.proofs.products.Factors.{capped-same}
+use Rattle.refusals.proofs.refusal_7.Factors.{capped-same}
 use Rattle.onesided.specs.Ranked.{SizesOf}
 
 -- a list of 32-bit numbers

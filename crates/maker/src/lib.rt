@@ -10,9 +10,9 @@ use areas::lengths::area_fault;
 use areas::zero_part;
 use reader::Sizes;
 use reader::binding::binding_only;
-use reader::scans::body_of;
-use refusals::products::product;
+use refusals::refusal_7::product;
 use refusals::sizes::work_for;
+use words::body::body_of;
 
 // Whether the head says two-sided.
 fn is_two_sided(sheet: &[u32]) -> bool

@@ -2,12 +2,9 @@
 use mathlib.Core.Bool.{cond}
 use mathlib.Core.List.{List}
 use Prim.Native.Nat.{ℕ, _+_, _*_, _/_, _%_}
+pub use Rattle.sheet.specs.Limits.{topWord}
 use Rattle.sheet.specs.Sheet.{Sheet}
 use Rattle.labelling.specs.Layout.{countOf, lengthOf}
-
--- the greatest word, 2^32 - 1: no layout
-abbrev pub topWord : ℕ
-topWord = 4294967295
 
 -- 2^6, above every count: a sheet has at most 48 slots
 abbrev pub countLimit : ℕ

@@ -6,21 +6,22 @@ use native.Mathlib.Numerals.{add-one}
 use native.Mathlib.Omega.{arith}
 use lib.ListN.{length, getD, take, drop, set, replicate, length-set, take-append-drop, drop-of-length-le}
 use lib.Seq.{take-suc-set, drop-set-lt, drop-drop}
+use Rattle.sheet.specs.Limits.{mostColours}
 use Rattle.sheet.specs.Sheet.{kindOf, bits, coloursIn, sitesRun}
 use Rattle.sheet.proofs.Places.{colours-yes, colours-no}
 use Rattle.reader.specs.declared.ColourSize.{ColourSize}
 use Rattle.reader.specs.Read.{absent, sizesOf, eightOf}
 
 pub record Filled (s : List ℕ) (ks : List ColourSize) (c i : ℕ) : Type 0 where
-  pub eight : length ks ≡ 8
+  pub eight : length ks ≡ mostColours
   pub count : c + length (coloursIn (drop i s)) ≡ length (coloursIn s)
   pub stands : sizesOf (coloursIn s) ≡ take c ks ++ sizesOf (coloursIn (drop i s))
-  pub rest : drop c ks ≡ replicate (8 - c) absent
+  pub rest : drop c ks ≡ replicate (mostColours - c) absent
 
 pub filled-no : (s : List ℕ) (ks : List ColourSize) (c i : ℕ) → i < length s → (kindOf (getD s i 0) ≡ 3 → ⊥) → Filled s ks c i → Filled s ks c (i + 1)
 filled-no s ks c i h k f = record { eight = f .eight; count = rw (colours-no s i h k) at (f .count); stands = rw (colours-no s i h k) at (f .stands); rest = f .rest }
 
-pub filled-yes : (s : List ℕ) (ks : List ColourSize) (c i b n : ℕ) → i < length s → c < 8 → kindOf (getD s i 0) ≡ 3 → b ≡ bits (getD s i 0) 0 8 → n ≡ sitesRun (drop (i + 1) s)
+pub filled-yes : (s : List ℕ) (ks : List ColourSize) (c i b n : ℕ) → i < length s → c < mostColours → kindOf (getD s i 0) ≡ 3 → b ≡ bits (getD s i 0) 0 8 → n ≡ sitesRun (drop (i + 1) s)
     → Filled s ks c i → Filled s (set ks c (record { bound = b; sites = n })) (c + 1) (i + 1)
 unfolding sizesOf
 filled-yes s ks c i b n h l k eb en f =
@@ -28,7 +29,7 @@ filled-yes s ks c i b n h l k eb en f =
     let long = f .eight in
     let e : sizesOf (coloursIn (drop i s)) ≡ v ∷ sizesOf (coloursIn (drop (i + 1) s)) = rw (colours-yes s i h k, eb, en) refl in
     let t : take (suc c) (set ks c v) ≡ take c ks ++ (v ∷ []) = take-suc-set ks c v (omega arith) in
-    let m : 8 - c ≡ suc (8 - (c + 1)) = omega arith in
+    let m : mostColours - c ≡ suc (mostColours - (c + 1)) = omega arith in
     record {
       eight = length-set ks c v ∙ f .eight;
       count = omega (arith, ap length (colours-yes s i h k), f .count);

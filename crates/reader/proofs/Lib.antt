@@ -1,3 +1,3 @@
 mod Filled
-mod Fits
+mod WithinLimits
 pub mod Reading

@@ -4,6 +4,7 @@ use mathlib.Core.List.{List, [], _∷_, _++_}
 use Prim.Native.Nat.{ℕ, _-_}
 use lib.Dec.{eqb}
 use lib.ListN.{length, replicate}
+use Rattle.sheet.specs.Limits.{mostColours}
 use Rattle.sheet.specs.Sheet.{Colour, productOf, Sheet, sheetIn, sheetFault, workFor}
 use Rattle.reader.specs.declared.ColourSize.{ColourSize}
 use Rattle.reader.specs.declared.Sizes.{Sizes}
@@ -19,7 +20,7 @@ absent = record { bound = 0; sites = 0 }
 
 -- the same for each of the eight colours
 abbrev pub eightOf : List Colour → List ColourSize
-eightOf cs = sizesOf cs ++ replicate (8 - length cs) absent
+eightOf cs = sizesOf cs ++ replicate (mostColours - length cs) absent
 
 -- of an accepted sheet: n, m, C, P, the number of work words, the eight colours
 abbrev pub readOf : Sheet → Sizes
@@ -36,7 +37,7 @@ readOf s =
 
 -- of another list the refusal's number. What stands beside it is left free by document 01: here zeros
 abbrev pub refusedOf : (number : ℕ) → Sizes
-refusedOf f = record { refusal = f; n = 0; m = 0; c = 0; p = 0; work = 0; colours = replicate 8 absent }
+refusedOf f = record { refusal = f; n = 0; m = 0; c = 0; p = 0; work = 0; colours = replicate mostColours absent }
 
 -- the reader's answer for every list of words
 abbrev pub readPost : (words : List ℕ) → Sizes

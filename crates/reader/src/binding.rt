@@ -3,20 +3,24 @@ ghost use mathlib.Core.Path.{_≡_};
 ghost use mathlib.Core.List.{_++_};
 ghost use Prim.Native.Nat.{_≤_};
 ghost use lib.ListN.{length, take, drop};
+ghost use Rattle.sheet.specs.Limits.{mostWords};
 ghost use Rattle.sheet.specs.Binding.{bindingWord, bindingOnly};
+use words::BYTE_TOP;
+use words::MOST_WORDS;
+use words::UNBOUNDED;
 
 // A word that so many sites follow: a bound of at least as many is dropped.
 fn binding_word(w: u32, sites: usize) -> u32
     ensures { λ r. ⌜ r ≡ bindingWord w sites ⌝ }
 {
-    if words::kind_of(w) != 3 {
+    if words::kind_of(w) != words::COLOUR {
         return w;
     }
-    let bound = (w % 256) as usize;
+    let bound = (w % BYTE_TOP) as usize;
     if bound < sites {
         return w;
     }
-    w / 256 * 256 + 255
+    w / BYTE_TOP * BYTE_TOP + UNBOUNDED
 }
 
 fn binding_into(sheet: &[u32], out: &mut [u32])
@@ -25,17 +29,19 @@ fn binding_into(sheet: &[u32], out: &mut [u32])
 {
     let mut i: usize = 0;
     while i < sheet.len() {
-        out[i] = binding_word(sheet[i], crate::sites_run(sheet, i + 1));
+        out[i] = binding_word(sheet[i], words::body::sites_run(sheet, i + 1));
         i += 1;
     }
 }
 
-// The words of an accepted sheet are at most 89: its head, 48 slots, 8 colours and 32 sites.
-pub fn binding_only(sheet: &[u32]) -> [u32; 89]
-    requires { ⌜ length (now sheet) ≤ 89 ⌝ }
-    ensures { λ r. ⌜ take (length (now (sheet .entry))) r ≡ bindingOnly (now (sheet .entry)) ⌝ }
+// The words of an accepted sheet are at most so many: its head, slots, colours and sites. Of a longer list nothing is said.
+pub fn binding_only(sheet: &[u32]) -> [u32; MOST_WORDS]
+    ensures { λ r. ⌜ (length (now (sheet .entry)) ≤ mostWords → take (length (now (sheet .entry))) r ≡ bindingOnly (now (sheet .entry))) ⌝ }
 {
-    let mut out = [0u32; 89];
+    if MOST_WORDS < sheet.len() {
+        return [0u32; MOST_WORDS];
+    }
+    let mut out = [0u32; MOST_WORDS];
     binding_into(sheet, &mut out);
     out
 }

@@ -1,15 +1,15 @@
-// The refusals in their order.
+// The refusals 1 to 7 in their order, each looked for through the whole list before the next. Their tests: crate refusals.
 ghost use mathlib.Core.Path.{_≡_};
 ghost use Rattle.sheet.specs.Sheet.{sheetFault};
 ghost use Rattle.reader.specs.Faults.{bodyFault};
-use crate::scans::all_inside;
-use crate::scans::body_of;
-use crate::scans::in_order;
-use crate::scans::ranks_differ;
-use crate::scans::rises;
-use refusals::counts::counts_fit;
-use refusals::is_head;
-use refusals::products::exceeds_budgets;
+use refusals::refusal_1::is_head;
+use refusals::refusal_2::in_order;
+use refusals::refusal_3::counts_fit;
+use refusals::refusal_4::rises;
+use refusals::refusal_5::all_inside;
+use refusals::refusal_6::ranks_differ;
+use refusals::refusal_7::exceeds_budgets;
+use words::body::body_of;
 use words::get;
 use words::low_field;
 

@@ -1,20 +1,25 @@
 // The reader: the refusal of any list of words, or the sizes of the sheet in it.
 pub mod binding;
 pub mod faults;
-pub mod scans;
 
 ghost use mathlib.Core.Path.{_≡_};
 ghost use Prim.Native.Nat.{_<_, _≤_};
-ghost use lib.ListN.{length, drop};
-ghost use Rattle.sheet.specs.Sheet.{coloursIn, sitesRun, sheetIn, sheetFault};
+ghost use lib.ListN.{length};
+ghost use Rattle.sheet.specs.Limits.{mostColours, mostSites, byteTop};
+ghost use Rattle.sheet.specs.Sheet.{coloursIn, sheetIn, sheetFault};
 ghost use Rattle.sheet.specs.Words.{countKind};
 ghost use Rattle.reader.specs.Read.{absent, eightOf, readOf, refusedOf, readPost};
 use crate::faults::sheet_fault;
-use crate::scans::body_of;
-use refusals::counts::count_kind;
-use refusals::products::product;
+use refusals::refusal_7::product;
 use refusals::sizes::bound_of;
 use refusals::sizes::work_for;
+use words::COLOUR;
+use words::MOST_COLOURS;
+use words::SITE;
+use words::SLOT;
+use words::body::body_of;
+use words::body::count_kind;
+use words::body::sites_run;
 use words::get;
 use words::kind_of;
 use words::same;
@@ -34,22 +39,7 @@ pub struct Sizes {
     pub c: u8,
     pub p: u8,
     pub work: u32,
-    pub colours: [ColourSize; 8],
-}
-
-// How many sites follow at once.
-pub fn sites_run(words: &[u32], from: usize) -> usize
-    requires { ⌜ from ≤ length (now words) ⌝ }
-    ensures { λ r. ⌜ r ≡ sitesRun (drop from (now (words .entry))) ⌝ }
-{
-    let mut i = from;
-    while i < words.len() {
-        if kind_of(words[i]) != 4 {
-            return i - from;
-        }
-        i += 1;
-    }
-    i - from
+    pub colours: [ColourSize; MOST_COLOURS],
 }
 
 fn no_colour() -> ColourSize
@@ -58,17 +48,17 @@ fn no_colour() -> ColourSize
     ColourSize { bound: 0, sites: 0 }
 }
 
-fn colour_sizes(body: &[u32]) -> [ColourSize; 8]
-    requires { ⌜ length (coloursIn (now body)) ≤ 8 ⌝ }
-    requires { ⌜ countKind 4 (now body) ≤ 32 ⌝ }
+fn colour_sizes(body: &[u32]) -> [ColourSize; MOST_COLOURS]
+    requires { ⌜ length (coloursIn (now body)) ≤ mostColours ⌝ }
+    requires { ⌜ countKind 4 (now body) ≤ mostSites ⌝ }
     ensures { λ r. ⌜ r ≡ eightOf (coloursIn (now (body .entry))) ⌝ }
 {
-    let mut colours = [no_colour(); 8];
+    let mut colours = [no_colour(); MOST_COLOURS];
     let mut c: usize = 0;
     let mut i: usize = 0;
     while i < body.len() {
         let w = body[i];
-        if kind_of(w) == 3 {
+        if kind_of(w) == COLOUR {
             let sites = sites_run(body, i + 1) as u8;
             let bound = bound_of(w);
             colours[c] = ColourSize {
@@ -83,7 +73,7 @@ fn colour_sizes(body: &[u32]) -> [ColourSize; 8]
 }
 
 fn refused(number: u32) -> Sizes
-    requires { ⌜ number < 8 ⌝ }
+    requires { ⌜ number < byteTop ⌝ }
     ensures { λ r. ⌜ r ≡ refusedOf number ⌝ }
 {
     Sizes {
@@ -93,7 +83,7 @@ fn refused(number: u32) -> Sizes
         c: 0,
         p: 0,
         work: 0,
-        colours: [no_colour(); 8],
+        colours: [no_colour(); MOST_COLOURS],
     }
 }
 
@@ -102,9 +92,9 @@ fn accepted(sheet: &[u32]) -> Sizes
     ensures { λ r. ⌜ r ≡ readOf (sheetIn (now (sheet .entry))) ⌝ }
 {
     let body = body_of(sheet);
-    let n = count_kind(body, 4) as u8;
-    let m = count_kind(body, 2) as u8;
-    let c = count_kind(body, 3) as u8;
+    let n = count_kind(body, SITE) as u8;
+    let m = count_kind(body, SLOT) as u8;
+    let c = count_kind(body, COLOUR) as u8;
     let p = product(body) as u8;
     let two = same(side_bit(get(sheet, 0)), 1);
     let work = work_for(two, m as u32, c as u32, n as u32, p as u32);

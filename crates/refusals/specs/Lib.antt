@@ -1,5 +1,3 @@
 pub mod Wordwise
-pub mod Stages
-pub mod Ranks
-pub mod Products
+pub mod Input
 pub mod Work

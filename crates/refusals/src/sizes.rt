@@ -1,19 +1,20 @@
 // Sizes of an accepted sheet, each from numbers alone: a colour's bound, the work words.
 ghost use mathlib.Core.Path.{_≡_};
 ghost use Prim.Native.Nat.{_≤_};
+ghost use Rattle.sheet.specs.Limits.{mostSlots, mostColours, mostSites, mostBudgets};
 ghost use Rattle.sheet.specs.Sheet.{bits};
 ghost use Rattle.refusals.specs.Work.{workOf};
 
-// A colour's bound.
+// A colour's bound: bits 7 to 0.
 pub fn bound_of(w: u32) -> u8
     ensures { λ r. ⌜ r ≡ bits w 0 8 ⌝ }
 {
-    (w % 256) as u8
+    (w % words::BYTE_TOP) as u8
 }
 
-// The work words by side, m, C, n and P.
+// The work words by side, m, C, n and P. Those of an accepted sheet are within the limits, so that the product fits.
 pub fn work_for(two: bool, m: u32, c: u32, n: u32, p: u32) -> u32
-    requires { ⌜ (m ≤ 48) × (c ≤ 8) × (n ≤ 32) × (p ≤ 64) ⌝ }
+    requires { ⌜ (m ≤ mostSlots) × (c ≤ mostColours) × (n ≤ mostSites) × (p ≤ mostBudgets) ⌝ }
     ensures { λ r. ⌜ r ≡ workOf two m c n p ⌝ }
 {
     let strips = (m + 2) * (c + 1);

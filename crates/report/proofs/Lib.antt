@@ -1,5 +1,5 @@
 mod Written
 mod Decimal
-mod Lines
+mod LinesPut
 mod Words
 pub mod Report

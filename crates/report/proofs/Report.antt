@@ -1,25 +1,27 @@
 -- The program's text by what is refused, and how long it can be. Assumes nothing.
-use mathlib.Core.Path.{_≡_, refl, sym, _∙_}
+use mathlib.Core.Path.{_≡_, refl}
 use mathlib.Core.Bool.{Bool, true, false, cond, not}
-use mathlib.Core.List.{List, [], _∷_}
+use mathlib.Core.List.{List, [], _∷_, _++_}
 use Prim.Native.Nat.{ℕ, suc, _+_, _*_, _-_, _%_, _<_, _≤_}
 use native.Mathlib.Omega.{arith}
 use lib.Dec.{eqb, ltb}
 use lib.ListN.{length, take, drop, length-append, length-drop}
 use lib.Seq.{take-at}
-use borrow.Author.Tests.{ltb-false, le-ltb, eqb-true, eq-eqb, ne-eqb}
+use borrow.Author.Tests.{ltb-false, eqb-true, eq-eqb, ne-eqb}
 use Rattle.lists.proofs.Tests.{by-test, or-l}
+use Rattle.sheet.specs.Limits.{mostSites}
 use Rattle.sheet.specs.Sheet.{kindOf, sitesIn, sheetIn, sheetFault, workFor}
 use Rattle.sheet.proofs.Accepted.{sound}
 use Rattle.labelling.specs.Layout.{best, statedCount, statedLength}
 use Rattle.labelling.specs.Entry.{isNone, makeFault, makeAnswer}
 use Rattle.labelling.proofs.Maker.{fault-seven}
-use Rattle.report.specs.Input.{isUnfit}
+use Rattle.refusals.specs.Input.{mostBytes, isUnfit}
+use Rattle.report.specs.Input.{wordsIn}
 use Rattle.report.specs.Text.{decimal, written, pastOf}
 use Rattle.report.proofs.Decimal.{decimal-length}
 use Rattle.report.proofs.Written.{written-front}
-use Rattle.report.specs.Lines.{wordsIn, refusedLine, slotAt, siteLines, layoutText}
-use Rattle.report.specs.Report.{sheetText, programSheetText, programText, longest, reportSize, reportArea}
+use Rattle.report.specs.Lines.{refusedLine, slotAt, siteLines, layoutText}
+use Rattle.report.specs.Report.{sheetText, programSheetText, programText, siteLineBound, textBound}
 use Rattle.report.proofs.Words.{words-fit}
 
 -- a refusal, or a layout
@@ -38,8 +40,12 @@ pub text-fit : (bs : List ℕ) → isUnfit (length bs) ≡ false → programShee
 unfolding programText
 text-fit bs e = rw e refl
 
-pub words-few : (bs : List ℕ) → isUnfit (length bs) ≡ false → length (wordsIn bs) ≤ 256
-words-few bs e = omega (arith, words-fit bs, ltb-false 1024 (length bs) (or-l (ltb 1024 (length bs)) (not (eqb (length bs % 4) 0)) e))
+-- an input that is served has at most 1,024 bytes, so 256 words
+abbrev pub inputWords : ℕ
+inputWords = 256
+
+pub words-few : (bs : List ℕ) → isUnfit (length bs) ≡ false → length (wordsIn bs) ≤ inputWords
+words-few bs e = omega (arith, words-fit bs, ltb-false mostBytes (length bs) (or-l (ltb mostBytes (length bs)) (not (eqb (length bs % 4) 0)) e))
 
 -- an area's front after it was filled
 pub front : {w : List ℕ} {n : ℕ} (l s : List ℕ) → length s ≤ length l → n ≡ pastOf l 0 s → w ≡ written l 0 s → take n w ≡ s
@@ -48,11 +54,14 @@ front l s h p q =
     rw (p, q, e, written-front l s h) (take-at s (drop (length s) l) (length s) refl)
 
 -- HOW LONG a text can be: a number of ten digits at most in each place
-few : (n : ℕ) → n < 10000000000 → length (decimal n) ≤ 10
+abbrev tenDigits : ℕ
+tenDigits = 10000000000
+
+few : (n : ℕ) → n < tenDigits → length (decimal n) ≤ 10
 few n h = decimal-length 9 n h
 
-lines-few : (ls : List ℕ) (i c : ℕ) (ws : List ℕ) → i + length ws ≤ 1000 → c + length ws ≤ 1000 →
-    length (siteLines ls i (sitesIn c ws)) ≤ 50 * length (sitesIn c ws)
+lines-few : (ls : List ℕ) (i c : ℕ) (ws : List ℕ) → i + length ws < tenDigits → c + length ws < tenDigits →
+    length (siteLines ls i (sitesIn c ws)) ≤ siteLineBound * length (sitesIn c ws)
 unfolding siteLines sitesIn
 lines-few ls i c [] p q = omega arith
 lines-few ls i c (w ∷ ws) p q =
@@ -79,10 +88,10 @@ fault-few ws k o =
 none-first : (f x : ℕ) → cond (not (eqb f 0)) f x ≡ 0 → f ≡ 0
 none-first f x h = by-test (eqb f 0) (λ e. eqb-true f 0 e) λ e. rw e at h
 
-refused-few : (n : ℕ) → n ≤ 12 → length (refusedLine n) ≤ longest
+refused-few : (n : ℕ) → n ≤ 12 → length (refusedLine n) ≤ textBound
 refused-few n h = simp length-append (omega (arith, few n (omega arith)))
 
-layout-few : (ws ls : List ℕ) → length ws ≤ 256 → length (sitesIn 0 (drop 1 ws)) ≤ 32 → length (layoutText (sheetIn ws) ls) ≤ longest
+layout-few : (ws ls : List ℕ) → length ws ≤ inputWords → length (sitesIn 0 (drop 1 ws)) ≤ mostSites → length (layoutText (sheetIn ws) ls) ≤ textBound
 unfolding layoutText
 layout-few ws ls h n =
     let d : length (drop 1 ws) ≡ length ws - 1 = length-drop 1 ws in
@@ -91,23 +100,22 @@ layout-few ws ls h n =
 by-few : (g n : ℕ) (t : List ℕ) → (g ≡ 0 → length t ≤ n) → length (refusedLine g) ≤ n → length (cond (eqb g 0) t (refusedLine g)) ≤ n
 by-few g n t h k = by-test (eqb g 0) (λ e. rw e (h (eqb-true g 0 e))) λ e. rw e k
 
-sheet-few : (ws k o : List ℕ) → length ws ≤ 256 → length (sheetText ws k o) ≤ longest
+sheet-few : (ws k o : List ℕ) → length ws ≤ inputWords → length (sheetText ws k o) ≤ textBound
 unfolding sheetText
 sheet-few ws k o h =
-    by-few (makeFault ws k o) longest (layoutText (sheetIn ws) (makeAnswer ws k o))
+    by-few (makeFault ws k o) textBound (layoutText (sheetIn ws) (makeAnswer ws k o))
     (λ e. layout-few ws (makeAnswer ws k o) h (sound ws (none-first (sheetFault ws) _ e) .few-sites))
     (refused-few (makeFault ws k o) (omega (arith, fault-few ws k o)))
 
 -- every text fits
-pub text-fits : (bs : List ℕ) → length (programText bs) ≤ longest
+pub text-fits : (bs : List ℕ) → length (programText bs) ≤ textBound
 unfolding programText programSheetText
 text-fits bs =
     by-test (isUnfit (length bs)) (λ e. rw e (refused-few 12 (omega arith))) λ e. rw e (sheet-few (wordsIn bs) _ _ (words-few bs e))
 
 -- what a report leaves in an area that is long enough
-pub reported : (bs l : List ℕ) → longest ≤ length l →
-    (pastOf l 0 (programText bs) ≡ reportSize bs l) × (written l 0 (programText bs) ≡ reportArea bs l)
+pub reported : (bs l : List ℕ) → textBound ≤ length l →
+    (pastOf l 0 (programText bs) ≡ length (programText bs)) × (written l 0 (programText bs) ≡ programText bs ++ drop (length (programText bs)) l)
 reported bs l h =
-    let f : length (programText bs) ≤ longest = text-fits bs in
-    let e : ltb (length l) longest ≡ false = le-ltb (length l) longest h in
-    rw e (omega arith, written-front l (programText bs) (omega arith))
+    let f : length (programText bs) ≤ textBound = text-fits bs in
+    (omega arith, written-front l (programText bs) (omega arith))

@@ -5,9 +5,9 @@ use Prim.Native.Nat.{ℕ, _+_, _*_, _<_, _≤_}
 use native.Mathlib.Omega.{arith}
 use lib.ListN.{length, getD, drop, length-drop}
 use lib.Seq.{drop-drop, getD-drop}
-use Rattle.report.specs.Lines.{wordsIn}
+use Rattle.report.specs.Input.{wordFrom, wordsIn}
 
-first : (s : List ℕ) → 4 ≤ length s → wordsIn s ≡ (getD s 0 0 + 256 * getD s 1 0 + 65536 * getD s 2 0 + 16777216 * getD s 3 0) ∷ wordsIn (drop 4 s)
+first : (s : List ℕ) → 4 ≤ length s → wordsIn s ≡ wordFrom (getD s 0 0) (getD s 1 0) (getD s 2 0) (getD s 3 0) ∷ wordsIn (drop 4 s)
 unfolding wordsIn
 first [] h = absurd (omega arith)
 first (a ∷ []) h = absurd (omega arith)
@@ -24,7 +24,7 @@ none (a ∷ b ∷ c ∷ []) h = refl
 none (a ∷ b ∷ c ∷ d ∷ bs) h = absurd (omega arith)
 
 pub words-at : (s : List ℕ) (i : ℕ) → i + 4 ≤ length s
-    → wordsIn (drop i s) ≡ (getD s i 0 + 256 * getD s (i + 1) 0 + 65536 * getD s (i + 2) 0 + 16777216 * getD s (i + 3) 0) ∷ wordsIn (drop (i + 4) s)
+    → wordsIn (drop i s) ≡ wordFrom (getD s i 0) (getD s (i + 1) 0) (getD s (i + 2) 0) (getD s (i + 3) 0) ∷ wordsIn (drop (i + 4) s)
 words-at s i h =
     let z : i + 0 ≡ i = omega arith in
     first (drop i s) (omega (arith, length-drop i s)) ∙ rw (getD-drop i s 0 0, getD-drop i s 1 0, getD-drop i s 2 0, getD-drop i s 3 0, drop-drop 4 i s, z) refl

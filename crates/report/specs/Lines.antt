@@ -1,20 +1,12 @@
--- The words of an input, and the lines of a report. Assumes nothing: these are definitions.
+-- The lines of a report. Assumes nothing: these are definitions.
 use mathlib.Core.Bool.{cond}
 use mathlib.Core.List.{List, [], _∷_, _++_}
-use Prim.Native.Nat.{ℕ, suc, _+_, _*_, _-_}
+use Prim.Native.Nat.{ℕ, suc, _+_, _-_}
 use lib.Dec.{eqb}
 use lib.ListN.{getD}
 use Rattle.sheet.specs.Sheet.{bits, kindOf, Site, Sheet}
 use Rattle.labelling.specs.Layout.{statedCount, statedLength}
 use Rattle.report.specs.Text.{ascii, decimal}
-
--- the input's words: four bytes each, the lowest first
-unfoldable pub wordsIn : (bytes : List ℕ) → List ℕ
-wordsIn [] = []
-wordsIn (a ∷ []) = []
-wordsIn (a ∷ b ∷ []) = []
-wordsIn (a ∷ b ∷ c ∷ []) = []
-wordsIn (a ∷ b ∷ c ∷ d ∷ bs) = (a + 256 * b + 65536 * c + 16777216 * d) ∷ wordsIn bs
 
 -- THE LINES, each with its line feed
 abbrev pub refusedLine : (number : ℕ) → List ℕ
@@ -39,7 +31,7 @@ abbrev pub lineOf : (layout : List ℕ) → (site colours word : ℕ) → List �
 lineOf ls i c w = cond (eqb (kindOf w) 4) (siteLine i (c - 1) (slotAt ls i)) []
 
 abbrev pub countWith : (number kind word : ℕ) → ℕ
-countWith n k w = cond (eqb (kindOf w) k) (n + 1) n
+countWith n k w = n + cond (eqb (kindOf w) k) 1 0
 
 unfoldable pub layoutText : Sheet → (layout : List ℕ) → List ℕ
 layoutText s ls = layoutLine (statedCount ls) (statedLength ls) ++ siteLines ls 0 (s .sites)

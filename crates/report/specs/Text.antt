@@ -12,10 +12,14 @@ abbrev pub ascii : String → List ℕ
 ascii empty = []
 ascii (c then s) = code c ∷ ascii s
 
+-- the ASCII code of the digit 0
+abbrev pub zeroDigit : ℕ
+zeroDigit = 48
+
 -- a number's digits, the first one first; a number has fewer digits than its value and one more, which is the fuel
 unfoldable pub digitsBy : (fuel : ℕ) → ℕ → List ℕ
-digitsBy zero n = (48 + n) ∷ []
-digitsBy (suc f) n = cond (ltb n 10) ((48 + n) ∷ []) (digitsBy f (n / 10) ++ ((48 + n % 10) ∷ []))
+digitsBy zero n = (zeroDigit + n) ∷ []
+digitsBy (suc f) n = cond (ltb n 10) ((zeroDigit + n) ∷ []) (digitsBy f (n / 10) ++ ((zeroDigit + n % 10) ∷ []))
 
 unfoldable pub decimal : ℕ → List ℕ
 decimal n = digitsBy n n

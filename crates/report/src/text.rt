@@ -2,7 +2,7 @@
 ghost use mathlib.Core.Path.{_≡_};
 ghost use mathlib.Core.List.{[], _∷_};
 ghost use Prim.Native.Nat.{_+_, _%_};
-ghost use Rattle.report.specs.Text.{decimal, written, pastOf};
+ghost use Rattle.report.specs.Text.{zeroDigit, decimal, written, pastOf};
 
 pub fn put_byte(text: &mut [u8], at: usize, byte: u8) -> usize
     ensures { λ r. ⌜ r ≡ pastOf (now (text .entry)) at (byte ∷ []) ⌝ }
@@ -29,14 +29,14 @@ pub fn put_bytes(text: &mut [u8], at: usize, bytes: &[u8]) -> usize
 }
 
 // The ASCII code of a number's last digit.
-fn last_digit(n: u32) -> u8
-    ensures { λ r. ⌜ r ≡ 48 + n % 10 ⌝ }
+fn last_digit(n: u64) -> u8
+    ensures { λ r. ⌜ r ≡ zeroDigit + n % 10 ⌝ }
 {
     let digit = (n % 10) as u8;
-    48 + digit
+    b'0' + digit
 }
 
-pub fn put_decimal(text: &mut [u8], at: usize, n: u32) -> usize
+pub fn put_decimal(text: &mut [u8], at: usize, n: u64) -> usize
     ensures { λ r. ⌜ r ≡ pastOf (now (text .entry)) at (decimal n) ⌝ }
     ensures { λ r. ⌜ now (text .exit) ≡ written (now (text .entry)) at (decimal n) ⌝ }
 {

@@ -30,6 +30,10 @@ kindTop = 268435456
 abbrev pub wordTop : ℕ
 wordTop = 4294967296
 
+-- the greatest word, 2^32 - 1; as a cost it stands for none
+abbrev pub topWord : ℕ
+topWord = 4294967295
+
 -- a number above every x, y, height and width: they have 14 bits (2^14)
 abbrev pub numberTop : ℕ
 numberTop = 16384

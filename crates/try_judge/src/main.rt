@@ -1,5 +1,6 @@
 // The judge on stored sheets made by hand. Each line of the input is a case: a name, a colon, and words in hexadecimal, a blank
 // before each; a line that begins with # is a remark. What the judge must give is in the file stdout, worked out from document 01.
+use cases::CASE_WORDS;
 use cases::place_of;
 use cases::print_number;
 use cases::take_case;
@@ -16,7 +17,7 @@ fn print_verdict(v: Verdict) {
 }
 
 fn judge_line(line: &[u8]) {
-    let mut words = [0u32; 128];
+    let mut words = [0u32; CASE_WORDS];
     let n = take_case(line, &mut words);
     print_verdict(judge_layout(&words[0..n]));
 }

@@ -2,9 +2,14 @@
 ghost use Prim.Native.Nat.{_≤_};
 ghost use lib.ListN.{length};
 use crate::compare::compare;
+use cases::CASE_WORDS;
 use cases::place_of;
 use cases::take_words;
 use std::num::wrapping_add_u32;
+use words::BYTE_TOP;
+
+// The sets of seven faults.
+const SETS: u32 = 128;
 
 // The words of the lines whose last word says yes for a set: bits of faults, times 256, and those of them that the set must have.
 fn take_held(words: &mut [u32], text: &[u8], set: u32) -> usize
@@ -24,7 +29,7 @@ fn take_held(words: &mut [u32], text: &[u8], set: u32) -> usize
             continue;
         }
         let last = words[n - 1];
-        if set & (last / 256) != last % 256 {
+        if set & (last / BYTE_TOP) != last % BYTE_TOP {
             continue;
         }
         held = n - 1;
@@ -33,7 +38,7 @@ fn take_held(words: &mut [u32], text: &[u8], set: u32) -> usize
 }
 
 fn read_set(text: &[u8], set: u32) -> u32 {
-    let mut words = [0u32; 128];
+    let mut words = [0u32; CASE_WORDS];
     let n = take_held(&mut words, text, set);
     compare(&words[0..n])
 }
@@ -42,7 +47,7 @@ fn read_set(text: &[u8], set: u32) -> u32 {
 pub fn read_sets(text: &[u8]) -> u32 {
     let mut t: u32 = 0;
     let mut i: u32 = 0;
-    while i < 128 {
+    while i < SETS {
         t = wrapping_add_u32(t, read_set(text, 2 * i));
         i += 1;
     }

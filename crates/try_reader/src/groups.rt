@@ -2,13 +2,14 @@
 use crate::compare::compare;
 use crate::compare::say;
 use crate::faults::read_sets;
+use cases::CASE_WORDS;
 use cases::place_of;
 use cases::take_words;
 use std::num::wrapping_add_u32;
 
-// There is room for what is wanted and the longest sheet of a case.
+// One case.
 fn read_line(line: &[u8]) -> u32 {
-    let mut words = [0u32; 128];
+    let mut words = [0u32; CASE_WORDS];
     let n = take_words(line, &mut words, 0);
     compare(&words[0..n])
 }

@@ -4,6 +4,7 @@ ghost use Prim.Native.Nat.{_<_};
 ghost use lib.IntN.{pos, natAbs, _-ℤ_};
 ghost use Rattle.sheet.specs.Sheet.{Sheet};
 ghost use Rattle.labelling.specs.Layout.{apart, siteShare};
+ghost use Rattle.words.specs.Signs.{signTop};
 
 // How far two heights lie apart.
 pub fn apart_of(a: u32, b: u32) -> u32
@@ -17,7 +18,7 @@ pub fn apart_of(a: u32, b: u32) -> u32
 
 // A site's drop: its slot's height less its own, below zero when the backbone lies above it.
 pub fn drop_of(h: u32, y: u32) -> i32
-    requires { ⌜ (h < 2147483648) × (y < 2147483648) ⌝ }
+    requires { ⌜ (h < signTop) × (y < signTop) ⌝ }
     ensures { λ r. ⌜ r ≡ pos h -ℤ pos y ⌝ }
 {
     (h as i32) - (y as i32)
@@ -25,7 +26,7 @@ pub fn drop_of(h: u32, y: u32) -> i32
 
 // A drop without its sign.
 pub fn magnitude(d: i32) -> u32
-    requires { ⌜ natAbs d < 2147483648 ⌝ }
+    requires { ⌜ natAbs d < signTop ⌝ }
     ensures { λ r. ⌜ r ≡ natAbs d ⌝ }
 {
     if d < 0 {
@@ -36,7 +37,7 @@ pub fn magnitude(d: i32) -> u32
 
 // A site's share of the length, by the height of its slot and its own.
 pub fn share_of(h: u32, y: u32) -> u32
-    requires { ⌜ (h < 2147483648) × (y < 2147483648) ⌝ }
+    requires { ⌜ (h < signTop) × (y < signTop) ⌝ }
     ensures { λ r. ⌜ ((s : Sheet) → r ≡ siteShare s h y) ⌝ }
 {
     magnitude(drop_of(h, y))

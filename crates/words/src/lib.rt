@@ -1,12 +1,14 @@
 // Kind and fields of a word, and tests and sums as functions. Each is total: its contract is one equation and asks nothing.
+pub mod body;
 pub mod drops;
 pub mod tied;
 
 ghost use mathlib.Core.Path.{_≡_};
 ghost use mathlib.Core.Bool.{cond, _&&_, _||_, not};
-ghost use Prim.Native.Nat.{_+_, _-_, min};
+ghost use Prim.Native.Nat.{_+_, _-_, _<_, min};
 ghost use lib.Dec.{eqb, leb, ltb};
 ghost use lib.ListN.{getD};
+ghost use Rattle.sheet.specs.Limits.{byteTop, topWord};
 ghost use Rattle.sheet.specs.Sheet.{kindOf, bits};
 ghost use Rattle.sheet.specs.Words.{rankIn};
 ghost use Rattle.search.specs.Cost.{plus};
@@ -14,17 +16,53 @@ ghost use Rattle.search.specs.Cost.{plus};
 // The cost of "none".
 pub const NONE: u32 = 4294967295;
 
+const NONE_WIDE: u64 = 4294967295;
+
+// The kinds of words: document 01, "The sheet".
+pub const HEAD: u32 = 1;
+
+pub const SLOT: u32 = 2;
+
+pub const COLOUR: u32 = 3;
+
+pub const SITE: u32 = 4;
+
+pub const LAYOUT: u32 = 8;
+
+pub const TIE: u32 = 9;
+
 // The limits of a sheet and the bounds of its fields: sheet/specs/Limits has them for definitions.
 pub const MOST_SLOTS: usize = 48;
+
 pub const MOST_COLOURS: usize = 8;
+
 pub const MOST_SITES: usize = 32;
+
 pub const MOST_BUDGETS: u32 = 64;
+
 pub const MOST_WORDS: usize = 89;
+
 pub const UNBOUNDED: u32 = 255;
+
 pub const KIND_TOP: u32 = 268435456;
+
 pub const NUMBER_TOP: u32 = 16384;
+
 pub const BYTE_TOP: u32 = 256;
+
 pub const LENGTH_TOP: u32 = 2097152;
+
+// The gap has 12 bits, a layout's count 7, and a colour or a tie has 20 spare ones above its lowest 8.
+pub const GAP_TOP: u32 = 4096;
+
+pub const COUNT_TOP: u32 = 128;
+
+pub const SPARE_TOP: u32 = 1048576;
+
+// The places of the head's bits 27 and 26.
+pub const SIDE_PLACE: u32 = 134217728;
+
+pub const AIM_PLACE: u32 = 67108864;
 
 pub fn kind_of(w: u32) -> u32
     ensures { λ r. ⌜ r ≡ kindOf w ⌝ }
@@ -57,28 +95,56 @@ pub fn rank_of(w: u32) -> u32
 pub fn gap_field(w: u32) -> u32
     ensures { λ r. ⌜ r ≡ bits w 14 12 ⌝ }
 {
-    w / 16384 % 4096
+    w / NUMBER_TOP % GAP_TOP
 }
 
 // Bits 7 to 0: a colour's bound, a tie's slot.
 pub fn byte_field(w: u32) -> u32
     ensures { λ r. ⌜ r ≡ bits w 0 8 ⌝ }
 {
-    w % 256
+    w % BYTE_TOP
+}
+
+// Bits 27 to 8: what a colour or a tie has spare.
+pub fn spare_field(w: u32) -> u32
+    ensures { λ r. ⌜ r ≡ bits w 8 20 ⌝ }
+{
+    w / BYTE_TOP % SPARE_TOP
+}
+
+// Bits 27 to 21: the label count that a layout's first word states.
+pub fn count_field(w: u32) -> u32
+    ensures { λ r. ⌜ r ≡ bits w 21 7 ⌝ }
+{
+    w / LENGTH_TOP % COUNT_TOP
+}
+
+// Bits 20 to 0: the length that it states.
+pub fn length_field(w: u32) -> u32
+    ensures { λ r. ⌜ r ≡ bits w 0 21 ⌝ }
+{
+    w % LENGTH_TOP
 }
 
 // Bit 27: two-sided.
 pub fn side_bit(w: u32) -> u32
     ensures { λ r. ⌜ r ≡ bits w 27 1 ⌝ }
 {
-    w / 134217728 % 2
+    w / SIDE_PLACE % 2
 }
 
 // Bit 26: shortest.
 pub fn aim_bit(w: u32) -> u32
     ensures { λ r. ⌜ r ≡ bits w 26 1 ⌝ }
 {
-    w / 67108864 % 2
+    w / AIM_PLACE % 2
+}
+
+// A byte as a word.
+pub fn wide(b: u8) -> u32
+    ensures { λ r. ⌜ (r ≡ b) × (r < byteTop) ⌝ }
+{
+    b as u32
 }
 
 pub fn both(a: bool, b: bool) -> bool
@@ -164,10 +230,10 @@ pub fn lesser(a: u32, b: u32) -> u32
 
 // The sum of two costs, capped at NONE.
 pub fn plus_of(a: u32, b: u32) -> u32
-    ensures { λ r. ⌜ r ≡ plus 4294967295 a b ⌝ }
+    ensures { λ r. ⌜ r ≡ plus topWord a b ⌝ }
 {
     let s = (a as u64) + (b as u64);
-    if s < 4294967295 {
+    if s < NONE_WIDE {
         return s as u32;
     }
     NONE

@@ -1,5 +1,7 @@
+use Rattle.report.specs.Report.{textBound}
+use Rattle.report.proofs.Report.{text-fits}
 use mathlib.Core.Path.{sym}
-use Prim.Native.Nat.{_-_}
+use Prim.Native.Nat.{_≤_}
 use native.Mathlib.Omega.{arith}
 use lib.Seq.{length-take-le}
 use borrow.Author.Needs.{needs}
@@ -25,21 +27,21 @@ report-requires : tie.Need-report-requires
 report-requires c κs = search needs
 
 array-share-prefix-text : tie.Need-array-share-prefix-text
-array-share-prefix-text c = search needs
+array-share-prefix-text c =
+    let r = c .before .report in
+    let h : r .result ≤ textBound = rw (r .ensures .0) (text-fits _) in omega (arith, h)
 
 slice-aggregate-write-all : tie.Need-slice-aggregate-write-all
 slice-aggregate-write-all c =
-    let r = c .before .before .before .report in
-    sym (length-take-le (r .result) (r .last .1 .0) (omega (arith, c .before .if1 .taken, r .kept .1 .0)))
+    let r = c .before .before .report in
+    let h : r .result ≤ textBound = rw (r .ensures .0) (text-fits _) in
+    sym (length-take-le (r .result) (r .last .1 .0) (omega (arith, h, r .kept .1 .0)))
 
 write-all-requires : tie.Need-write-all-requires
 write-all-requires c κs = search needs
 
 returns : tie.Need-returns
 returns c = search needs
-
-returns-2 : tie.Need-returns-2
-returns-2 c = search needs
 
 pub main-spec : {M : Type 1} → statement M
 main-spec =
@@ -54,5 +56,4 @@ main-spec =
     array-share-prefix-text
     slice-aggregate-write-all
     write-all-requires
-    returns
-    returns-2)
+    returns)

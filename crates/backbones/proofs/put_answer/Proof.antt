@@ -5,8 +5,8 @@ use borrow.Author.Needs.{needs}
 use Rattle.backbones.proofs.put_answer.Statement.{statement}
 use Rattle.backbones.proofs.put_answer.Tie as tie
 
-wide-requires : tie.Need-wide-requires
-wide-requires c κs = search needs
+cast-number : tie.Need-cast-number
+cast-number c = search needs
 
 put-refused-requires : tie.Need-put-refused-requires
 put-refused-requires c κs = search needs
@@ -16,7 +16,8 @@ same-length c = search needs
 
 returns : tie.Need-returns
 returns c =
-    rw (← text-refused (c .before .before .before .before .before .before .before .before .before .args .fault) (layoutText (sheetIn (c .before .before .before .before .before .before .before .before .before .args .sheet .now)) (c .before .before .before .before .before .before .before .before .before .args .answer .now)) (c .before .before .before .before .before .if1 .taken), ← c .before .before .before .wide .ensures .0) (c .before .before .put-refused .ensures)
+    let a = c .before .before .before .before .before .before .before .before .args in
+    rw (← text-refused (a .fault) (layoutText (sheetIn (a .sheet .now)) (a .answer .now)) (c .before .before .before .before .if1 .taken)) (c .before .before .put-refused .ensures)
 
 put-layout-requires : tie.Need-put-layout-requires
 put-layout-requires c κs = search needs
@@ -26,13 +27,14 @@ same-length-2 c = search needs
 
 returns-2 : tie.Need-returns-2
 returns-2 c =
-    rw (← text-layout (c .before .before .before .before .before .before .before .before .args .fault) (layoutText (sheetIn (c .before .before .before .before .before .before .before .before .args .sheet .now)) (c .before .before .before .before .before .before .before .before .args .answer .now)) (refusedLine (c .before .before .before .before .before .before .before .before .args .fault)) (c .before .before .before .before .if1 .left)) (c .before .before .put-layout .ensures)
+    let a = c .before .before .before .before .before .before .before .before .args in
+    rw (← text-layout (a .fault) (layoutText (sheetIn (a .sheet .now)) (a .answer .now)) (refusedLine (a .fault)) (c .before .before .before .before .if1 .left)) (c .before .before .put-layout .ensures)
 
 pub put-answer-spec : {M : Type 1} → statement M
 put-answer-spec =
     tie.close
     (tie.spec
-    wide-requires
+    cast-number
     put-refused-requires
     same-length
     returns

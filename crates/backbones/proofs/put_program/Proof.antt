@@ -1,5 +1,5 @@
 use lib.Seq.{length-take-le}
-use Rattle.report.specs.Lines.{wordsIn}
+use Rattle.report.specs.Input.{wordsIn}
 use Rattle.report.proofs.Report.{text-unfit, text-fit, words-few, front}
 use mathlib.Core.Path.{_≡_, sym, _∙_}
 use native.Mathlib.Omega.{arith}
@@ -37,9 +37,7 @@ slice-aggregate-put-program-sheet c =
     sym (length-take-le (t .result) (t .last .0) (omega (arith, t .kept .0)))
 
 put-program-sheet-requires : tie.Need-put-program-sheet-requires
-put-program-sheet-requires c κs =
-    let t = c .before .before .before .put-words in
-    omega (arith, length-take-le (t .result) (t .last .0) (omega (arith, t .kept .0)))
+put-program-sheet-requires c κs = search needs
 
 same-length-2 : tie.Need-same-length-2
 same-length-2 c = search needs

@@ -1,6 +1,6 @@
 use lib.Seq.{length-take-le}
 use Rattle.lists.proofs.Places.{part-from}
-use Rattle.reader.proofs.scans.Parts.{sheet-front, sheet-le}
+use Rattle.judge.proofs.refusal_11.Parts.{sheet-front, sheet-le}
 use mathlib.Core.Path.{refl, sym, _∙_}
 use native.Mathlib.Omega.{arith}
 use borrow.Author.Needs.{needs}

@@ -14,14 +14,15 @@ abbrev begin : tie.After-product → tie.Start
 begin m = m .before .before .before .before .before .before .before
 
 binding-only-requires : tie.Need-binding-only-requires
-binding-only-requires c κs = few-words (c .before .before .before .args .sheet .now) (c .before .before .before .pre .0 .1)
+binding-only-requires c κs = search needs
 
 array-share-prefix-words : tie.Need-array-share-prefix-words
 array-share-prefix-words c = omega (arith, few-words (c .before .before .before .before .args .sheet .now) (c .before .before .before .before .pre .0 .1))
 
 slice-aggregate-kept : tie.Need-slice-aggregate-kept
 slice-aggregate-kept c =
-    sym (ap length (c .before .binding-only .ensures) ∙ length-kept (c .before .before .before .before .before .args .sheet .now))
+    let s = c .before .before .before .before .before .args .sheet .now in
+    sym (ap length (c .before .binding-only .ensures (few-words s (c .before .before .before .before .before .pre .0 .1))) ∙ length-kept s)
 
 body-of-requires : tie.Need-body-of-requires
 body-of-requires c κs = search needs
@@ -52,7 +53,7 @@ work-for-requires c κs =
     let m = c .before .before .before .before .before .before in
     let a = begin m .args in
     let p = begin m .pre in
-    let e = m .before .before .before .binding-only .ensures in
+    let e = m .before .before .before .binding-only .ensures (few-words (a .sheet .now) (p .0 .1)) in
     let z = small (a .sheet .now) (a .work .now) (a .out .now) _ e (p .0) (a .sizes) (p .1) in
     (z .0, z .1, z .2, few (a .sheet .now) (a .work .now) (a .out .now) _ e (p .0) (a .sizes) (p .1) _ _ (m .before .body-of .ensures) (m .product .ensures))
 
@@ -61,7 +62,7 @@ lay-side-requires c κs =
     let m = c .before .before .before .before .before .before .before .before .before in
     let a = begin m .args in
     let p = begin m .pre in
-    let e = m .before .before .before .binding-only .ensures in (
+    let e = m .before .before .before .binding-only .ensures (few-words (a .sheet .now) (p .0 .1)) in (
       takes-kept (a .sheet .now) (a .work .now) (a .out .now) _ e (p .0) (a .sizes) (p .1),
       (
         side-kept (a .sheet .now) (a .work .now) (a .out .now) _ e (p .0) (a .sizes) (p .1) _ (c .before .before .before .before .before .before .before .before .is-two-sided .ensures),
@@ -80,7 +81,7 @@ zero-part-requires c κs =
     let m = c .before .before .before .before .before .before .before .before .before .before .before .before .before .before .before .before in
     let a = begin m .args in
     let p = begin m .pre in
-    let e = m .before .before .before .binding-only .ensures in
+    let e = m .before .before .before .binding-only .ensures (few-words (a .sheet .now) (p .0 .1)) in
     needs-less (a .sheet .now) (a .work .now) (a .out .now) _ e (p .0) (a .sizes) (p .1) _ _ (m .before .body-of .ensures) (m .product .ensures)
     _ _ (c .before .before .before .before .before .before .before .before .before .before .before .before .before .before .before .is-two-sided .ensures) (c .before .before .before .before .before .before .before .before .before .work-for .ensures) _ (c .before .before .before .before .before .before .lay-side .ensures .1 .0)
 
@@ -95,7 +96,7 @@ returns c =
     let m = c .before .before .before .before .before .before .before .before .before .before .before .before .before .before .before .before .before .before .before in
     let a = begin m .args in
     let p = begin m .pre in
-    let e = m .before .before .before .binding-only .ensures in
+    let e = m .before .before .before .binding-only .ensures (few-words (a .sheet .now) (p .0 .1)) in
     let f = c .before .before .before .before .before .before .before .before .before .lay-side .ensures in
     laid (a .sheet .now) (a .work .now) (a .out .now) _ e (p .0) (a .sizes) (p .1) _ _ (m .before .body-of .ensures) (m .product .ensures)
     _ _ (c .before .before .before .before .before .before .before .before .before .before .before .before .before .before .before .before .before .before .is-two-sided .ensures) (c .before .before .before .before .before .before .before .before .before .before .before .before .work-for .ensures) _ _ _ _ (f .0) (f .1 .0) (f .1 .1) (c .before .before .zero-part .ensures)

@@ -7,8 +7,8 @@ use borrow.Author.Needs.{needs}
 use Rattle.sheet.specs.Sheet.{coloursIn, bodyOf, productOf}
 use Rattle.sheet.specs.Words.{countKind}
 use Rattle.sheet.proofs.Counts.{slots-count, colours-count, sites-count}
-use Rattle.refusals.proofs.products.Factors.{capped-same}
-use Rattle.reader.proofs.Fits.{Fits, fits}
+use Rattle.refusals.proofs.refusal_7.Factors.{capped-same}
+use Rattle.reader.proofs.WithinLimits.{WithinLimits, within}
 use Rattle.reader.proofs.accepted.Statement.{statement}
 use Rattle.reader.proofs.accepted.Tie as tie
 
@@ -25,11 +25,11 @@ colours-are c = c .count-kind3 .ensures ∙ rw (c .before .before .before .body-
 product-is : (c : tie.After-product) → c .product .result ≡ productOf (coloursIn (bodyOf (c .before .before .before .before .before .before .args .sheet .now)))
 product-is c =
     let ws = c .before .before .before .before .before .before .args .sheet .now in
-    c .product .ensures ∙ rw (c .before .before .before .before .body-of .ensures) (capped-same (productOf (coloursIn (bodyOf ws))) (fits ws (c .before .before .before .before .before .before .pre) .product))
+    c .product .ensures ∙ rw (c .before .before .before .before .body-of .ensures) (capped-same (productOf (coloursIn (bodyOf ws))) (within ws (c .before .before .before .before .before .before .pre) .product))
 
 -- all of them, where the last is known
 record Known (ws : List ℕ) (n m c p : ℕ) : Type 0 where
-  fit : Fits (bodyOf ws)
+  fit : WithinLimits (bodyOf ws)
   sites : n ≡ countKind 4 (bodyOf ws)
   slots : m ≡ countKind 2 (bodyOf ws)
   colours : c ≡ countKind 3 (bodyOf ws)
@@ -38,7 +38,7 @@ record Known (ws : List ℕ) (n m c p : ℕ) : Type 0 where
 known : (c : tie.After-product) → Known (c .before .before .before .before .before .before .args .sheet .now) (c .before .before .before .count-kind .result) (c .before .before .count-kind2 .result) (c .before .count-kind3 .result) (c .product .result)
 known c =
     record {
-      fit = fits (c .before .before .before .before .before .before .args .sheet .now) (c .before .before .before .before .before .before .pre);
+      fit = within (c .before .before .before .before .before .before .args .sheet .now) (c .before .before .before .before .before .before .pre);
       sites = sites-are (c .before .before .before);
       slots = slots-are (c .before .before);
       colours = colours-are (c .before);
@@ -53,21 +53,21 @@ count-kind-requires c κs = search needs
 
 cast-n : tie.Need-cast-n
 cast-n c =
-    omega (arith, sites-are c, fits (c .before .before .before .args .sheet .now) (c .before .before .before .pre))
+    omega (arith, sites-are c, within (c .before .before .before .args .sheet .now) (c .before .before .before .pre))
 
 count-kind-requires-2 : tie.Need-count-kind-requires-2
 count-kind-requires-2 c κs = search needs
 
 cast-m : tie.Need-cast-m
 cast-m c =
-    omega (arith, slots-are c, fits (c .before .before .before .before .args .sheet .now) (c .before .before .before .before .pre))
+    omega (arith, slots-are c, within (c .before .before .before .before .args .sheet .now) (c .before .before .before .before .pre))
 
 count-kind-requires-3 : tie.Need-count-kind-requires-3
 count-kind-requires-3 c κs = search needs
 
 cast-c : tie.Need-cast-c
 cast-c c =
-    omega (arith, colours-are c, fits (c .before .before .before .before .before .args .sheet .now) (c .before .before .before .before .before .pre))
+    omega (arith, colours-are c, within (c .before .before .before .before .before .args .sheet .now) (c .before .before .before .before .before .pre))
 
 product-requires : tie.Need-product-requires
 product-requires c κs = search needs

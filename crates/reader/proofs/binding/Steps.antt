@@ -1,4 +1,4 @@
--- One word of a bindingOnly sheet, by its tests. Assumes nothing.
+-- One word of a sheet without the bounds that can't bind, by its tests. Assumes nothing.
 use mathlib.Core.Path.{_≡_, refl}
 use mathlib.Core.List.{List, [], _∷_, _++_}
 use Prim.Native.Nat.{ℕ, _+_, _*_, _/_, _%_, _≤_, _<_}
@@ -7,6 +7,7 @@ use lib.ListN.{length, getD, drop, take, drop-of-length-le}
 use lib.Seq.{take-at}
 use borrow.Author.Tests.{eq-eqb, ne-eqb, le-leb, lt-leb}
 use Rattle.lists.proofs.Places.{at}
+use Rattle.sheet.specs.Limits.{byteTop, unbounded}
 use Rattle.sheet.specs.Sheet.{kindOf, bits, sitesRun}
 use Rattle.sheet.specs.Binding.{bindingWord, bindingOnly}
 use Rattle.sheet.proofs.Binding.{length-kept}
@@ -16,10 +17,10 @@ module _ (w n k : ℕ) (e : k ≡ kindOf w) where
   no-colour f = rw (ne-eqb (kindOf w) 3 (λ q. f (omega arith))) refl
 
   module _ (f : k ≡ 3) where
-    pub binding : w % 256 < n → w ≡ bindingWord w n
+    pub binding : w % byteTop < n → w ≡ bindingWord w n
     binding h = rw (eq-eqb (kindOf w) 3 (omega arith), lt-leb n (bits w 0 8) (omega arith)) refl
 
-    pub slack : n ≤ w % 256 → w / 256 * 256 + 255 ≡ bindingWord w n
+    pub slack : n ≤ w % byteTop → w / byteTop * byteTop + unbounded ≡ bindingWord w n
     slack h = rw (eq-eqb (kindOf w) 3 (omega arith), le-leb n (bits w 0 8) (omega arith)) refl
 
 -- the words from a place on

@@ -3,6 +3,7 @@ use mathlib.Core.Path.{_≡_, refl, sym, ap, _∙_}
 use Prim.Native.Nat.{ℕ, _+_, _*_, _^_, _≤_}
 use native.Mathlib.Nat.{mul-le-mul, mul-assoc, mul-comm, pow-suc, pow-zero, one-mul}
 use native.Mathlib.Omega.{arith}
+use Rattle.sheet.specs.Limits.{mostSlots, mostColours, mostSites, mostBudgets}
 
 pub square : (x : ℕ) → x ^ 2 ≡ x * x
 square x = pow-suc x 1 ∙ ap (λ (n : ℕ). n * x) (pow-suc x 0 ∙ ap (λ (n : ℕ). n * x) (pow-zero x) ∙ one-mul x)
@@ -15,7 +16,7 @@ pub record Bounds (m c n p : ℕ) : Type 0 where
   pub levels : (m + 2) * (c + 1) * ((m + 2) * (c + 1)) * (n + 1) ≤ 6682500
   pub one : (m + 2) * (c + 1) * ((m + 2) * (c + 1)) * (n + 1) * p ≤ 427680000
 
-pub bounds : (m c n p : ℕ) → (m ≤ 48) × (c ≤ 8) × (n ≤ 32) × (p ≤ 64) → Bounds m c n p
+pub bounds : (m c n p : ℕ) → (m ≤ mostSlots) × (c ≤ mostColours) × (n ≤ mostSites) × (p ≤ mostBudgets) → Bounds m c n p
 bounds m c n p q =
     let slots : m + 2 ≤ 50 = omega arith in
     let colours : c + 1 ≤ 9 = omega arith in

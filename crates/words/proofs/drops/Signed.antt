@@ -12,11 +12,12 @@ use mir.Syntax.{w32}
 use mir.Val.{SFits, toZ, ofZ}
 use mir.ValLaws.{toZ-pos, toZ-ofZ}
 use Rattle.labelling.specs.Layout.{apart}
+use Rattle.words.specs.Signs.{signTop}
 
-pub small : (n : ℕ) → n < 2147483648 → SFits w32 (pos n)
+pub small : (n : ℕ) → n < signTop → SFits w32 (pos n)
 small n h = record { sfits = h }
 
-pub back : (n : ℕ) → n < 2147483648 → toZ w32 n ≡ pos n
+pub back : (n : ℕ) → n < signTop → toZ w32 n ≡ pos n
 back n h = toZ-pos w32 n h
 
 diff-by : (b : Bool) (h k : ℕ) → ltb h (suc k) ≡ b → natAbs (subℕ h (suc k)) ≡ apart h (suc k)
@@ -32,10 +33,10 @@ mag-le : (z : ℤ) → mag z ≤ natAbs z
 mag-le (pos n) = omega arith
 mag-le (negsuc n) = omega arith
 
-pub diff-fits : (h y : ℕ) → h < 2147483648 → y < 2147483648 → SFits w32 (pos h -ℤ pos y)
+pub diff-fits : (h y : ℕ) → h < signTop → y < signTop → SFits w32 (pos h -ℤ pos y)
 diff-fits h y a b = record { sfits = omega (arith, mag-le (pos h -ℤ pos y), diff-size h y) }
 
-pub diff-back : (h y : ℕ) → h < 2147483648 → y < 2147483648 → toZ w32 (ofZ w32 (pos h -ℤ pos y)) ≡ pos h -ℤ pos y
+pub diff-back : (h y : ℕ) → h < signTop → y < signTop → toZ w32 (ofZ w32 (pos h -ℤ pos y)) ≡ pos h -ℤ pos y
 diff-back h y a b = toZ-ofZ w32 (pos h -ℤ pos y) (diff-fits h y a b)
 
 pub neg-of : (d : ℤ) → ltZ d (pos 0) ≡ true → pos 0 -ℤ d ≡ pos (natAbs d)

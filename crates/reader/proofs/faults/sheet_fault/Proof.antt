@@ -1,4 +1,4 @@
--- `faults::sheet_fault` meets its contract.
+-- `reader::faults::sheet_fault` meets its contract.
 use mathlib.Core.Bool.{true, false}
 use mathlib.Core.Path.{_≡_, refl, sym, _∙_}
 use borrow.Author.Tests.{not-true, not-false}

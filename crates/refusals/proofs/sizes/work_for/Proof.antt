@@ -1,4 +1,4 @@
--- `sizes::work_for` meets its contract.
+-- `refusals::sizes::work_for` meets its contract.
 use mathlib.Core.Path.{refl}
 use Prim.Native.Nat.{_+_}
 use native.Mathlib.Omega.{arith}

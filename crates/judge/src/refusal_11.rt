@@ -1,0 +1,58 @@
+// Refusal 11: where the layout begins in a stored list of words, and whether it is one of the sheet before it.
+ghost use mathlib.Core.Path.{_≡_};
+ghost use lib.ListN.{length};
+ghost use Rattle.sheet.specs.Sheet.{all, sheetIn};
+ghost use Rattle.labelling.specs.Layout.{layoutBody, isLayout, sheetPart};
+ghost use Rattle.refusals.specs.Wordwise.{tieFits};
+use refusals::refusal_11::is_tie;
+use words::LAYOUT;
+use words::SITE;
+use words::SLOT;
+use words::body::body_of;
+use words::body::count_kind;
+use words::both;
+use words::kind_of;
+use words::same;
+
+// The place of the first word of kind 8, or the end.
+pub fn layout_start(stored: &[u32]) -> usize
+    ensures { λ r. ⌜ r ≡ length (sheetPart (now (stored .entry))) ⌝ }
+{
+    let mut i: usize = 0;
+    while i < stored.len() {
+        if kind_of(stored[i]) == LAYOUT {
+            return i;
+        }
+        i += 1;
+    }
+    i
+}
+
+fn are_ties(m: usize, layout: &[u32]) -> bool
+    ensures { λ r. ⌜ r ≡ all (tieFits m) (layoutBody (now (layout .entry))) ⌝ }
+{
+    let mut i: usize = 1;
+    while i < layout.len() {
+        if !is_tie(m, layout[i]) {
+            return false;
+        }
+        i += 1;
+    }
+    true
+}
+
+// Whether the words are a layout of the sheet.
+pub fn is_layout(sheet: &[u32], layout: &[u32]) -> bool
+    ensures { λ r. ⌜ r ≡ isLayout (sheetIn (now (sheet .entry))) (now (layout .entry)) ⌝ }
+{
+    if layout.len() == 0 {
+        return false;
+    }
+    let body = body_of(sheet);
+    let long = layout.len() - 1 == count_kind(body, SITE);
+    let m = count_kind(body, SLOT);
+    both(
+        both(long, same(kind_of(layout[0]), LAYOUT)),
+        are_ties(m, layout),
+    )
+}

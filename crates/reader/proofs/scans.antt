@@ -1,4 +1,0 @@
-mod Order
-mod Wordwise
-mod Steps
-pub mod Parts

@@ -1,0 +1,67 @@
+// Refusal 2: a word of another kind, out of its order, or with a spare bit set. `body`: a sheet's words after its head.
+ghost use mathlib.Core.Path.{_≡_};
+ghost use Rattle.sheet.specs.Sheet.{hasSpare, inOrder};
+ghost use Rattle.refusals.specs.Wordwise.{stageAfter};
+use words::COLOUR;
+use words::SITE;
+use words::SLOT;
+use words::choose;
+use words::high_field;
+use words::kind_of;
+use words::spare_field;
+
+// The stages: slots may come; a colour has come; a word was out of its order.
+const SLOTS: u32 = 0;
+
+const COLOURS: u32 = 1;
+
+const WRONG: u32 = 2;
+
+// A bit that has no name.
+fn has_spare(w: u32) -> bool
+    ensures { λ r. ⌜ r ≡ hasSpare w ⌝ }
+{
+    let k = kind_of(w);
+    if k == SLOT {
+        return high_field(w) != 0;
+    }
+    if k == COLOUR {
+        return spare_field(w) != 0;
+    }
+    false
+}
+
+// The stage after a word.
+fn stage_after(z: u32, w: u32) -> u32
+    ensures { λ r. ⌜ r ≡ stageAfter z w ⌝ }
+{
+    if has_spare(w) {
+        return WRONG;
+    }
+    let k = kind_of(w);
+    if k == SLOT {
+        return choose(z == SLOTS, SLOTS, WRONG);
+    }
+    if k == COLOUR {
+        return COLOURS;
+    }
+    if k == SITE {
+        return choose(z == COLOURS, COLOURS, WRONG);
+    }
+    WRONG
+}
+
+pub fn in_order(body: &[u32]) -> bool
+    ensures { λ r. ⌜ r ≡ inOrder 0 (now (body .entry)) ⌝ }
+{
+    let mut z: u32 = SLOTS;
+    let mut i: usize = 0;
+    while i < body.len() {
+        z = stage_after(z, body[i]);
+        if z == WRONG {
+            return false;
+        }
+        i += 1;
+    }
+    true
+}

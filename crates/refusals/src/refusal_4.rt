@@ -1,0 +1,42 @@
+// Refusal 4: slot heights not strictly rising. `body`: a sheet's words after its head.
+ghost use mathlib.Core.Path.{_≡_};
+ghost use Rattle.sheet.specs.Sheet.{slotsIn, rising};
+ghost use Rattle.refusals.specs.Wordwise.{lowOk, lowNext};
+use words::SLOT;
+use words::choose;
+use words::either;
+use words::kind_of;
+use words::low_field;
+
+// Whether a word is no slot, or one no lower than the least height that may come.
+fn low_ok(low: u32, w: u32) -> bool
+    ensures { λ r. ⌜ r ≡ lowOk low w ⌝ }
+{
+    let other = kind_of(w) != SLOT;
+    let above = low <= low_field(w);
+    either(other, above)
+}
+
+// The least height that may come after a word.
+fn low_next(low: u32, w: u32) -> u32
+    ensures { λ r. ⌜ r ≡ lowNext low w ⌝ }
+{
+    let slot = kind_of(w) == SLOT;
+    choose(slot, w % words::NUMBER_TOP + 1, low)
+}
+
+pub fn rises(body: &[u32]) -> bool
+    ensures { λ r. ⌜ r ≡ rising (slotsIn (now (body .entry))) ⌝ }
+{
+    let mut low: u32 = 0;
+    let mut i: usize = 0;
+    while i < body.len() {
+        let w = body[i];
+        if !low_ok(low, w) {
+            return false;
+        }
+        low = low_next(low, w);
+        i += 1;
+    }
+    true
+}

@@ -1,0 +1,20 @@
+use mathlib.Core.Path.{refl}
+use borrow.Author.Needs.{needs}
+use Rattle.rules.proofs.rule_3.gaps_pass.Statement.{statement}
+use Rattle.rules.proofs.rule_3.gaps_pass.Tie as tie
+
+apart-of-requires : tie.Need-apart-of-requires
+apart-of-requires c κs = search needs
+
+same-requires : tie.Need-same-requires
+same-requires c κs = search needs
+
+either-requires : tie.Need-either-requires
+either-requires c κs = search needs
+
+returns : tie.Need-returns
+returns c =
+    rw (c .either .ensures, c .before .same .ensures, c .before .before .before .apart-of .ensures) refl
+
+pub gaps-pass-spec : {M : Type 1} → statement M
+gaps-pass-spec = tie.close (tie.spec apart-of-requires same-requires either-requires returns)
