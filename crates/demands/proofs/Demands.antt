@@ -14,20 +14,20 @@ use borrow.Author.Tests.{ne-eqb, eq-eqb}
 use Rattle.sheet.specs.Sheet.{all, Sheet, sheetIn, sheetFault}
 use Rattle.labelling.specs.Layout.{tied, coloursKept, boundsKept, gapsKept, missesAll, clearsAll, countOf, lengthOf, statedCount, statedLength, layoutTies, brokenBy, isBetter, wordsFor, best, answerOf, sheetPart, layoutPart, judgeFault, judged}
 use Rattle.labelling.specs.Lawful.{Better}
-use Rattle.labelling.specs.Entry.{isNone, makeFault, makeAnswer}
+use Rattle.labelling.specs.Entry.{isNone, Serves, cleared, makeFault, makeAnswer}
 use Rattle.lists.proofs.Tests.{is-true}
-use Rattle.sheet.proofs.Accepted.{Sound, sound}
+use Rattle.sheet.proofs.Accepted.{Sound, sound, fault-seven}
 use Rattle.labelling.proofs.Best.{Obeys, IsBest, best-is}
 use Rattle.labelling.proofs.Answer.{obeys-same}
 use Rattle.labelling.proofs.Earlier.{better-e}
 use Rattle.labelling.proofs.Words.{Written, lawful-obeys, obeys-lawful, answer-ties}
-use Rattle.labelling.proofs.Maker.{Called, called, begun-is, Result, Outcome, outcome, fault-is, length-answer, fault-seven, refused-sheet, refused-work, refused-out}
+use Rattle.labelling.proofs.Maker.{Called, called, begun-is, Result, Outcome, outcome, fault-is, length-answer, refused-sheet, refused-work, refused-out}
 use Rattle.labelling.proofs.Kept.{areas-kept, best-of-all, judged-so}
 use Rattle.reader.specs.declared.Sizes.{Sizes}
 use Rattle.reader.specs.Read.{refusedOf}
 use Rattle.reader.proofs.Reading.{reading, refusal-is}
 use Rattle.judge.specs.declared.Verdict.{Verdict}
-use Rattle.demands.specs.Demands.{WasRead, WasMade, WasJudged, Accepted, wiped, layoutIn, LayoutOf, LawfulLayout, Sized, ServedByReader, Served, ContentsApart, ServedByJudge, DemandOne, TrueVerdict, DemandTwo, BestOfLawful, DemandThree, DemandThreeByTests}
+use Rattle.demands.specs.Demands.{WasRead, WasMade, WasJudged, layoutIn, LawfulLayout, Sized, ServedByReader, Served, ContentsApart, ServedByJudge, DemandOne, TrueVerdict, DemandTwo, BestOfLawful, DemandThree, DemandThreeByTests}
 use Rattle.demands.proofs.Layouts.{layout-of, of-layout, no-layout, lawful-of, of-lawful}
 
 -- DEMAND 1, THE READER
@@ -50,15 +50,15 @@ served-by : (ws k o : List ℕ) (r : ℕ) (k' o' : List ℕ) (f : ℕ) (out work
 served-by ws k o r k' o' f out work (a, b, c) q = (a ∙ q .fault-is, b ∙ q .work-is, c ∙ q .out-is)
 
 -- a call that serves gives a layout or 10
-taken-so : (ws k o : List ℕ) (r : ℕ) (k' o' : List ℕ) → WasMade ws k o r k' o' → Accepted ws k o →
-    (k' ≡ wiped ws k) × (((r ≡ 10) × (o' ≡ o)) ⊎ ((r ≡ 0) × (drop (wordsFor (sheetIn ws)) o' ≡ drop (wordsFor (sheetIn ws)) o)))
+taken-so : (ws k o : List ℕ) (r : ℕ) (k' o' : List ℕ) → WasMade ws k o r k' o' → Serves ws k o →
+    (k' ≡ cleared ws k) × (((r ≡ 10) × (o' ≡ o)) ⊎ ((r ≡ 0) × (drop (wordsFor (sheetIn ws)) o' ≡ drop (wordsFor (sheetIn ws)) o)))
 taken-so ws k o r k' o' m v = go (outcome ws k o)
   where
     never : (b : Bool) (n : ℕ) → 0 < n → n < 10 → n ≡ cond b 10 0 → ⊥
     never true n l u e = omega arith
     never false n l u e = omega arith
 
-    go : Outcome ws k o → (k' ≡ wiped ws k) × (((r ≡ 10) × (o' ≡ o)) ⊎ ((r ≡ 0) × (drop (wordsFor (sheetIn ws)) o' ≡ drop (wordsFor (sheetIn ws)) o)))
+    go : Outcome ws k o → (k' ≡ cleared ws k) × (((r ≡ 10) × (o' ≡ o)) ⊎ ((r ≡ 0) × (drop (wordsFor (sheetIn ws)) o' ≡ drop (wordsFor (sheetIn ws)) o)))
     go (Outcome.refused n l u q) = absurd (never (isNone (best (sheetIn ws))) n l u (sym (q .fault-is) ∙ fault-is ws k o v))
     go (Outcome.none-lawful w e q) = let a = served-by ws k o r k' o' _ _ _ m q in (a .1, inl (a .0, a .2))
     go (Outcome.laid-out js w e ob q) =
@@ -168,7 +168,7 @@ Concluded ws r o' =
     (r ≡ 0) × LawfulLayout (sheetIn ws) (layoutIn ws o') ×
     ((b : List ℕ) → LawfulLayout (sheetIn ws) b → (b ≡ layoutIn ws o' → ⊥) → Better (sheetIn ws) (layoutTies (layoutIn ws o')) (layoutTies b)))
 
-best-so : (ws k o : List ℕ) (r : ℕ) (k' o' : List ℕ) → WasMade ws k o r k' o' → Accepted ws k o → Concluded ws r o'
+best-so : (ws k o : List ℕ) (r : ℕ) (k' o' : List ℕ) → WasMade ws k o r k' o' → Serves ws k o → Concluded ws r o'
 best-so ws k o r k' o' m v = go (best (sheetIn ws)) (best-is (sheetIn ws)) (called ws k o v)
   where
     s : Sheet

@@ -9,6 +9,7 @@ use native.Mathlib.Omega.{arith}
 use lib.Dec.{ltb, leb, eqb}
 use lib.ListN.{length, getD}
 use borrow.Author.Tests.{ltb-true, leb-true, leb-false, eqb-true, eqb-false, le-leb, lt-leb, eq-eqb, ne-eqb}
+use Rattle.sheet.specs.Limits.{unbounded}
 use Rattle.sheet.specs.Sheet.{all, Colour, Sheet}
 pub use Rattle.labelling.specs.Layout.{siteAt}
 pub use Rattle.labelling.specs.Lawful.{Bounded, Rules}
@@ -25,18 +26,18 @@ bounds-each s js c [] h i l = absurd (omega arith)
 bounds-each s js c (k ∷ ks) h zero l = subst (λ (n : ℕ). Bounded s js n k) (omega arith) (go (or-e p q (and-l (p || q) (boundsKept s js (suc c) ks) h)))
   where
     p : Bool
-    p = eqb (k .bound) 255
+    p = eqb (k .bound) unbounded
 
     q : Bool
     q = leb (length (usedOf s (slotsOf c (tied s js)))) (k .bound)
 
     go : (p ≡ true) ⊎ (q ≡ true) → Bounded s js c k
-    go (inl e) = inl (eqb-true (k .bound) 255 e)
+    go (inl e) = inl (eqb-true (k .bound) unbounded e)
     go (inr e) = inr (leb-true (length (usedOf s (slotsOf c (tied s js)))) (k .bound) e)
 bounds-each s js c (k ∷ ks) h (suc i) l =
     subst (λ (n : ℕ). Bounded s js n (getD ks i noColour)) (omega arith)
     (bounds-each s js (suc c) ks
-    (and-r (eqb (k .bound) 255 || leb (length (usedOf s (slotsOf c (tied s js)))) (k .bound)) (boundsKept s js (suc c) ks) h) i (omega arith))
+    (and-r (eqb (k .bound) unbounded || leb (length (usedOf s (slotsOf c (tied s js)))) (k .bound)) (boundsKept s js (suc c) ks) h) i (omega arith))
 
 each-bounds : (s : Sheet) (js : List ℕ) (c : ℕ) (ks : List Colour) → ((i : ℕ) → i < length ks → Bounded s js (c + i) (getD ks i noColour)) → boundsKept s js c ks ≡ true
 unfolding boundsKept
@@ -45,9 +46,9 @@ each-bounds s js c (k ∷ ks) f =
     and-i (go (subst (λ (n : ℕ). Bounded s js n k) (omega arith) (f 0 (omega arith))))
     (each-bounds s js (suc c) ks λ i l. subst (λ (n : ℕ). Bounded s js n (getD ks i noColour)) (omega arith) (f (suc i) (omega arith)))
   where
-    go : Bounded s js c k → (eqb (k .bound) 255 || leb (length (usedOf s (slotsOf c (tied s js)))) (k .bound)) ≡ true
-    go (inl e) = rw (eq-eqb (k .bound) 255 e)
-    go (inr e) = by-test (eqb (k .bound) 255) (λ f. rw f) λ f. rw (f, le-leb (length (usedOf s (slotsOf c (tied s js)))) (k .bound) e)
+    go : Bounded s js c k → (eqb (k .bound) unbounded || leb (length (usedOf s (slotsOf c (tied s js)))) (k .bound)) ≡ true
+    go (inl e) = rw (eq-eqb (k .bound) unbounded e)
+    go (inr e) = by-test (eqb (k .bound) unbounded) (λ f. rw f) λ f. rw (f, le-leb (length (usedOf s (slotsOf c (tied s js)))) (k .bound) e)
 
 -- a site counts: what the test says; and it counts against a label further left too
 pub counts-e : (s : Sheet) (e x : ℕ) → counts s e x ≡ true → Counted s e x

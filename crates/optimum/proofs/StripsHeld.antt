@@ -267,7 +267,7 @@ module _ (P : Instance) where
         (λ e. rw e (unfold holders inside in omega arith))
 
     pub laws : Laws (rulesOf P)
-    laws = record { shares = sharing radices; filled = filled; parts = λ p s k. inr (parts p s k) }
+    laws = record { splits = sharing radices; filled = filled; parts = λ p s k. inr (parts p s k) }
 
     -- one strip holds each site
     holders-from : (r i a ca : ℕ) (L M : List ℕ) (t : Point) → r + i ≡ m → a ≤ i → holders (inside P) t (stripsFrom P r i a ca L M) ≡ oneIf (over slots a (t .y))

@@ -79,7 +79,7 @@ module _ (P : Instance) where
       (record { a = p .a; ca = p .ca; b = suc k; cb = suc (s .c); d = turn s k } ∷ record { a = suc k; ca = suc (s .c); b = p .b; cb = p .cb; d = 0 } ∷ [])
       (record { a = p .a; ca = p .ca; b = p .b; cb = p .cb; d = turn s k } ∷ [])
 
-  -- the table and its sharing: `T (rulesOf P)`, `Rest (rulesOf P)`; their equations are in search's Plan
+  -- the table, and strips between which a budget is split: `T (rulesOf P)`, `Rest (rulesOf P)`; their equations are in search's Plan
   abbrev pub rulesOf : Rules Strip Point
   rulesOf = record { top = top; m = m; below = below radices; inside = inside; cost = cost; draw = draw; children = children }
 

@@ -1,6 +1,6 @@
 // Rule 4 of a tied site beside another: verticals and backbones.
 ghost use mathlib.Core.Path.{_≡_};
-ghost use Rattle.labelling.specs.Layout.{isOver, verticalHas};
+ghost use Rattle.labelling.specs.Layout.{isBetween, verticalHas};
 ghost use Rattle.rules.specs.Verticals.{missesPass};
 use words::both;
 use words::choose;
@@ -13,7 +13,7 @@ use words::tied::start_of;
 
 // Whether a height lies between two others, both included.
 fn over(low: u32, high: u32, h: u32) -> bool
-    ensures { λ r. ⌜ r ≡ isOver low high h ⌝ }
+    ensures { λ r. ⌜ r ≡ isBetween low high h ⌝ }
 {
     let below = low <= h;
     let above = h <= high;

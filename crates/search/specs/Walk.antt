@@ -44,6 +44,7 @@ module _ {X Site : Type 0} (G : Process X Site) where
   unfoldable pub choose : X → Site → List Site → ℕ
   choose x s ss = first m (λ k. eqb (plus top (price x s k) (best (next x s k) ss)) (best x (s ∷ ss)))
 
+  -- the walk: the slots that it takes
   unfoldable pub walk : X → List Site → List ℕ
   walk x [] = []
   walk x (s ∷ ss) = choose x s ss ∷ walk (next x s (choose x s ss)) ss
