@@ -14,7 +14,7 @@ use Rattle.labelling.specs.Layout.{tiedOf, tied, heightOf, siteShare, is
 use Rattle.labelling.specs.Promise.{areWords, same}
 use Rattle.lists.proofs.Tests.{by-test, and-l, and-r, and-i, eqb-self}
 use Rattle.sheet.proofs.Accepted.{Sound, lowY, lowN}
-use Rattle.labelling.proofs.Best.{Obeys, below}
+use Rattle.labelling.proofs.Best.{Obeys, lowTies}
 
 -- SIZES
 pub count-used : (k n : ℕ) (js : List ℕ) → length (usedFrom k n js) ≤ n
@@ -65,12 +65,12 @@ length-low s o js =
     add u n b d p q r t = omega arith
 
 -- TIES AS WORDS
-pub ties-of-words : (m : ℕ) (js : List ℕ) → m ≤ byteTop → below m js ≡ true → tiesIn (tieWords js) ≡ js
+pub ties-of-words : (m : ℕ) (js : List ℕ) → m ≤ byteTop → lowTies m js ≡ true → tiesIn (tieWords js) ≡ js
 unfolding tiesIn tieWords all
 ties-of-words m [] h b = refl
 ties-of-words m (j ∷ js) h b =
-    let l : j < m = ltb-true j m (and-l (ltb j m) (below m js) b) in
-    ap₂ (λ (a : ℕ) (b : List ℕ). a ∷ b) (low j (omega arith)) (ties-of-words m js h (and-r (ltb j m) (below m js) b))
+    let l : j < m = ltb-true j m (and-l (ltb j m) (lowTies m js) b) in
+    ap₂ (λ (a : ℕ) (b : List ℕ). a ∷ b) (low j (omega arith)) (ties-of-words m js h (and-r (ltb j m) (lowTies m js) b))
   where
     low : (j : ℕ) → j < byteTop → bits (tieWord j) 0 8 ≡ j
     low j h = omega arith
@@ -80,12 +80,12 @@ unfolding tieWords
 length-tieWords [] = refl
 length-tieWords (j ∷ js) = ap suc (length-tieWords js)
 
-pub all-ties : (s : Sheet) (js : List ℕ) → length (s .slots) ≤ byteTop → below (length (s .slots)) js ≡ true → all (isTie s) (tieWords js) ≡ true
+pub all-ties : (s : Sheet) (js : List ℕ) → length (s .slots) ≤ byteTop → lowTies (length (s .slots)) js ≡ true → all (isTie s) (tieWords js) ≡ true
 unfolding tieWords all
 all-ties s [] h b = refl
 all-ties s (j ∷ js) h b =
-    let l : j < length (s .slots) = ltb-true j (length (s .slots)) (and-l (ltb j (length (s .slots))) (below (length (s .slots)) js) b) in
-    and-i (tie j (length (s .slots)) h l) (all-ties s js h (and-r (ltb j (length (s .slots))) (below (length (s .slots)) js) b))
+    let l : j < length (s .slots) = ltb-true j (length (s .slots)) (and-l (ltb j (length (s .slots))) (lowTies (length (s .slots)) js) b) in
+    and-i (tie j (length (s .slots)) h l) (all-ties s js h (and-r (ltb j (length (s .slots))) (lowTies (length (s .slots)) js) b))
   where
     tie : (j m : ℕ) → m ≤ byteTop → j < m →
         (eqb (kindOf (tieWord j)) 9 && eqb (bits (tieWord j) 8 20) 0 && ltb (bits (tieWord j) 0 8) m) ≡ true
@@ -94,12 +94,12 @@ all-ties s (j ∷ js) h b =
         (and-i (eq-eqb (kindOf (tieWord j)) 9 (omega arith)) (eq-eqb (bits (tieWord j) 8 20) 0 (omega arith)))
         (lt-ltb (bits (tieWord j) 0 8) m (omega arith))
 
-pub ties-are-words : (m : ℕ) (js : List ℕ) → m ≤ byteTop → below m js ≡ true → areWords (tieWords js) ≡ true
+pub ties-are-words : (m : ℕ) (js : List ℕ) → m ≤ byteTop → lowTies m js ≡ true → areWords (tieWords js) ≡ true
 unfolding tieWords areWords all
 ties-are-words m [] h b = refl
 ties-are-words m (j ∷ js) h b =
-    let l : j < m = ltb-true j m (and-l (ltb j m) (below m js) b) in
-    and-i (lt-ltb (tieWord j) wordTop (omega arith)) (ties-are-words m js h (and-r (ltb j m) (below m js) b))
+    let l : j < m = ltb-true j m (and-l (ltb j m) (lowTies m js) b) in
+    and-i (lt-ltb (tieWord j) wordTop (omega arith)) (ties-are-words m js h (and-r (ltb j m) (lowTies m js) b))
 
 -- words in form are the words of their ties
 pub words-of-ties : (s : Sheet) (ws : List ℕ) → all (isTie s) ws ≡ true → ws ≡ tieWords (tiesIn ws)
@@ -116,7 +116,7 @@ words-of-ties s (w ∷ ws) h =
     back : (w : ℕ) → kindOf w ≡ 9 → bits w 8 20 ≡ 0 → w ≡ tieWord (bits w 0 8)
     back w p q = omega arith
 
-pub ties-low : (s : Sheet) (ws : List ℕ) → all (isTie s) ws ≡ true → below (length (s .slots)) (tiesIn ws) ≡ true
+pub ties-low : (s : Sheet) (ws : List ℕ) → all (isTie s) ws ≡ true → lowTies (length (s .slots)) (tiesIn ws) ≡ true
 unfolding tiesIn all
 ties-low s [] h = refl
 ties-low s (w ∷ ws) h =

@@ -42,13 +42,14 @@ RuleFour s js =
     (i k : ℕ) → i < length (s .sites) → isUsed k js ≡ true → (getD js i 0 ≡ k → ⊥) → leftEnd s js k ≤ (siteAt s i) .x →
     Miss (heightOf s k) ((siteAt s i) .y) (heightOf s (getD js i 0))
 
--- 5: a backbone lies at least D in height from every site of another label whose x is at or right of its left end
-abbrev pub Counted : Sheet → (left x : ℕ) → Type 0
-Counted s e x = e ≤ x
+-- 5: a backbone lies at least D in height from every site of another label whose x is at or right of its left end; a site at x is
+-- counted against a label with this left end
+abbrev pub CountsAgainst : Sheet → (left x : ℕ) → Type 0
+CountsAgainst s e x = e ≤ x
 
 abbrev pub RuleFive : Sheet → (ties : List ℕ) → Type 0
 RuleFive s js =
-    (i k : ℕ) → i < length (s .sites) → isUsed k js ≡ true → (getD js i 0 ≡ k → ⊥) → Counted s (leftEnd s js k) ((siteAt s i) .x) →
+    (i k : ℕ) → i < length (s .sites) → isUsed k js ≡ true → (getD js i 0 ≡ k → ⊥) → CountsAgainst s (leftEnd s js k) ((siteAt s i) .x) →
     s .gap ≤ apart (heightOf s k) ((siteAt s i) .y)
 
 -- 6: the count and the length that the layout's words state are those of its ties

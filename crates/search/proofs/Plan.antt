@@ -15,7 +15,7 @@ use Rattle.search.proofs.Split.{conv-just, semiring, sum-at, prod-free,
 use Rattle.search.specs.Strips.{holders, oneIf, after, weigh, run}
 use Rattle.search.proofs.Strips.{keeps, independent, table-in}
 use Rattle.search.specs.Plan.{Filled, Rules, Laws, weight, T, Rest, State, price, next, process, Run, answerRest}
-use Rattle.search.specs.Walk.{best, answer, First, costOf}
+use Rattle.search.specs.Walk.{best, answer, Cheapest, costOf}
 use Rattle.search.proofs.Walk.{answer-by, answer-first, answer-none}
 
 filled-append : {A : Type 0} (K L : List A) → Filled K → Filled (K ++ L)
@@ -142,7 +142,7 @@ module _ {Strip Site : Type 0} (G : Rules Strip Site) where
 
     -- THEOREMS 3 AND 4 TOGETHER, for any strips, steps and costs, ends in themselves: so it gives the first
     pub walk-gives-first : (ss : List Site) (L : List Strip) (v : ℕ) (js : List ℕ) → Filled L → ((t : Site) → holders inside t L ≡ 1)
-        → answerRest G ss L v ≡ some js → First (process G) (L, v) ss js
+        → answerRest G ss L v ≡ some js → Cheapest (process G) (L, v) ss js
     walk-gives-first ss L v js f h e = answer-first (process G) (L, v) ss js (sym (walks-agree ss L v f h) ∙ e)
 
     -- and none exactly where every sequence costs none

@@ -54,6 +54,7 @@ module _ {Strip Site : Type 0} (G : Rules Strip Site) where
   abbrev pub State : Type 0
   State = List Strip × ℕ
 
+  -- what a step costs in a state, top where the budget does not allow it or it is not lawful; what it leads to; the steps as a process
   unfoldable pub price : State → Site → ℕ → ℕ
   price x s k = cond (below (weigh 0 inside draw s k (x .0)) (x .1)) (weigh top inside cost s k (x .0)) top
 
@@ -63,6 +64,7 @@ module _ {Strip Site : Type 0} (G : Rules Strip Site) where
   abbrev pub process : Process State Site
   process = record { top = top; m = m; price = price; next = next; final = λ x. 0 }
 
+  -- the least cost by steps
   unfoldable pub Run : List Site → List Strip → ℕ → ℕ
   Run ss L v = best process (L, v) ss
 

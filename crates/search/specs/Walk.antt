@@ -54,7 +54,7 @@ module _ {X Site : Type 0} (G : Process X Site) where
   answer x ss = cond (ltb (best x ss) top) (some (walk x ss)) none
 
   -- js costs less than none, no sequence costs less, and js comes before every sequence that costs as much
-  pub record First (x : X) (ss : List Site) (js : List ℕ) : Type 0 where
+  pub record Cheapest (x : X) (ss : List Site) (js : List ℕ) : Type 0 where
     pub lawful : costOf x ss js < top
     pub lowest : (ks : List ℕ) → costOf x ss js ≤ costOf x ss ks
     pub ahead : (ks : List ℕ) → costOf x ss ks ≡ costOf x ss js → Before js ks

@@ -10,13 +10,13 @@ use lib.Dec.{eqb, ltb}
 use lib.ListN.{length, getD, set, replicate, length-replicate}
 use borrow.Author.Tests.{ltb-true, lt-ltb, eqb-true, eqb-false}
 use Rattle.lists.proofs.Tests.{by-test, by-either, or-e, is-false}
-use Rattle.search.specs.Walk.{Before, First as Cheapest, costOf}
+use Rattle.search.specs.Walk.{Before, Cheapest, costOf}
 use Rattle.sheet.specs.Limits.{unbounded}
 use Rattle.sheet.specs.Sheet.{sheetIn, sheetFault, Sheet}
 use Rattle.sheet.proofs.Accepted.{Sound, sound}
 use Rattle.labelling.specs.Layout.{noColour, isUsed, isBetter, best}
 use Rattle.labelling.proofs.Members.{noSite, all-at, at-all, used-head, used-tail}
-use Rattle.labelling.proofs.Best.{Obeys, below as lowTies}
+use Rattle.labelling.proofs.Best.{Obeys, lowTies}
 use Rattle.labelling.proofs.Rules.{Rules, Bounded, obeys-rules, rules-obey}
 use Rattle.labelling.proofs.Earlier.{Earlier, better-e}
 use Rattle.labelling.proofs.Maker.{First, best-some-iff, best-none-iff}
