@@ -10,7 +10,7 @@ use Prim.Native.Nat.{ℕ, _≤_, _<_}
 use lib.ListN.{length, take, drop}
 use Rattle.sheet.specs.Sheet.{Sheet, sheetIn, sheetFault, productOf, workFor}
 use Rattle.labelling.specs.Layout.{wordsFor, isLawful, sheetPart, layoutPart, layoutTies}
-use Rattle.labelling.specs.Lawful.{LayoutOf, Lawful, LeastBroken, Better}
+use Rattle.labelling.specs.Lawful.{Ties, Rules, LayoutOf, Lawful, LeastBroken, Better}
 use Rattle.labelling.specs.Entry.{Serves, cleared, makeFault, makeAnswer, makeWork}
 use Rattle.labelling.specs.Promise.{areWords, same, isBeaten, PartsFound}
 use Rattle.reader.specs.declared.Sizes.{Sizes}
@@ -58,13 +58,14 @@ pub record ServedByReader (ws : List ℕ) (r : Sizes) (ws' : List ℕ) : Type 0 
   pub sized : r .refusal ≡ 0 → Sized (sheetIn ws) r
   pub unchanged : ws' ≡ ws
 
--- the maker, by its outcome: a refusal 1 to 7 as the reader's, 8, 9, 10, or a layout
+-- the maker, by its outcome: a refusal 1 to 7 as the reader's, 8, 9, 10, or a layout; no area changes its length
 pub record Served (ws k o : List ℕ) (r : ℕ) (k' o' : List ℕ) : Type 0 where
   pub sheet : 0 < sheetFault ws → (r ≡ sheetFault ws) × (k' ≡ k) × (o' ≡ o)
   pub short : sheetFault ws ≡ 0 → length k < workFor (sheetIn ws) → (r ≡ 8) × (k' ≡ k) × (o' ≡ o)
   pub narrow : sheetFault ws ≡ 0 → workFor (sheetIn ws) ≤ length k → length o < wordsFor (sheetIn ws) → (r ≡ 9) × (k' ≡ k) × (o' ≡ o)
   pub taken : Serves ws k o →
       (k' ≡ cleared ws k) × (((r ≡ 10) × (o' ≡ o)) ⊎ ((r ≡ 0) × (drop (wordsFor (sheetIn ws)) o' ≡ drop (wordsFor (sheetIn ws)) o)))
+  pub lengths : (length k' ≡ length k) × (length o' ≡ length o)
 
 -- and old contents of either area have no part in the result: whatever other areas hold that are long enough, a call gives the same
 abbrev pub ContentsApart : (ws k o : List ℕ) → (r : ℕ) → (o' : List ℕ) → Type 0
@@ -103,9 +104,11 @@ pub record TrueVerdict (ws : List ℕ) (r : Verdict) : Type 0 where
 abbrev pub DemandTwo : Type 0
 DemandTwo = (ws : List ℕ) (r : Verdict) (ws' : List ℕ) → WasJudged ws r ws' → TrueVerdict ws r
 
--- DEMAND 3, of one call on an accepted sheet with areas long enough: 10 exactly when no list is a lawful layout; otherwise the answer is
--- lawful and better than every other lawful layout, by the aim, then the other number, then document 01's order
+-- DEMAND 3, of one call on an accepted sheet with areas long enough: 10 exactly when no ties obey rules 1 to 5, which is when no list is
+-- a lawful layout; otherwise the answer is lawful and better than every other lawful layout, by the aim, then the other number, then
+-- document 01's order
 pub record BestOfLawful (ws k o : List ℕ) (r : ℕ) (o' : List ℕ) : Type 0 where
+  pub none : Serves ws k o → (r ≡ 10) ↔ ((js : List ℕ) → Ties (sheetIn ws) js → Rules (sheetIn ws) js → ⊥)
   pub ten : Serves ws k o → (r ≡ 10) ↔ ((b : List ℕ) → LawfulLayout (sheetIn ws) b → ⊥)
   pub zero : Serves ws k o → (r ≡ 10 → ⊥) → r ≡ 0
   pub lawful : Serves ws k o → (r ≡ 10 → ⊥) → LawfulLayout (sheetIn ws) (layoutIn ws o')

@@ -81,7 +81,7 @@ over-none y e h (inr p) =
     is-false (verticalHas y e h) λ q.
     absurd (omega (arith, most-max y e, leb-true h (cond (ltb y e) e y) (and-r (leb (lesser y e) h) (leb h (cond (ltb y e) e y)) q)))
 
--- slots lowTies m that are used are among the used slots
+-- slots below m that are used are among the used slots
 pub used-of : (s : Sheet) (js : List ℕ) (k : ℕ) → lowTies (length (s .slots)) js ≡ true → isUsed k js ≡ true → isUsed k (usedOf s js) ≡ true
 used-of s js k b u =
     from-used k 0 (length (s .slots)) js (omega arith) (omega (arith, ltb-true k (length (s .slots)) (all-used (λ j. ltb j (length (s .slots))) js b k u))) u
