@@ -8,26 +8,26 @@ use mathlib.Core.Option.{Option, none, some}
 use Prim.Native.Nat.{ℕ, _≤_, _<_}
 use native.Mathlib.Omega.{arith}
 use lib.Dec.{eqb}
-use lib.ListN.{take, drop}
+use lib.ListN.{length, drop}
 use lib.Seq.{drop-at}
 use borrow.Author.Tests.{ne-eqb, eq-eqb}
 use Rattle.sheet.specs.Sheet.{all, Sheet, sheetIn, sheetFault}
 use Rattle.labelling.specs.Layout.{tied, coloursKept, boundsKept, gapsKept, missesAll, clearsAll, countOf, lengthOf, statedCount, statedLength, layoutTies, brokenBy, isBetter, wordsFor, best, answerOf, sheetPart, layoutPart, judgeFault, judged}
-use Rattle.labelling.specs.Lawful.{Better}
-use Rattle.labelling.specs.Entry.{isNone, makeFault, makeAnswer}
+use Rattle.labelling.specs.Lawful.{Ties, Rules, Better}
+use Rattle.labelling.specs.Entry.{isNone, Serves, cleared, makeFault, makeAnswer}
 use Rattle.lists.proofs.Tests.{is-true}
-use Rattle.sheet.proofs.Accepted.{Sound, sound}
-use Rattle.labelling.proofs.Best.{Obeys, IsBest, best-is}
-use Rattle.labelling.proofs.Answer.{obeys-same}
+use Rattle.sheet.proofs.Accepted.{Sound, sound, fault-seven}
+use Rattle.labelling.proofs.Best.{Obeys, IsBest, best-is, best-none}
+use Rattle.labelling.proofs.Answer.{obeys-same, best-empty, answer-none}
 use Rattle.labelling.proofs.Earlier.{better-e}
 use Rattle.labelling.proofs.Words.{Written, lawful-obeys, obeys-lawful, answer-ties}
-use Rattle.labelling.proofs.Maker.{Called, called, begun-is, Result, Outcome, outcome, fault-is, length-answer, fault-seven, refused-sheet, refused-work, refused-out}
+use Rattle.labelling.proofs.Maker.{Called, called, begun-is, Result, Outcome, outcome, fault-is, length-answer, refused-sheet, refused-work, refused-out}
 use Rattle.labelling.proofs.Kept.{areas-kept, best-of-all, judged-so}
 use Rattle.reader.specs.declared.Sizes.{Sizes}
 use Rattle.reader.specs.Read.{refusedOf}
 use Rattle.reader.proofs.Reading.{reading, refusal-is}
 use Rattle.judge.specs.declared.Verdict.{Verdict}
-use Rattle.demands.specs.Demands.{WasRead, WasMade, WasJudged, Accepted, wiped, layoutIn, LayoutOf, LawfulLayout, Sized, ServedByReader, Served, ContentsApart, ServedByJudge, DemandOne, TrueVerdict, DemandTwo, BestOfLawful, DemandThree, DemandThreeByTests}
+use Rattle.demands.specs.Demands.{WasRead, WasMade, WasJudged, layoutIn, LawfulLayout, Sized, ServedByReader, Served, ContentsApart, ServedByJudge, DemandOne, TrueVerdict, DemandTwo, BestOfLawful, DemandThree, DemandThreeByTests}
 use Rattle.demands.proofs.Layouts.{layout-of, of-layout, no-layout, lawful-of, of-lawful}
 
 -- DEMAND 1, THE READER
@@ -50,15 +50,15 @@ served-by : (ws k o : List ℕ) (r : ℕ) (k' o' : List ℕ) (f : ℕ) (out work
 served-by ws k o r k' o' f out work (a, b, c) q = (a ∙ q .fault-is, b ∙ q .work-is, c ∙ q .out-is)
 
 -- a call that serves gives a layout or 10
-taken-so : (ws k o : List ℕ) (r : ℕ) (k' o' : List ℕ) → WasMade ws k o r k' o' → Accepted ws k o →
-    (k' ≡ wiped ws k) × (((r ≡ 10) × (o' ≡ o)) ⊎ ((r ≡ 0) × (drop (wordsFor (sheetIn ws)) o' ≡ drop (wordsFor (sheetIn ws)) o)))
+taken-so : (ws k o : List ℕ) (r : ℕ) (k' o' : List ℕ) → WasMade ws k o r k' o' → Serves ws k o →
+    (k' ≡ cleared ws k) × (((r ≡ 10) × (o' ≡ o)) ⊎ ((r ≡ 0) × (drop (wordsFor (sheetIn ws)) o' ≡ drop (wordsFor (sheetIn ws)) o)))
 taken-so ws k o r k' o' m v = go (outcome ws k o)
   where
     never : (b : Bool) (n : ℕ) → 0 < n → n < 10 → n ≡ cond b 10 0 → ⊥
     never true n l u e = omega arith
     never false n l u e = omega arith
 
-    go : Outcome ws k o → (k' ≡ wiped ws k) × (((r ≡ 10) × (o' ≡ o)) ⊎ ((r ≡ 0) × (drop (wordsFor (sheetIn ws)) o' ≡ drop (wordsFor (sheetIn ws)) o)))
+    go : Outcome ws k o → (k' ≡ cleared ws k) × (((r ≡ 10) × (o' ≡ o)) ⊎ ((r ≡ 0) × (drop (wordsFor (sheetIn ws)) o' ≡ drop (wordsFor (sheetIn ws)) o)))
     go (Outcome.refused n l u q) = absurd (never (isNone (best (sheetIn ws))) n l u (sym (q .fault-is) ∙ fault-is ws k o v))
     go (Outcome.none-lawful w e q) = let a = served-by ws k o r k' o' _ _ _ m q in (a .1, inl (a .0, a .2))
     go (Outcome.laid-out js w e ob q) =
@@ -71,6 +71,7 @@ served ws k o r k' o' m = record {
   short = λ f h. served-by ws k o r k' o' _ _ _ m (refused-work ws k o f h);
   narrow = λ f w h. served-by ws k o r k' o' _ _ _ m (refused-out ws k o f w h);
   taken = λ v. taken-so ws k o r k' o' m v;
+  lengths = (ap length (m .1) ∙ areas-kept .1 ws k o .3, ap length (m .2) ∙ areas-kept .1 ws k o .2);
 }
 
 -- the layout that a call on an accepted sheet leaves, by what is best
@@ -163,12 +164,13 @@ better-so s o js h b l n =
 -- an accepted sheet, by what is best
 abbrev Concluded : (ws : List ℕ) → (r : ℕ) → (o' : List ℕ) → Type 0
 Concluded ws r o' =
+    ((r ≡ 10) ↔ ((js : List ℕ) → Ties (sheetIn ws) js → Rules (sheetIn ws) js → ⊥)) ×
     ((r ≡ 10) ↔ ((b : List ℕ) → LawfulLayout (sheetIn ws) b → ⊥)) ×
     ((r ≡ 10 → ⊥) →
     (r ≡ 0) × LawfulLayout (sheetIn ws) (layoutIn ws o') ×
     ((b : List ℕ) → LawfulLayout (sheetIn ws) b → (b ≡ layoutIn ws o' → ⊥) → Better (sheetIn ws) (layoutTies (layoutIn ws o')) (layoutTies b)))
 
-best-so : (ws k o : List ℕ) (r : ℕ) (k' o' : List ℕ) → WasMade ws k o r k' o' → Accepted ws k o → Concluded ws r o'
+best-so : (ws k o : List ℕ) (r : ℕ) (k' o' : List ℕ) → WasMade ws k o r k' o' → Serves ws k o → Concluded ws r o'
 best-so ws k o r k' o' m v = go (best (sheetIn ws)) (best-is (sheetIn ws)) (called ws k o v)
   where
     s : Sheet
@@ -179,12 +181,14 @@ best-so ws k o r k' o' m v = go (best (sheetIn ws)) (best-is (sheetIn ws)) (call
 
     go : (b : Option (List ℕ)) → IsBest s (Obeys s) b → Called ws k o b → Concluded ws r o'
     go none h c = (
+      ((λ e. answer-none s .0 (best-empty s h)), λ n. m .0 ∙ c .fault),
       ((λ e b l. h (layoutTies b) (lawful-obeys s b (of-lawful s b l) .obeys)), λ n. m .0 ∙ c .fault),
       λ n. absurd (n (m .0 ∙ c .fault)),
     )
     go (some js) h c =
         let g : layoutIn ws o' ≡ answerOf s js = laid ws k o o' js (m .2) c (h .0) in
         let l : LawfulLayout s (answerOf s js) = lawful-of s (answerOf s js) (obeys-lawful s sd js (h .0)) in (
+          ((λ e. absurd (omega (arith, m .0, c .fault))), λ n. absurd (best-none s (answer-none s .1 n) js (h .0))),
           ((λ e. absurd (omega (arith, m .0, c .fault))), λ n. absurd (n (answerOf s js) l)),
           λ n. (
             m .0 ∙ c .fault,
@@ -196,10 +200,11 @@ best-so ws k o r k' o' m v = go (best (sheetIn ws)) (best-is (sheetIn ws)) (call
 pub demand-three : DemandThree
 demand-three ws k o r k' o' m =
     record {
-      ten = λ v. best-so ws k o r k' o' m v .0;
-      zero = λ v n. best-so ws k o r k' o' m v .1 n .0;
-      lawful = λ v n. best-so ws k o r k' o' m v .1 n .1;
-      best = λ v n. best-so ws k o r k' o' m v .1 n .2;
+      none = λ v. best-so ws k o r k' o' m v .0;
+      ten = λ v. best-so ws k o r k' o' m v .1;
+      zero = λ v n. best-so ws k o r k' o' m v .2 n .0;
+      lawful = λ v n. best-so ws k o r k' o' m v .2 n .1;
+      best = λ v n. best-so ws k o r k' o' m v .2 n .2;
     }
 
 pub demand-three-by-tests : DemandThreeByTests

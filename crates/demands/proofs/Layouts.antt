@@ -14,7 +14,8 @@ use Rattle.lists.proofs.Tests.{and-l, and-r, and-i, clash, is-false}
 use Rattle.labelling.proofs.Members.{all-at, at-all}
 use Rattle.labelling.proofs.Words.{Formed, formed, form}
 use Rattle.labelling.proofs.Verdict.{broken-lawful}
-use Rattle.demands.specs.Demands.{TieOf, LayoutOf, LawfulLayout}
+use Rattle.labelling.specs.Lawful.{TieOf, LayoutOf}
+use Rattle.demands.specs.Demands.{LawfulLayout}
 
 -- a tie's word
 tie-of : (s : Sheet) (w : ℕ) → isTie s w ≡ true → TieOf s w

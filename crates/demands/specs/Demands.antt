@@ -5,13 +5,13 @@
 use mathlib.Core.Path.{_≡_}
 use mathlib.Core.Logic.{_⊎_, _↔_}
 use mathlib.Core.Bool.{true, false}
-use mathlib.Core.List.{List, _++_}
-use Prim.Native.Nat.{ℕ, suc, _≤_, _<_}
-use lib.ListN.{length, getD, take, drop, replicate}
-use Rattle.sheet.specs.Sheet.{kindOf, bits, Sheet, sheetIn, sheetFault, productOf, workFor}
+use mathlib.Core.List.{List}
+use Prim.Native.Nat.{ℕ, _≤_, _<_}
+use lib.ListN.{length, take, drop}
+use Rattle.sheet.specs.Sheet.{Sheet, sheetIn, sheetFault, productOf, workFor}
 use Rattle.labelling.specs.Layout.{wordsFor, isLawful, sheetPart, layoutPart, layoutTies}
-use Rattle.labelling.specs.Lawful.{Lawful, LeastBroken, Better}
-use Rattle.labelling.specs.Entry.{makeFault, makeAnswer, makeWork}
+use Rattle.labelling.specs.Lawful.{Ties, Rules, LayoutOf, Lawful, LeastBroken, Better}
+use Rattle.labelling.specs.Entry.{Serves, cleared, makeFault, makeAnswer, makeWork}
 use Rattle.labelling.specs.Promise.{areWords, same, isBeaten, PartsFound}
 use Rattle.reader.specs.declared.Sizes.{Sizes}
 use Rattle.reader.specs.Read.{readPost, refusedOf, eightOf}
@@ -28,31 +28,11 @@ WasMade ws k o r k' o' = (r ≡ makeFault ws k o) × (k' ≡ makeWork ws k o) ×
 abbrev pub WasJudged : (ws : List ℕ) → Verdict → (ws' : List ℕ) → Type 0
 WasJudged ws r ws' = (r ≡ judgePost ws) × (ws' ≡ ws)
 
--- an accepted sheet, with areas long enough
-abbrev pub Accepted : (ws k o : List ℕ) → Type 0
-Accepted ws k o = (sheetFault ws ≡ 0) × (workFor (sheetIn ws) ≤ length k) × (wordsFor (sheetIn ws) ≤ length o)
-
--- the work area with its needed words zero, and the layout in the answer area: its first n + 1 words
-abbrev pub wiped : (ws k : List ℕ) → List ℕ
-wiped ws k = replicate (workFor (sheetIn ws)) 0 ++ drop (workFor (sheetIn ws)) k
-
+-- the layout in the answer area: its first n + 1 words
 abbrev pub layoutIn : (ws o : List ℕ) → List ℕ
 layoutIn ws o = take (wordsFor (sheetIn ws)) o
 
--- LAYOUTS, as statements
--- a word of kind 9, its slot (bits 7 to 0) below m, no spare bit (bits 27 to 8) set
-pub record TieOf (s : Sheet) (w : ℕ) : Type 0 where
-  pub kind : kindOf w ≡ 9
-  pub spare : bits w 8 20 ≡ 0
-  pub slot : bits w 0 8 < length (s .slots)
-
--- a layout of a sheet, whoever wrote it: one word of kind 8, then one of kind 9 for each site
-pub record LayoutOf (s : Sheet) (b : List ℕ) : Type 0 where
-  pub long : length b ≡ wordsFor s
-  pub first : kindOf (getD b 0 0) ≡ 8
-  pub ties : (i : ℕ) → i < length (s .sites) → TieOf s (getD b (suc i) 0)
-
--- a lawful one: it obeys rules 1 to 6
+-- LAYOUTS, as statements: a lawful one obeys rules 1 to 6
 abbrev pub LawfulLayout : Sheet → (b : List ℕ) → Type 0
 LawfulLayout s b = LayoutOf s b × Lawful s b
 
@@ -78,18 +58,19 @@ pub record ServedByReader (ws : List ℕ) (r : Sizes) (ws' : List ℕ) : Type 0 
   pub sized : r .refusal ≡ 0 → Sized (sheetIn ws) r
   pub unchanged : ws' ≡ ws
 
--- the maker, by its outcome: a refusal 1 to 7 as the reader's, 8, 9, 10, or a layout
+-- the maker, by its outcome: a refusal 1 to 7 as the reader's, 8, 9, 10, or a layout; no area changes its length
 pub record Served (ws k o : List ℕ) (r : ℕ) (k' o' : List ℕ) : Type 0 where
   pub sheet : 0 < sheetFault ws → (r ≡ sheetFault ws) × (k' ≡ k) × (o' ≡ o)
   pub short : sheetFault ws ≡ 0 → length k < workFor (sheetIn ws) → (r ≡ 8) × (k' ≡ k) × (o' ≡ o)
   pub narrow : sheetFault ws ≡ 0 → workFor (sheetIn ws) ≤ length k → length o < wordsFor (sheetIn ws) → (r ≡ 9) × (k' ≡ k) × (o' ≡ o)
-  pub taken : Accepted ws k o →
-      (k' ≡ wiped ws k) × (((r ≡ 10) × (o' ≡ o)) ⊎ ((r ≡ 0) × (drop (wordsFor (sheetIn ws)) o' ≡ drop (wordsFor (sheetIn ws)) o)))
+  pub taken : Serves ws k o →
+      (k' ≡ cleared ws k) × (((r ≡ 10) × (o' ≡ o)) ⊎ ((r ≡ 0) × (drop (wordsFor (sheetIn ws)) o' ≡ drop (wordsFor (sheetIn ws)) o)))
+  pub lengths : (length k' ≡ length k) × (length o' ≡ length o)
 
 -- and old contents of either area have no part in the result: whatever other areas hold that are long enough, a call gives the same
 abbrev pub ContentsApart : (ws k o : List ℕ) → (r : ℕ) → (o' : List ℕ) → Type 0
 ContentsApart ws k o r o' =
-    Accepted ws k o → (l p : List ℕ) (q : ℕ) (l' p' : List ℕ) → WasMade ws l p q l' p' → Accepted ws l p →
+    Serves ws k o → (l p : List ℕ) (q : ℕ) (l' p' : List ℕ) → WasMade ws l p q l' p' → Serves ws l p →
     (r ≡ q) × (r ≡ 0 → layoutIn ws o' ≡ layoutIn ws p')
 
 -- the judge, by its outcome: a refusal 1 to 7 as the reader's on the words before the first of kind 8, then 11, with rule 0 beside it,
@@ -123,13 +104,15 @@ pub record TrueVerdict (ws : List ℕ) (r : Verdict) : Type 0 where
 abbrev pub DemandTwo : Type 0
 DemandTwo = (ws : List ℕ) (r : Verdict) (ws' : List ℕ) → WasJudged ws r ws' → TrueVerdict ws r
 
--- DEMAND 3, of one call on an accepted sheet with areas long enough: 10 exactly when no list is a lawful layout; otherwise the answer is
--- lawful and better than every other lawful layout, by the aim, then the other number, then document 01's order
+-- DEMAND 3, of one call on an accepted sheet with areas long enough: 10 exactly when no ties obey rules 1 to 5, which is when no list is
+-- a lawful layout; otherwise the answer is lawful and better than every other lawful layout, by the aim, then the other number, then
+-- document 01's order
 pub record BestOfLawful (ws k o : List ℕ) (r : ℕ) (o' : List ℕ) : Type 0 where
-  pub ten : Accepted ws k o → (r ≡ 10) ↔ ((b : List ℕ) → LawfulLayout (sheetIn ws) b → ⊥)
-  pub zero : Accepted ws k o → (r ≡ 10 → ⊥) → r ≡ 0
-  pub lawful : Accepted ws k o → (r ≡ 10 → ⊥) → LawfulLayout (sheetIn ws) (layoutIn ws o')
-  pub best : Accepted ws k o → (r ≡ 10 → ⊥) → (b : List ℕ) → LawfulLayout (sheetIn ws) b → (b ≡ layoutIn ws o' → ⊥) →
+  pub none : Serves ws k o → (r ≡ 10) ↔ ((js : List ℕ) → Ties (sheetIn ws) js → Rules (sheetIn ws) js → ⊥)
+  pub ten : Serves ws k o → (r ≡ 10) ↔ ((b : List ℕ) → LawfulLayout (sheetIn ws) b → ⊥)
+  pub zero : Serves ws k o → (r ≡ 10 → ⊥) → r ≡ 0
+  pub lawful : Serves ws k o → (r ≡ 10 → ⊥) → LawfulLayout (sheetIn ws) (layoutIn ws o')
+  pub best : Serves ws k o → (r ≡ 10 → ⊥) → (b : List ℕ) → LawfulLayout (sheetIn ws) b → (b ≡ layoutIn ws o' → ⊥) →
       Better (sheetIn ws) (layoutTies (layoutIn ws o')) (layoutTies b)
 
 -- DEMAND 3: of every call of the maker
@@ -139,7 +122,7 @@ DemandThree = (ws k o : List ℕ) (r : ℕ) (k' o' : List ℕ) → WasMade ws k 
 -- the same by document 03's tests, over lists of 32-bit words: every other lawful layout STATES more, or as much and comes later
 abbrev pub DemandThreeByTests : Type 0
 DemandThreeByTests =
-    (ws k o : List ℕ) (r : ℕ) (k' o' : List ℕ) → WasMade ws k o r k' o' → areWords ws ≡ true → Accepted ws k o →
+    (ws k o : List ℕ) (r : ℕ) (k' o' : List ℕ) → WasMade ws k o r k' o' → areWords ws ≡ true → Serves ws k o →
     ((r ≡ 10) ↔ ((b : List ℕ) → areWords b ≡ true → isLawful (sheetIn ws) b ≡ false)) ×
     ((r ≡ 10 → ⊥) →
     (r ≡ 0) × (isLawful (sheetIn ws) (layoutIn ws o') ≡ true) ×

@@ -14,7 +14,7 @@ use Rattle.labelling.specs.Pairs.{missesPair, clearsPair}
 use Rattle.labelling.specs.Counted.{allBefore, sumBefore, isFirst, anySite}
 use Rattle.labelling.proofs.Counted.{tied-is, count-counted, colour-counted, backbones-counted, drops-counted}
 use Rattle.labelling.proofs.Pairs.{rule-four-pairs, rule-five-pairs}
-use Rattle.labelling.proofs.Best.{below}
+use Rattle.labelling.proofs.Best.{lowTies}
 use Rattle.labelling.proofs.Rules.{lesser-min}
 use Rattle.decoding.specs.Decoding.{Decoded, headBy, boundsOf}
 use Rattle.words.specs.declared.tied.TiedSite.{TiedSite}
@@ -126,7 +126,7 @@ module _ (s : Sheet) (hs xs ys cs : List ℕ) (d : Decoded s hs xs ys cs) (js : 
       ap (λ (z : ℕ). cond (s .isTwoSided) 0 z)
       (ap (λ (g : ℕ → ℕ). leastBefore k (s .width) (λ i. getD js i 0) g n) (fun-ext (d .xs)) ∙ least-is k (s .width) (s .sites) js long)
 
-  module _ (low : below (length (s .slots)) js ≡ true) where
+  module _ (low : lowTies (length (s .slots)) js ≡ true) where
     colour-labels : (c : ℕ) → countOn (Of c) cs js n ≡ length (usedOf s (slotsOf c (tied s js)))
     colour-labels c =
         ap (λ (p : ℕ → Bool). sumBefore (λ i. cond (isFirst p js i) 1 0) n) (fun-ext λ i. ap (λ (z : ℕ). eqb z c) (d .colours i)) ∙

@@ -101,33 +101,33 @@ best-over f s Q k (suc c) js h =
         by-test (eqb j k) (λ e. inl (subst (λ (i : ℕ). Q i ks) (eqb-true j k e) q)) λ e. inr (j, omega (arith, tests), omega arith, q)
 
 -- TIES that obey rules 1 to 5
-abbrev pub below : (count : ℕ) → List ℕ → Bool
-below m = all (λ j. ltb j m)
+abbrev pub lowTies : (count : ℕ) → List ℕ → Bool
+lowTies m = all (λ j. ltb j m)
 
 pub record Obeys (s : Sheet) (js : List ℕ) : Type 0 where
   pub long : length js ≡ length (s .sites)
-  pub low : below (length (s .slots)) js ≡ true
+  pub low : lowTies (length (s .slots)) js ≡ true
   pub kept : brokenIn s js ≡ 0
 
 -- those that go on from js by so many
 abbrev pub Goes : (count : ℕ) → Sheet → List ℕ → List ℕ → Type 0
-Goes n s js ks = (t : List ℕ) × (ks ≡ js ++ t) × (length t ≡ n) × (below (length (s .slots)) t ≡ true) × (brokenIn s ks ≡ 0)
+Goes n s js ks = (t : List ℕ) × (ks ≡ js ++ t) × (length t ≡ n) × (lowTies (length (s .slots)) t ≡ true) × (brokenIn s ks ≡ 0)
 
 goes-suc : (n : ℕ) (s : Sheet) (js ks : List ℕ) → Over (λ j. Goes n s (js ++ (j ∷ []))) 0 (length (s .slots)) ks → Goes (suc n) s js ks
 unfolding all
 goes-suc n s js ks (j, l, u, (t, e, k, b, z)) =
     (j ∷ t, e ∙ append-assoc js (j ∷ []) t, ap suc k, and-i (lt-ltb j (length (s .slots)) (omega arith)) b, z)
 
-suc-goes : (n : ℕ) (s : Sheet) (js ks t : List ℕ) → ks ≡ js ++ t → length t ≡ suc n → below (length (s .slots)) t ≡ true → brokenIn s ks ≡ 0 →
+suc-goes : (n : ℕ) (s : Sheet) (js ks t : List ℕ) → ks ≡ js ++ t → length t ≡ suc n → lowTies (length (s .slots)) t ≡ true → brokenIn s ks ≡ 0 →
     Over (λ j. Goes n s (js ++ (j ∷ []))) 0 (length (s .slots)) ks
 unfolding all
 suc-goes n s js ks [] e k b z = absurd (omega arith)
 suc-goes n s js ks (j ∷ t) e k b z =
-    let h : j < length (s .slots) = ltb-true j (length (s .slots)) (and-l (ltb j (length (s .slots))) (below (length (s .slots)) t) b) in (
+    let h : j < length (s .slots) = ltb-true j (length (s .slots)) (and-l (ltb j (length (s .slots))) (lowTies (length (s .slots)) t) b) in (
       j,
       omega arith,
       omega arith,
-      (t, e ∙ sym (append-assoc js (j ∷ []) t), omega arith, and-r (ltb j (length (s .slots))) (below (length (s .slots)) t) b, z),
+      (t, e ∙ sym (append-assoc js (j ∷ []) t), omega arith, and-r (ltb j (length (s .slots))) (lowTies (length (s .slots)) t) b, z),
     )
 
 pub best-from : (n : ℕ) (s : Sheet) (js : List ℕ) → IsBest s (Goes n s js) (bestFrom n s js)
@@ -155,7 +155,7 @@ best-is s =
     best-iff s (Goes (length (s .sites)) s []) (Obeys s) (best s)
     (λ ks (t, e, k, b, z). record {
       long = ap length e ∙ k;
-      low = subst (λ (l : List ℕ). below (length (s .slots)) l ≡ true) (sym e) b;
+      low = subst (λ (l : List ℕ). lowTies (length (s .slots)) l ≡ true) (sym e) b;
       kept = z;
     })
     (λ ks o. (ks, refl, o .long, o .low, o .kept)) (best-from (length (s .sites)) s [])

@@ -10,6 +10,7 @@ use lib.ListN.{length, take, drop, replicate, length-replicate, replicate-append
 use lib.Seq.{drop-drop, take-at, drop-at}
 use borrow.Author.Tests.{ltb-true, lt-ltb, eq-eqb, ne-eqb}
 use Rattle.lists.proofs.Tests.{by-test, by-equal, and-l, and-r, and-i, tests}
+use Rattle.sheet.specs.Limits.{unbounded, wordTop}
 use Rattle.sheet.specs.Sheet.{kindOf, bits, Site, Colour, Sheet, sitesRun, sheetIn, sheetFault, workFor}
 use Rattle.sheet.specs.Binding.{bindingWord, bindingOnly, bindingColours, withColours, sitesOf}
 use Rattle.sheet.proofs.Accepted.{unrefused}
@@ -53,10 +54,10 @@ pub labels-few : (s : Sheet) (js : List ℕ) (c : ℕ) → length (usedOf s (slo
 labels-few s js c = omega (arith, used-few 0 (length (s .slots)) (slotsOf c (tied s js)), slots-few c (s .sites) js)
 
 -- RULE 2 reads the same of the bounds that bind
-bound-same : (b n l : ℕ) → l ≤ n → (eqb (cond (leb n b) 255 b) 255 || leb l (cond (leb n b) 255 b)) ≡ (eqb b 255 || leb l b)
+bound-same : (b n l : ℕ) → l ≤ n → (eqb (cond (leb n b) unbounded b) unbounded || leb l (cond (leb n b) unbounded b)) ≡ (eqb b unbounded || leb l b)
 bound-same b n l h =
     by-test (leb n b)
-    (λ e. let f : leb l b ≡ true = omega (arith, tests) in rw (e, f) (by-test (eqb b 255) (λ g. rw g) (λ g. rw g)))
+    (λ e. let f : leb l b ≡ true = omega (arith, tests) in rw (e, f) (by-test (eqb b unbounded) (λ g. rw g) (λ g. rw g)))
     (λ e. rw e)
 
 bounds-same : (s : Sheet) (ks : List Colour) (js : List ℕ) (c : ℕ) (cs : List Colour) → Few c (s .sites) cs →
@@ -159,15 +160,15 @@ module _ (ws k o : List ℕ) (t : Serves ws k o) where
       zeroed-on (workFor (sheetIn (bindingOnly ws))) (workFor (sheetIn ws)) k (work-less ws (t .0)) ∙ sym (called ws k o t .work)
 
 -- 32-bit words stay so
-word-small : (w n : ℕ) → w < 4294967296 → bindingWord w n < 4294967296
+word-small : (w n : ℕ) → w < wordTop → bindingWord w n < wordTop
 word-small w n h = by-test (eqb (kindOf w) 3 && leb n (bits w 0 8)) (λ e. rw e (omega arith)) (λ e. rw e h)
 
 are-words-binding : (ws : List ℕ) → areWords ws ≡ true → areWords (bindingOnly ws) ≡ true
 unfolding bindingOnly areWords
 are-words-binding [] h = refl
 are-words-binding (w ∷ ws) h =
-    and-i (lt-ltb (bindingWord w (sitesRun ws)) 4294967296 (word-small w (sitesRun ws) (ltb-true w 4294967296 (and-l (ltb w 4294967296) (areWords ws) h))))
-    (are-words-binding ws (and-r (ltb w 4294967296) (areWords ws) h))
+    and-i (lt-ltb (bindingWord w (sitesRun ws)) wordTop (word-small w (sitesRun ws) (ltb-true w wordTop (and-l (ltb w wordTop) (areWords ws) h))))
+    (are-words-binding ws (and-r (ltb w wordTop) (areWords ws) h))
 
 pub takes-binding : (ws k o : List ℕ) → takesSheet ws k o → takesSheet (bindingOnly ws) k o
 takes-binding ws k o t =

@@ -14,7 +14,7 @@ use Rattle.labelling.specs.Layout.{noSite, siteAt, Tied, tieAt, tiedOf, 
 use Rattle.labelling.specs.Counted.{allBefore, sumBefore, isTaken, isFirst, sumFirsts, anySite, ofColour, labelsCounted, coloursCounted, backbonesCounted, sharesCounted}
 use Rattle.lists.proofs.Tests.{same-test, clash, by-test, by-equal, by-either, and-l, and-r, and-i, or-e}
 use Rattle.labelling.proofs.Members.{noTied, all-at, at-all, used-at, at-used, used-tail, tied-at, length-tied}
-use Rattle.labelling.proofs.Best.{below}
+use Rattle.labelling.proofs.Best.{lowTies}
 
 -- ALL, by numbers
 pub all-before : (f : ℕ → Bool) (n : ℕ) → allBefore f n ≡ true → (i : ℕ) → i < n → f i ≡ true
@@ -192,7 +192,7 @@ module _ (s : Sheet) (js : List ℕ) (long : length js ≡ length (s .sites)) wh
   pub drops-counted : drops s (tied s js) ≡ sharesCounted s js
   drops-counted = shares-is s (s .sites) js long
 
-  module _ (low : below (length (s .slots)) js ≡ true) where
+  module _ (low : lowTies (length (s .slots)) js ≡ true) where
     in-range : (i : ℕ) → i < length (s .sites) → getD js i 0 < length (s .slots)
     in-range i l = ltb-true (getD js i 0) (length (s .slots)) (all-at (λ j. ltb j (length (s .slots))) 0 js low i (omega arith))
 

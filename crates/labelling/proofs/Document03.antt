@@ -17,7 +17,7 @@ use Rattle.labelling.specs.Entry.{isNone, makeFault, makeAnswer, makeWor
 use Rattle.lists.proofs.Tests.{eqb-self, same-test, by-test, by-equal, and-l, and-r, and-i, or-e, tests}
 use Rattle.labelling.proofs.Members.{each, every, rise-at, all-used, used-head, used-tail, used-from, from-used, used-at, at-used, head-rise, tail-rise, used-rise}
 use Rattle.labelling.proofs.Order.{before}
-use Rattle.labelling.proofs.Best.{below}
+use Rattle.labelling.proofs.Best.{lowTies}
 use Rattle.labelling.proofs.Words.{Formed, formed, formed-long, ties-low}
 use Rattle.labelling.proofs.Judge.{judged-so}
 use Rattle.sheet.proofs.Accepted.{Sound, sound}
@@ -281,7 +281,7 @@ all-far s (j ∷ k ∷ ks) r f =
     (omega (arith, f j k (used-head j (k ∷ ks)) (used-tail k j (k ∷ ks) (used-head k ks)) (head-rise j (k ∷ ks) r k (used-head k ks)))))
     (all-far s (k ∷ ks) (tail-rise j (k ∷ ks) r) λ a b u v. f a b (used-tail a j (k ∷ ks) u) (used-tail b j (k ∷ ks) v))
 
-module _ (s : Sheet) (o : Sound s) (js : List ℕ) (long : length js ≡ length (s .sites)) (low : below (length (s .slots)) js ≡ true) where
+module _ (s : Sheet) (o : Sound s) (js : List ℕ) (long : length js ≡ length (s .sites)) (low : lowTies (length (s .slots)) js ≡ true) where
   up : (j k : ℕ) → j < k → isUsed k js ≡ true → heightOf s j < heightOf s k
   up j k h u = rise-at (s .slots) (o .rise) j k h (ltb-true k (length (s .slots)) (all-used (λ j. ltb j (length (s .slots))) js low k u))
 
@@ -370,12 +370,12 @@ over-agrees f g s k zero js h = refl
 over-agrees f g s k (suc c) js h =
     ap₂ (betterOf s) (h k (omega arith)) (over-agrees f g s (suc k) c js λ j l. h j (omega arith)) ∙ better-of s (g (js ++ (k ∷ []))) (bestOver03 g s (suc k) c js)
 
-low-more : (m : ℕ) (js : List ℕ) (j : ℕ) → below m js ≡ true → j < m → below m (js ++ (j ∷ [])) ≡ true
+low-more : (m : ℕ) (js : List ℕ) (j : ℕ) → lowTies m js ≡ true → j < m → lowTies m (js ++ (j ∷ [])) ≡ true
 unfolding all
 low-more m [] j h l = and-i (lt-ltb j m l) refl
-low-more m (k ∷ js) j h l = and-i (and-l (ltb k m) (below m js) h) (low-more m js j (and-r (ltb k m) (below m js) h) l)
+low-more m (k ∷ js) j h l = and-i (and-l (ltb k m) (lowTies m js) h) (low-more m js j (and-r (ltb k m) (lowTies m js) h) l)
 
-from-agrees : (s : Sheet) → Sound s → (n : ℕ) (js : List ℕ) → length js + n ≡ length (s .sites) → below (length (s .slots)) js ≡ true → bestFrom n s js ≡ bestFrom03 n s js
+from-agrees : (s : Sheet) → Sound s → (n : ℕ) (js : List ℕ) → length js + n ≡ length (s .sites) → lowTies (length (s .slots)) js ≡ true → bestFrom n s js ≡ bestFrom03 n s js
 unfolding bestFrom bestFrom03
 from-agrees s o zero js l b = ap (λ (v : ℕ). cond (eqb v 0) (some js) none) (broken-agrees s o js (omega arith) b)
 from-agrees s o (suc n) js l b =

@@ -14,9 +14,8 @@ use Rattle.sheet.specs.Sheet.{all, kindOf, inOrder, sheetIn, sheetFault}
 use Rattle.labelling.specs.Layout.{isLayout, brokenBy, sheetPart, layoutPart}
 use Rattle.labelling.specs.Promise.{JudgedSo, isEight, EveryListJudged, LayoutJudged}
 use Rattle.lists.proofs.Tests.{by-test, by-equal, and-l, and-r, and-i}
-use Rattle.sheet.proofs.Accepted.{Unrefused, unrefused, Step, step}
+use Rattle.sheet.proofs.Accepted.{Unrefused, unrefused, Step, step, fault-seven}
 use Rattle.labelling.proofs.Words.{Formed, formed}
-use Rattle.labelling.proofs.Maker.{fault-seven}
 use Rattle.labelling.proofs.Verdict.{broken-least, broken-lawful}
 
 -- the sheet part of an accepted sheet before a layout

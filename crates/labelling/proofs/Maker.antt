@@ -11,13 +11,14 @@ use lib.Dec.{ltb, eqb}
 use lib.ListN.{length, take, drop, replicate}
 use lib.Seq.{take-at}
 use borrow.Author.Tests.{lt-ltb, le-ltb, eq-eqb, ne-eqb}
-use Rattle.sheet.specs.Sheet.{all, isHead, inOrder, countsFit, rising, insideBy, ranksDiffer, productOf, Sheet, sheetIn, sheetFault, workFor}
+use Rattle.sheet.specs.Sheet.{Sheet, sheetIn, sheetFault, workFor}
 use Rattle.labelling.specs.Layout.{tieWords, best, answer, answerOf, answerBy, wordsFor}
+pub use Rattle.labelling.specs.Entry.{Serves, cleared}
 use Rattle.labelling.specs.Entry.{makeFault, makeAnswer, makeWork, isNone}
 use Rattle.labelling.specs.Promise.{takesSheet, begun}
 use Rattle.lists.proofs.Tests.{by-order, by-equal}
 use Rattle.labelling.proofs.Best.{Obeys, IsBest, best-is}
-use Rattle.sheet.proofs.Accepted.{sound}
+use Rattle.sheet.proofs.Accepted.{sound, fault-seven}
 use Rattle.labelling.proofs.Words.{length-tieWords}
 use Rattle.labelling.proofs.Answer.{best-unique, best-empty}
 
@@ -26,10 +27,6 @@ stage : (f k w o n : ℕ) (b : Bool) → f ≡ 0 → w ≤ k → n ≤ o →
     _≡_ {A = ℕ} (cond (not (eqb f 0)) f (cond (ltb k w) 8 (cond (ltb o n) 9 (cond b 10 0)))) (cond b 10 0)
 stage f k w o n b p q r = rw (eq-eqb f 0 p, le-ltb k w q, le-ltb o n r)
 
--- the sheet is accepted and the areas are long enough
-abbrev pub Serves : (sheet work out : List ℕ) → Type 0
-Serves ws k o = (sheetFault ws ≡ 0) × (workFor (sheetIn ws) ≤ length k) × (wordsFor (sheetIn ws) ≤ length o)
-
 pub fault-is : (ws k o : List ℕ) → Serves ws k o → makeFault ws k o ≡ cond (isNone (best (sheetIn ws))) 10 0
 fault-is ws k o (f, w, n) =
     stage (sheetFault ws) (length k) (workFor (sheetIn ws)) (length o) (wordsFor (sheetIn ws)) (isNone (best (sheetIn ws))) f w n
@@ -37,15 +34,12 @@ fault-is ws k o (f, w, n) =
 -- what a call does, by what is best
 pub record Called (ws k o : List ℕ) (b : Option (List ℕ)) : Type 0 where
   pub fault : makeFault ws k o ≡ cond (isNone b) 10 0
-  pub work : makeWork ws k o ≡ replicate (workFor (sheetIn ws)) 0 ++ drop (workFor (sheetIn ws)) k
+  pub work : makeWork ws k o ≡ cleared ws k
   pub answer : makeAnswer ws k o ≡ cond (isNone b) o (answerBy (sheetIn ws) b ++ drop (wordsFor (sheetIn ws)) o)
 
 pub called : (ws k o : List ℕ) → Serves ws k o → Called ws k o (best (sheetIn ws))
 called ws k o t = go (best (sheetIn ws)) refl (fault-is ws k o t)
   where
-    cleared : List ℕ
-    cleared = replicate (workFor (sheetIn ws)) 0 ++ drop (workFor (sheetIn ws)) k
-
     rest : List ℕ
     rest = drop (wordsFor (sheetIn ws)) o
 
@@ -53,13 +47,13 @@ called ws k o t = go (best (sheetIn ws)) refl (fault-is ws k o t)
     go none e f =
         record {
           fault = f;
-          work = ap (λ (n : ℕ). cond (eqb n 0 || eqb n 10) cleared k) f;
+          work = ap (λ (n : ℕ). cond (eqb n 0 || eqb n 10) (cleared ws k) k) f;
           answer = ap (λ (n : ℕ). cond (eqb n 0) (answer (sheetIn ws) ++ rest) o) f;
         }
     go (some js) e f =
         record {
           fault = f;
-          work = ap (λ (n : ℕ). cond (eqb n 0 || eqb n 10) cleared k) f;
+          work = ap (λ (n : ℕ). cond (eqb n 0 || eqb n 10) (cleared ws k) k) f;
           answer = ap₂ (λ (n : ℕ) (b : Option (List ℕ)). cond (eqb n 0) (answerBy (sheetIn ws) b ++ rest) o) f e;
         }
 
@@ -81,9 +75,6 @@ pub record Result (ws k o : List ℕ) (fault : ℕ) (out work : List ℕ) : Type
   pub out-is : makeAnswer ws k o ≡ out
   pub work-is : makeWork ws k o ≡ work
 
-abbrev pub cleared : (ws k : List ℕ) → List ℕ
-cleared ws k = replicate (workFor (sheetIn ws)) 0 ++ drop (workFor (sheetIn ws)) k
-
 pub made : (ws k o js : List ℕ) → takesSheet ws k o → First (sheetIn ws) js →
     Result ws k o 0 (answerOf (sheetIn ws) js ++ drop (wordsFor (sheetIn ws)) o) (cleared ws k)
 made ws k o js t f =
@@ -104,22 +95,6 @@ kept-by ws k o n e l u =
           rw (ne-eqb n 0 (λ q. omega arith));
       work-is = ap (λ (f : ℕ). cond (eqb f 0 || eqb f 10) (cleared ws k) k) e ∙ rw (ne-eqb n 0 (λ q. omega arith), ne-eqb n 10 (λ q. omega arith));
     }
-
-at-most-seven : (a b c d e f g : Bool) →
-    _≤_ (cond (not a) 1 (cond (not b) 2 (cond (not c) 3 (cond (not d) 4 (cond (not e) 5 (cond (not f) 6 (cond g 7 0))))))) 7
-at-most-seven false b c d e f g = omega arith
-at-most-seven true false c d e f g = omega arith
-at-most-seven true true false d e f g = omega arith
-at-most-seven true true true false e f g = omega arith
-at-most-seven true true true true false f g = omega arith
-at-most-seven true true true true true false g = omega arith
-at-most-seven true true true true true true true = omega arith
-at-most-seven true true true true true true false = omega arith
-
-pub fault-seven : (ws : List ℕ) → sheetFault ws ≤ 7
-fault-seven ws =
-    at-most-seven (isHead ws) (inOrder 0 (drop 1 ws)) (countsFit (sheetIn ws)) (rising (sheetIn ws .slots))
-    (all (insideBy (sheetIn ws .width)) (sheetIn ws .sites)) (ranksDiffer (sheetIn ws .sites)) (ltb 64 (productOf (sheetIn ws .colours)))
 
 pub refused-sheet : (ws k o : List ℕ) → 0 < sheetFault ws → Result ws k o (sheetFault ws) o k
 refused-sheet ws k o l = kept-by ws k o (sheetFault ws) (first (sheetFault ws) _ l) l (omega (arith, fault-seven ws))

@@ -14,8 +14,8 @@ use Rattle.labelling.specs.Layout.{siteAt, Tied, tied, heightOf, isUsed,
 use Rattle.labelling.specs.Pairs.{startOf, missesPairs, clearsPairs}
 use Rattle.lists.proofs.Tests.{by-test, same-test}
 use Rattle.labelling.proofs.Members.{each, every, all-used, used-all, used-at}
-use Rattle.labelling.proofs.Best.{below}
-use Rattle.labelling.specs.Lawful.{Rules, RuleTwo, Miss, Counted}
+use Rattle.labelling.proofs.Best.{lowTies}
+use Rattle.labelling.specs.Lawful.{Rules, RuleTwo, Miss, CountsAgainst}
 use Rattle.labelling.proofs.LeftEnd.{left-le, left-is}
 use Rattle.labelling.proofs.Rules.{counts-e, counts-i, counted-left, used-of, of-used}
 
@@ -42,7 +42,7 @@ clears-falls s t k d e l = step (eqb (t .slot) k) (isClear s k (t .site .y))
 
 module _ (s : Sheet) (js : List ℕ) (long : length js ≡ length (s .sites)) where
   module _ (inside : all (insideBy (s .width)) (s .sites) ≡ true) where
-    module _ (low : below (length (s .slots)) js ≡ true) where
+    module _ (low : lowTies (length (s .slots)) js ≡ true) where
       -- a test of all labels is a test of all tied sites, each with its own start for the left end
       pub by-sites : (f : (slot left : ℕ) → Bool) → Falls f → all (λ k. f k (leftEnd s js k)) (usedOf s js) ≡ all (λ u. f (u .slot) (startOf s (u .site))) (tied s js)
       by-sites f falls =
@@ -75,7 +75,7 @@ pub record InOrder (s : Sheet) (js : List ℕ) (i j : ℕ) : Type 0 where
   pub colour : getD js i 0 ≡ getD js j 0 → (siteAt s i) .colour ≡ (siteAt s j) .colour
   pub far : (getD js i 0 ≡ getD js j 0 → ⊥) → isFar s (getD js i 0) ((siteAt s i) .colour) (getD js j 0) ((siteAt s j) .colour) ≡ true
   pub misses : (getD js i 0 ≡ getD js j 0 → ⊥) → startOf s (siteAt s i) ≤ (siteAt s j) .x → Miss (heightOf s (getD js i 0)) ((siteAt s j) .y) (heightOf s (getD js j 0))
-  pub clear : (getD js i 0 ≡ getD js j 0 → ⊥) → Counted s (startOf s (siteAt s i)) ((siteAt s j) .x) → isClear s (getD js i 0) ((siteAt s j) .y) ≡ true
+  pub clear : (getD js i 0 ≡ getD js j 0 → ⊥) → CountsAgainst s (startOf s (siteAt s i)) ((siteAt s j) .x) → isClear s (getD js i 0) ((siteAt s j) .y) ≡ true
 
 -- EVERY PAIR
 abbrev pub AllInOrder : Sheet → (ties : List ℕ) → Type 0
@@ -103,7 +103,7 @@ module _ (s : Sheet) (inside : all (insideBy (s .width)) (s .sites) ≡ true) (j
         (p q i hq hi .misses (λ t. n (sym t ∙ eq)) (omega arith));
     five = λ i k hi u n e. let (q, hq, eq, rq) = left-is s js long inside k u in
         leb-true (s .gap) _ (subst (λ (z : ℕ). isClear s z ((siteAt s i) .y) ≡ true) eq
-        (p q i hq hi .clear (λ t. n (sym t ∙ eq)) (subst (λ (z : ℕ). Counted s z ((siteAt s i) .x)) rq e)));
+        (p q i hq hi .clear (λ t. n (sym t ∙ eq)) (subst (λ (z : ℕ). CountsAgainst s z ((siteAt s i) .x)) rq e)));
   }
 
   -- THEOREM 0: the rules are every pair in order, and rule 2

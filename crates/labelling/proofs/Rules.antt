@@ -9,14 +9,15 @@ use native.Mathlib.Omega.{arith}
 use lib.Dec.{ltb, leb, eqb}
 use lib.ListN.{length, getD}
 use borrow.Author.Tests.{ltb-true, leb-true, leb-false, eqb-true, eqb-false, le-leb, lt-leb, eq-eqb, ne-eqb}
+use Rattle.sheet.specs.Limits.{unbounded}
 use Rattle.sheet.specs.Sheet.{all, Colour, Sheet}
 pub use Rattle.labelling.specs.Layout.{siteAt}
 pub use Rattle.labelling.specs.Lawful.{Bounded, Rules}
-use Rattle.labelling.specs.Lawful.{RuleOne, RuleTwo, RuleThree, Miss, RuleFour, Counted, RuleFive}
+use Rattle.labelling.specs.Lawful.{RuleOne, RuleTwo, RuleThree, Miss, RuleFour, CountsAgainst, RuleFive}
 use Rattle.labelling.specs.Layout.{Tied, tieAt, tied, heightOf, isUsed, usedOf, lesser, leftEnd, colourKept, coloursOf, coloursKept, slotsOf, boundsKept, noColour, isFar, gapKept, gapsOf, gapsKept, verticalHas, misses, missesAll, reaches, counts, isClear, clears, clearsAll, brokenIn}
 use Rattle.lists.proofs.Tests.{by-test, and-l, and-r, and-i, or-e, is-false, not-f, not-e, tests}
 use Rattle.labelling.proofs.Members.{each, every, all-used, used-all, used-from, from-used}
-use Rattle.labelling.proofs.Best.{below, Obeys}
+use Rattle.labelling.proofs.Best.{lowTies, Obeys}
 
 -- rule 2, colour by colour
 bounds-each : (s : Sheet) (js : List ℕ) (c : ℕ) (ks : List Colour) → boundsKept s js c ks ≡ true → (i : ℕ) → i < length ks → Bounded s js (c + i) (getD ks i noColour)
@@ -25,18 +26,18 @@ bounds-each s js c [] h i l = absurd (omega arith)
 bounds-each s js c (k ∷ ks) h zero l = subst (λ (n : ℕ). Bounded s js n k) (omega arith) (go (or-e p q (and-l (p || q) (boundsKept s js (suc c) ks) h)))
   where
     p : Bool
-    p = eqb (k .bound) 255
+    p = eqb (k .bound) unbounded
 
     q : Bool
     q = leb (length (usedOf s (slotsOf c (tied s js)))) (k .bound)
 
     go : (p ≡ true) ⊎ (q ≡ true) → Bounded s js c k
-    go (inl e) = inl (eqb-true (k .bound) 255 e)
+    go (inl e) = inl (eqb-true (k .bound) unbounded e)
     go (inr e) = inr (leb-true (length (usedOf s (slotsOf c (tied s js)))) (k .bound) e)
 bounds-each s js c (k ∷ ks) h (suc i) l =
     subst (λ (n : ℕ). Bounded s js n (getD ks i noColour)) (omega arith)
     (bounds-each s js (suc c) ks
-    (and-r (eqb (k .bound) 255 || leb (length (usedOf s (slotsOf c (tied s js)))) (k .bound)) (boundsKept s js (suc c) ks) h) i (omega arith))
+    (and-r (eqb (k .bound) unbounded || leb (length (usedOf s (slotsOf c (tied s js)))) (k .bound)) (boundsKept s js (suc c) ks) h) i (omega arith))
 
 each-bounds : (s : Sheet) (js : List ℕ) (c : ℕ) (ks : List Colour) → ((i : ℕ) → i < length ks → Bounded s js (c + i) (getD ks i noColour)) → boundsKept s js c ks ≡ true
 unfolding boundsKept
@@ -45,18 +46,18 @@ each-bounds s js c (k ∷ ks) f =
     and-i (go (subst (λ (n : ℕ). Bounded s js n k) (omega arith) (f 0 (omega arith))))
     (each-bounds s js (suc c) ks λ i l. subst (λ (n : ℕ). Bounded s js n (getD ks i noColour)) (omega arith) (f (suc i) (omega arith)))
   where
-    go : Bounded s js c k → (eqb (k .bound) 255 || leb (length (usedOf s (slotsOf c (tied s js)))) (k .bound)) ≡ true
-    go (inl e) = rw (eq-eqb (k .bound) 255 e)
-    go (inr e) = by-test (eqb (k .bound) 255) (λ f. rw f) λ f. rw (f, le-leb (length (usedOf s (slotsOf c (tied s js)))) (k .bound) e)
+    go : Bounded s js c k → (eqb (k .bound) unbounded || leb (length (usedOf s (slotsOf c (tied s js)))) (k .bound)) ≡ true
+    go (inl e) = rw (eq-eqb (k .bound) unbounded e)
+    go (inr e) = by-test (eqb (k .bound) unbounded) (λ f. rw f) λ f. rw (f, le-leb (length (usedOf s (slotsOf c (tied s js)))) (k .bound) e)
 
 -- a site counts: what the test says; and it counts against a label further left too
-pub counts-e : (s : Sheet) (e x : ℕ) → counts s e x ≡ true → Counted s e x
+pub counts-e : (s : Sheet) (e x : ℕ) → counts s e x ≡ true → CountsAgainst s e x
 counts-e s e x h = leb-true e x h
 
-pub counts-i : (s : Sheet) (e x : ℕ) → Counted s e x → counts s e x ≡ true
+pub counts-i : (s : Sheet) (e x : ℕ) → CountsAgainst s e x → counts s e x ≡ true
 counts-i s e x h = le-leb e x h
 
-pub counted-left : (s : Sheet) (d e x : ℕ) → d ≤ e → Counted s e x → Counted s d x
+pub counted-left : (s : Sheet) (d e x : ℕ) → d ≤ e → CountsAgainst s e x → CountsAgainst s d x
 counted-left s d e x l h = omega arith
 
 -- `lesser` is min
@@ -81,7 +82,7 @@ over-none y e h (inr p) =
     absurd (omega (arith, most-max y e, leb-true h (cond (ltb y e) e y) (and-r (leb (lesser y e) h) (leb h (cond (ltb y e) e y)) q)))
 
 -- slots below m that are used are among the used slots
-pub used-of : (s : Sheet) (js : List ℕ) (k : ℕ) → below (length (s .slots)) js ≡ true → isUsed k js ≡ true → isUsed k (usedOf s js) ≡ true
+pub used-of : (s : Sheet) (js : List ℕ) (k : ℕ) → lowTies (length (s .slots)) js ≡ true → isUsed k js ≡ true → isUsed k (usedOf s js) ≡ true
 used-of s js k b u =
     from-used k 0 (length (s .slots)) js (omega arith) (omega (arith, ltb-true k (length (s .slots)) (all-used (λ j. ltb j (length (s .slots))) js b k u))) u
 
@@ -127,7 +128,7 @@ module _ (s : Sheet) (js : List ℕ) (long : length js ≡ length (s .sites)) wh
         or-iff (eqb (getD js i 0) (getD js j 0)) (isFar s (getD js i 0) ((siteAt s i) .colour) (getD js j 0) ((siteAt s j) .colour)) .1 λ n. r i j l u (eqb-false _ _ n),
   )
 
-  module _ (low : below (length (s .slots)) js ≡ true) where
+  module _ (low : lowTies (length (s .slots)) js ≡ true) where
     -- a test of every tied site with every used slot
     by-labels : (f : Tied → ℕ → Bool) → (all (λ t. all (f t) (usedOf s js)) (tied s js) ≡ true) ↔
         ((i k : ℕ) → i < length (s .sites) → isUsed k js ≡ true → f (tieAt s js i) k ≡ true)
@@ -198,7 +199,7 @@ obeys-rules s js o =
       five = rule-five s js (o .long) (o .low) .0 (t .4);
     }
 
-pub rules-obey : (s : Sheet) (js : List ℕ) → length js ≡ length (s .sites) → below (length (s .slots)) js ≡ true → Rules s js → Obeys s js
+pub rules-obey : (s : Sheet) (js : List ℕ) → length js ≡ length (s .sites) → lowTies (length (s .slots)) js ≡ true → Rules s js → Obeys s js
 rules-obey s js long low r =
     record {
       long = long;

@@ -13,7 +13,7 @@ use Rattle.sheet.specs.Sheet.{all, Sheet}
 use Rattle.labelling.specs.Layout.{tied, coloursKept, boundsKept, gapsKept, missesAll, clearsAll, countOf, lengthOf, statedCount, statedLength, isLayout, brokenBy, layoutBody, layoutTies}
 use Rattle.labelling.specs.Lawful.{RuleSix, Lawful, Rule, LeastBroken}
 use Rattle.lists.proofs.Tests.{by-order, by-equal, by-either, and-l, and-r, and-i}
-use Rattle.labelling.proofs.Best.{below}
+use Rattle.labelling.proofs.Best.{lowTies}
 use Rattle.labelling.proofs.Rules.{rule-one, rule-two, rule-three, rule-four, rule-five}
 use Rattle.labelling.proofs.Words.{Formed, formed, formed-long, ties-low}
 
@@ -91,7 +91,7 @@ outcome s b h =
     long : length js ≡ length (s .sites)
     long = formed-long s b f
 
-    low : below (length (s .slots)) js ≡ true
+    low : lowTies (length (s .slots)) js ≡ true
     low = ties-low s (layoutBody b) (f .ties)
 
 -- the least broken rule is one

@@ -8,12 +8,13 @@ use native.Mathlib.Omega.{arith}
 use lib.Dec.{ltb, eqb}
 use lib.ListN.{length, getD}
 use borrow.Author.Tests.{ltb-true, eqb-true, eqb-false, lt-ltb, eq-eqb}
+use Rattle.sheet.specs.Limits.{mostSlots, mostSites, wordTop, numberTop, mostNumber, byteTop, lengthTop, countTop}
 use Rattle.sheet.specs.Sheet.{all, kindOf, bits, Site, Sheet}
-use Rattle.labelling.specs.Layout.{tiedOf, tied, heightOf, siteShare, isUsed, usedFrom, usedOf, leftEnd, countOf, backbones, drops, lengthOf, brokenIn, tieWords, layoutWords, statedCount, statedLength, tiesIn, isTie, isLayout, brokenBy, isLawful, answerOf, layoutBody, layoutTies, wordsFor}
+use Rattle.labelling.specs.Layout.{tiedOf, tied, heightOf, siteShare, isUsed, usedFrom, usedOf, leftEnd, countOf, backbones, drops, lengthOf, brokenIn, tieWord, tieWords, firstWord, layoutWords, statedCount, statedLength, tiesIn, isTie, isLayout, brokenBy, isLawful, answerOf, layoutBody, layoutTies, wordsFor}
 use Rattle.labelling.specs.Promise.{areWords, same}
 use Rattle.lists.proofs.Tests.{by-test, and-l, and-r, and-i, eqb-self}
 use Rattle.sheet.proofs.Accepted.{Sound, lowY, lowN}
-use Rattle.labelling.proofs.Best.{Obeys, below}
+use Rattle.labelling.proofs.Best.{Obeys, lowTies}
 
 -- SIZES
 pub count-used : (k n : ℕ) (js : List ℕ) → length (usedFrom k n js) ≤ n
@@ -22,56 +23,56 @@ count-used k zero js = omega arith
 count-used k (suc n) js =
     by-test (isUsed k js) (λ e. rw e (omega (arith, count-used (suc k) n js))) λ e. rw e (omega (arith, count-used (suc k) n js))
 
-backbones-le : (s : Sheet) (js ks : List ℕ) → s .width < 16384 → backbones s js ks ≤ length ks * 16383
+backbones-le : (s : Sheet) (js ks : List ℕ) → s .width < numberTop → backbones s js ks ≤ length ks * mostNumber
 unfolding backbones
 backbones-le s js [] h = omega arith
 backbones-le s js (k ∷ ks) h = short (s .width) (leftEnd s js k) (backbones s js ks) (length ks) h (backbones-le s js ks h)
   where
-    short : (w l b n : ℕ) → w < 16384 → b ≤ n * 16383 → w - l + b ≤ suc n * 16383
+    short : (w l b n : ℕ) → w < numberTop → b ≤ n * mostNumber → w - l + b ≤ suc n * mostNumber
     short w l b n h i = omega arith
 
-pub height-low : (hs : List ℕ) (k : ℕ) → all lowN hs ≡ true → getD hs k 0 < 16384
+pub height-low : (hs : List ℕ) (k : ℕ) → all lowN hs ≡ true → getD hs k 0 < numberTop
 unfolding all
 height-low [] k h = omega arith
-height-low (x ∷ hs) zero h = ltb-true x 16384 (and-l (lowN x) (all lowN hs) h)
+height-low (x ∷ hs) zero h = ltb-true x numberTop (and-l (lowN x) (all lowN hs) h)
 height-low (x ∷ hs) (suc k) h = height-low hs k (and-r (lowN x) (all lowN hs) h)
 
 -- a site's share is at most the greatest number
-pub share-le : (s : Sheet) (a b : ℕ) → a < 16384 → b < 16384 → siteShare s a b ≤ 16383
+pub share-le : (s : Sheet) (a b : ℕ) → a < numberTop → b < numberTop → siteShare s a b ≤ mostNumber
 unfolding siteShare
 share-le s a b p q = omega arith
 
-drops-le : (s : Sheet) (ss : List Site) (js : List ℕ) → all lowN (s .slots) ≡ true → all lowY ss ≡ true → drops s (tiedOf ss js) ≤ length ss * 16383
+drops-le : (s : Sheet) (ss : List Site) (js : List ℕ) → all lowN (s .slots) ≡ true → all lowY ss ≡ true → drops s (tiedOf ss js) ≤ length ss * mostNumber
 unfolding drops tiedOf all
 drops-le s [] js h k = omega arith
 drops-le s (t ∷ ss) [] h k = omega arith
 drops-le s (t ∷ ss) (j ∷ js) h k =
     omega (
       arith,
-      share-le s (heightOf s j) (t .y) (height-low (s .slots) j h) (ltb-true (t .y) 16384 (and-l (lowY t) (all lowY ss) k)),
+      share-le s (heightOf s j) (t .y) (height-low (s .slots) j h) (ltb-true (t .y) numberTop (and-l (lowY t) (all lowY ss) k)),
       drops-le s ss js h (and-r (lowY t) (all lowY ss) k),
     )
 
-pub count-low : (s : Sheet) → Sound s → (js : List ℕ) → countOf s js ≤ 48
+pub count-low : (s : Sheet) → Sound s → (js : List ℕ) → countOf s js ≤ mostSlots
 count-low s o js = omega (arith, count-used 0 (length (s .slots)) js, o .few-slots)
 
-pub length-low : (s : Sheet) → Sound s → (js : List ℕ) → lengthOf s js < 2097152
+pub length-low : (s : Sheet) → Sound s → (js : List ℕ) → lengthOf s js < lengthTop
 length-low s o js =
     add (length (usedOf s js)) (length (s .sites)) (backbones s js (usedOf s js)) (drops s (tied s js)) (count-low s o js) (o .few-sites)
     (backbones-le s js (usedOf s js) (o .narrow)) (drops-le s (s .sites) js (o .heights) (o .ys))
   where
-    add : (u n b d : ℕ) → u ≤ 48 → n ≤ 32 → b ≤ u * 16383 → d ≤ n * 16383 → b + d < 2097152
+    add : (u n b d : ℕ) → u ≤ mostSlots → n ≤ mostSites → b ≤ u * mostNumber → d ≤ n * mostNumber → b + d < lengthTop
     add u n b d p q r t = omega arith
 
 -- TIES AS WORDS
-pub ties-of-words : (m : ℕ) (js : List ℕ) → m ≤ 256 → below m js ≡ true → tiesIn (tieWords js) ≡ js
+pub ties-of-words : (m : ℕ) (js : List ℕ) → m ≤ byteTop → lowTies m js ≡ true → tiesIn (tieWords js) ≡ js
 unfolding tiesIn tieWords all
 ties-of-words m [] h b = refl
 ties-of-words m (j ∷ js) h b =
-    let l : j < m = ltb-true j m (and-l (ltb j m) (below m js) b) in
-    ap₂ (λ (a : ℕ) (b : List ℕ). a ∷ b) (low j (omega arith)) (ties-of-words m js h (and-r (ltb j m) (below m js) b))
+    let l : j < m = ltb-true j m (and-l (ltb j m) (lowTies m js) b) in
+    ap₂ (λ (a : ℕ) (b : List ℕ). a ∷ b) (low j (omega arith)) (ties-of-words m js h (and-r (ltb j m) (lowTies m js) b))
   where
-    low : (j : ℕ) → j < 256 → bits (9 * 268435456 + j) 0 8 ≡ j
+    low : (j : ℕ) → j < byteTop → bits (tieWord j) 0 8 ≡ j
     low j h = omega arith
 
 pub length-tieWords : (js : List ℕ) → length (tieWords js) ≡ length js
@@ -79,26 +80,26 @@ unfolding tieWords
 length-tieWords [] = refl
 length-tieWords (j ∷ js) = ap suc (length-tieWords js)
 
-pub all-ties : (s : Sheet) (js : List ℕ) → length (s .slots) ≤ 256 → below (length (s .slots)) js ≡ true → all (isTie s) (tieWords js) ≡ true
+pub all-ties : (s : Sheet) (js : List ℕ) → length (s .slots) ≤ byteTop → lowTies (length (s .slots)) js ≡ true → all (isTie s) (tieWords js) ≡ true
 unfolding tieWords all
 all-ties s [] h b = refl
 all-ties s (j ∷ js) h b =
-    let l : j < length (s .slots) = ltb-true j (length (s .slots)) (and-l (ltb j (length (s .slots))) (below (length (s .slots)) js) b) in
-    and-i (tie j (length (s .slots)) h l) (all-ties s js h (and-r (ltb j (length (s .slots))) (below (length (s .slots)) js) b))
+    let l : j < length (s .slots) = ltb-true j (length (s .slots)) (and-l (ltb j (length (s .slots))) (lowTies (length (s .slots)) js) b) in
+    and-i (tie j (length (s .slots)) h l) (all-ties s js h (and-r (ltb j (length (s .slots))) (lowTies (length (s .slots)) js) b))
   where
-    tie : (j m : ℕ) → m ≤ 256 → j < m →
-        (eqb (kindOf (9 * 268435456 + j)) 9 && eqb (bits (9 * 268435456 + j) 8 20) 0 && ltb (bits (9 * 268435456 + j) 0 8) m) ≡ true
+    tie : (j m : ℕ) → m ≤ byteTop → j < m →
+        (eqb (kindOf (tieWord j)) 9 && eqb (bits (tieWord j) 8 20) 0 && ltb (bits (tieWord j) 0 8) m) ≡ true
     tie j m h l =
         and-i
-        (and-i (eq-eqb (kindOf (9 * 268435456 + j)) 9 (omega arith)) (eq-eqb (bits (9 * 268435456 + j) 8 20) 0 (omega arith)))
-        (lt-ltb (bits (9 * 268435456 + j) 0 8) m (omega arith))
+        (and-i (eq-eqb (kindOf (tieWord j)) 9 (omega arith)) (eq-eqb (bits (tieWord j) 8 20) 0 (omega arith)))
+        (lt-ltb (bits (tieWord j) 0 8) m (omega arith))
 
-pub ties-are-words : (m : ℕ) (js : List ℕ) → m ≤ 256 → below m js ≡ true → areWords (tieWords js) ≡ true
+pub ties-are-words : (m : ℕ) (js : List ℕ) → m ≤ byteTop → lowTies m js ≡ true → areWords (tieWords js) ≡ true
 unfolding tieWords areWords all
 ties-are-words m [] h b = refl
 ties-are-words m (j ∷ js) h b =
-    let l : j < m = ltb-true j m (and-l (ltb j m) (below m js) b) in
-    and-i (lt-ltb (9 * 268435456 + j) 4294967296 (omega arith)) (ties-are-words m js h (and-r (ltb j m) (below m js) b))
+    let l : j < m = ltb-true j m (and-l (ltb j m) (lowTies m js) b) in
+    and-i (lt-ltb (tieWord j) wordTop (omega arith)) (ties-are-words m js h (and-r (ltb j m) (lowTies m js) b))
 
 -- words in form are the words of their ties
 pub words-of-ties : (s : Sheet) (ws : List ℕ) → all (isTie s) ws ≡ true → ws ≡ tieWords (tiesIn ws)
@@ -112,10 +113,10 @@ words-of-ties s (w ∷ ws) h =
     (eqb-true (bits w 8 20) 0 (and-r (eqb (kindOf w) 9) (eqb (bits w 8 20) 0) t)))
     (words-of-ties s ws (and-r (isTie s w) (all (isTie s) ws) h))
   where
-    back : (w : ℕ) → kindOf w ≡ 9 → bits w 8 20 ≡ 0 → w ≡ 9 * 268435456 + bits w 0 8
+    back : (w : ℕ) → kindOf w ≡ 9 → bits w 8 20 ≡ 0 → w ≡ tieWord (bits w 0 8)
     back w p q = omega arith
 
-pub ties-low : (s : Sheet) (ws : List ℕ) → all (isTie s) ws ≡ true → below (length (s .slots)) (tiesIn ws) ≡ true
+pub ties-low : (s : Sheet) (ws : List ℕ) → all (isTie s) ws ≡ true → lowTies (length (s .slots)) (tiesIn ws) ≡ true
 unfolding tiesIn all
 ties-low s [] h = refl
 ties-low s (w ∷ ws) h =
@@ -128,10 +129,10 @@ length-tiesIn [] = refl
 length-tiesIn (w ∷ ws) = ap suc (length-tiesIn ws)
 
 -- THE ANSWER'S WORDS state what they should
-pub stated-count : (c l : ℕ) (js : List ℕ) → c < 128 → l < 2097152 → statedCount (layoutWords c l js) ≡ c
+pub stated-count : (c l : ℕ) (js : List ℕ) → c < countTop → l < lengthTop → statedCount (layoutWords c l js) ≡ c
 stated-count c l js p q = omega arith
 
-pub stated-length : (c l : ℕ) (js : List ℕ) → c < 128 → l < 2097152 → statedLength (layoutWords c l js) ≡ l
+pub stated-length : (c l : ℕ) (js : List ℕ) → c < countTop → l < lengthTop → statedLength (layoutWords c l js) ≡ l
 stated-length c l js p q = omega arith
 
 pub same-self : (ws : List ℕ) → same ws ws ≡ true
@@ -195,7 +196,7 @@ written s (w ∷ ws) f z c l =
       written = ap₂ (λ (a : ℕ) (b : List ℕ). a ∷ b) (back w (countOf s (tiesIn ws)) (lengthOf s (tiesIn ws)) (f .kind) c l) (words-of-ties s ws (f .ties));
     }
   where
-    back : (w c l : ℕ) → kindOf w ≡ 8 → bits w 21 7 ≡ c → bits w 0 21 ≡ l → w ≡ 8 * 268435456 + c * 2097152 + l
+    back : (w c l : ℕ) → kindOf w ≡ 8 → bits w 21 7 ≡ c → bits w 0 21 ≡ l → w ≡ firstWord c l
     back w c l k p q = omega arith
 
 pub lawful-obeys : (s : Sheet) (b : List ℕ) → isLawful s b ≡ true → Written s b
@@ -210,12 +211,12 @@ answer-ties s o js k = ties-of-words (length (s .slots)) js (omega (arith, o .fe
 
 pub answer-count : (s : Sheet) → Sound s → (js : List ℕ) → statedCount (answerOf s js) ≡ countOf s js
 answer-count s o js =
-    let c : countOf s js ≤ 48 = count-low s o js in
+    let c : countOf s js ≤ mostSlots = count-low s o js in
     stated-count (countOf s js) (lengthOf s js) js (omega arith) (length-low s o js)
 
 pub answer-length : (s : Sheet) → Sound s → (js : List ℕ) → statedLength (answerOf s js) ≡ lengthOf s js
 answer-length s o js =
-    let c : countOf s js ≤ 48 = count-low s o js in
+    let c : countOf s js ≤ mostSlots = count-low s o js in
     stated-length (countOf s js) (lengthOf s js) js (omega arith) (length-low s o js)
 
 pub obeys-formed : (s : Sheet) → Sound s → (js : List ℕ) → Obeys s js → Formed s (answerOf s js)
@@ -229,7 +230,7 @@ obeys-formed s o js k =
     more : (a b : ℕ) → a ≡ b → suc a ≡ b + 1
     more a b e = omega arith
 
-    eight : (c l : ℕ) → c ≤ 48 → l < 2097152 → kindOf (8 * 268435456 + c * 2097152 + l) ≡ 8
+    eight : (c l : ℕ) → c ≤ mostSlots → l < lengthTop → kindOf (firstWord c l) ≡ 8
     eight c l p q = omega arith
 
 pub obeys-lawful : (s : Sheet) → Sound s → (js : List ℕ) → Obeys s js → isLawful s (answerOf s js) ≡ true
@@ -246,8 +247,8 @@ obeys-lawful s o js k =
 pub answer-words : (s : Sheet) → Sound s → (js : List ℕ) → Obeys s js → areWords (answerOf s js) ≡ true
 unfolding areWords
 answer-words s o js k =
-    and-i (lt-ltb (8 * 268435456 + countOf s js * 2097152 + lengthOf s js) 4294967296 (small (countOf s js) (lengthOf s js) (count-low s o js) (length-low s o js)))
+    and-i (lt-ltb (firstWord (countOf s js) (lengthOf s js)) wordTop (small (countOf s js) (lengthOf s js) (count-low s o js) (length-low s o js)))
     (ties-are-words (length (s .slots)) js (omega (arith, o .few-slots)) (k .low))
   where
-    small : (c l : ℕ) → c ≤ 48 → l < 2097152 → 8 * 268435456 + c * 2097152 + l < 4294967296
+    small : (c l : ℕ) → c ≤ mostSlots → l < lengthTop → firstWord c l < wordTop
     small c l p q = omega arith

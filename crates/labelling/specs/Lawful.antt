@@ -6,8 +6,9 @@ use mathlib.Core.Bool.{true}
 use mathlib.Core.List.{List}
 use Prim.Native.Nat.{ℕ, zero, suc, _≤_, _<_}
 use lib.ListN.{length, getD}
-use Rattle.sheet.specs.Sheet.{Colour, Sheet, rankOf}
-use Rattle.labelling.specs.Layout.{siteAt, tied, apart, heightOf, isUsed, usedOf, leftEnd, slotsOf, noColour, isFar, countOf, lengthOf, statedCount, statedLength, firstNumber, secondNumber, layoutTies}
+use Rattle.sheet.specs.Limits.{unbounded}
+use Rattle.sheet.specs.Sheet.{kindOf, bits, Colour, Sheet, rankOf}
+use Rattle.labelling.specs.Layout.{siteAt, tied, apart, heightOf, isUsed, usedOf, leftEnd, slotsOf, noColour, isFar, countOf, lengthOf, statedCount, statedLength, firstNumber, secondNumber, layoutTies, wordsFor}
 
 -- one tie for each site, to a slot below m
 pub record Ties (s : Sheet) (js : List ℕ) : Type 0 where
@@ -20,7 +21,7 @@ RuleOne s js = (i j : ℕ) → i < length (s .sites) → j < length (s .sites) �
 
 -- 2: no colour uses more slots than its bound; 255 means unbounded
 abbrev pub Bounded : Sheet → (ties : List ℕ) → (colour : ℕ) → Colour → Type 0
-Bounded s js c k = (k .bound ≡ 255) ⊎ (length (usedOf s (slotsOf c (tied s js))) ≤ k .bound)
+Bounded s js c k = (k .bound ≡ unbounded) ⊎ (length (usedOf s (slotsOf c (tied s js))) ≤ k .bound)
 
 abbrev pub RuleTwo : Sheet → (ties : List ℕ) → Type 0
 RuleTwo s js = (c : ℕ) → c < length (s .colours) → Bounded s js c (getD (s .colours) c noColour)
@@ -41,18 +42,31 @@ RuleFour s js =
     (i k : ℕ) → i < length (s .sites) → isUsed k js ≡ true → (getD js i 0 ≡ k → ⊥) → leftEnd s js k ≤ (siteAt s i) .x →
     Miss (heightOf s k) ((siteAt s i) .y) (heightOf s (getD js i 0))
 
--- 5: a backbone lies at least D in height from every site of another label whose x is at or right of its left end
-abbrev pub Counted : Sheet → (left x : ℕ) → Type 0
-Counted s e x = e ≤ x
+-- 5: a backbone lies at least D in height from every site of another label whose x is at or right of its left end; a site at x is
+-- counted against a label with this left end
+abbrev pub CountsAgainst : Sheet → (left x : ℕ) → Type 0
+CountsAgainst s e x = e ≤ x
 
 abbrev pub RuleFive : Sheet → (ties : List ℕ) → Type 0
 RuleFive s js =
-    (i k : ℕ) → i < length (s .sites) → isUsed k js ≡ true → (getD js i 0 ≡ k → ⊥) → Counted s (leftEnd s js k) ((siteAt s i) .x) →
+    (i k : ℕ) → i < length (s .sites) → isUsed k js ≡ true → (getD js i 0 ≡ k → ⊥) → CountsAgainst s (leftEnd s js k) ((siteAt s i) .x) →
     s .gap ≤ apart (heightOf s k) ((siteAt s i) .y)
 
 -- 6: the count and the length that the layout's words state are those of its ties
 abbrev pub RuleSix : Sheet → (words : List ℕ) → Type 0
 RuleSix s b = (statedCount b ≡ countOf s (layoutTies b)) × (statedLength b ≡ lengthOf s (layoutTies b))
+
+-- A LAYOUT of a sheet, whoever wrote it: one word of kind 8, then for each site a word of kind 9, its slot (bits 7 to 0) below m and no
+-- spare bit (bits 27 to 8) set
+pub record TieOf (s : Sheet) (w : ℕ) : Type 0 where
+  pub kind : kindOf w ≡ 9
+  pub spare : bits w 8 20 ≡ 0
+  pub slot : bits w 0 8 < length (s .slots)
+
+pub record LayoutOf (s : Sheet) (b : List ℕ) : Type 0 where
+  pub long : length b ≡ wordsFor s
+  pub first : kindOf (getD b 0 0) ≡ 8
+  pub ties : (i : ℕ) → i < length (s .sites) → TieOf s (getD b (suc i) 0)
 
 -- rules 1 to 5 of ties
 pub record Rules (s : Sheet) (js : List ℕ) : Type 0 where

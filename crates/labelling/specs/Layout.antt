@@ -6,6 +6,7 @@ use mathlib.Core.Option.{Option, none, some}
 use Prim.Native.Nat.{ℕ, zero, suc, _+_, _*_, _-_}
 use lib.Dec.{ltb, leb, eqb}
 use lib.ListN.{length, getD, drop}
+use Rattle.sheet.specs.Limits.{unbounded, kindTop, lengthTop}
 use Rattle.sheet.specs.Sheet.{all, kindOf, bits, Site, Colour, Sheet, rankOf, rankTop, sheetIn, sheetFault}
 
 -- SITES, SLOTS AND TIES
@@ -19,7 +20,7 @@ abbrev pub noSite : Site
 noSite = record { x = 0; y = 0; colour = 0 }
 
 abbrev pub noColour : Colour
-noColour = record { bound = 255; sites = 0 }
+noColour = record { bound = unbounded; sites = 0 }
 
 -- the site of a number
 abbrev pub siteAt : Sheet → ℕ → Site
@@ -95,7 +96,7 @@ slotsOf c (t ∷ ts) = cond (eqb (t .site .colour) c) (t .slot ∷ slotsOf c ts)
 unfoldable pub boundsKept : Sheet → (ties : List ℕ) → (colour : ℕ) → List Colour → Bool
 boundsKept s js c [] = true
 boundsKept s js c (k ∷ ks) =
-    (eqb (k .bound) 255 || leb (length (usedOf s (slotsOf c (tied s js)))) (k .bound)) && boundsKept s js (suc c) ks
+    (eqb (k .bound) unbounded || leb (length (usedOf s (slotsOf c (tied s js)))) (k .bound)) && boundsKept s js (suc c) ks
 
 -- RULE 3: any two used slots are at least D apart in height
 -- two labels, by slot and colour, are far enough apart
@@ -189,14 +190,20 @@ brokenIn s js =
     (cond (not (all (missesAll s js) (tied s js))) 4 (cond (not (all (clearsAll s js) (tied s js))) 5 0))))
 
 -- LAYOUTS AS WORDS
--- for each site in sheet order one word of kind 9, bits 7 to 0 its slot
+-- a tie: a word of kind 9, bits 7 to 0 its slot; for each site in sheet order one
+abbrev pub tieWord : (slot : ℕ) → ℕ
+tieWord k = 9 * kindTop + k
+
 unfoldable pub tieWords : (ties : List ℕ) → List ℕ
 tieWords [] = []
-tieWords (k ∷ ks) = (9 * 268435456 + k) ∷ tieWords ks
+tieWords (k ∷ ks) = tieWord k ∷ tieWords ks
 
--- one word of kind 8, bits 27 to 21 the count and bits 20 to 0 the length (2097152 is 2^21), then the ties
+-- a layout's first word: kind 8, bits 27 to 21 the count and bits 20 to 0 the length; then the ties
+abbrev pub firstWord : (count size : ℕ) → ℕ
+firstWord c l = 8 * kindTop + c * lengthTop + l
+
 abbrev pub layoutWords : (count size : ℕ) → (ties : List ℕ) → List ℕ
-layoutWords c l js = (8 * 268435456 + c * 2097152 + l) ∷ tieWords js
+layoutWords c l js = firstWord c l ∷ tieWords js
 
 -- the labels and the length that a layout states
 abbrev pub statedCount : (words : List ℕ) → ℕ

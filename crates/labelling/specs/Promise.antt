@@ -8,6 +8,7 @@ use mathlib.Core.Option.{none, some}
 use Prim.Native.Nat.{ℕ, _≤_, _<_}
 use lib.Dec.{ltb, eqb}
 use lib.ListN.{length, getD, take, drop, replicate}
+use Rattle.sheet.specs.Limits.{wordTop}
 use Rattle.sheet.specs.Sheet.{all, kindOf, Sheet, sheetIn, sheetFault, workFor}
 use Rattle.labelling.specs.Layout.{isLayout, isLawful, brokenBy, statedCount, statedLength, slotsByRank, comesFirst, best, answer, sheetPart, layoutPart, judgeFault, judged, layoutWords, layoutTies, wordsFor}
 use Rattle.labelling.specs.Lawful.{Ties, Rules, Lawful, LeastBroken, IsAnswer}
@@ -16,7 +17,7 @@ use Rattle.labelling.specs.Entry.{isNone, makeFault, makeAnswer, makeWor
 -- numbers that are 32-bit words
 unfoldable pub areWords : List ℕ → Bool
 areWords [] = true
-areWords (w ∷ ws) = ltb w 4294967296 && areWords ws
+areWords (w ∷ ws) = ltb w wordTop && areWords ws
 
 -- DEMAND 3: the maker's layout is the best of all
 

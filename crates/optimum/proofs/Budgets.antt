@@ -10,6 +10,7 @@ use borrow.Author.Tests.{eqb-false}
 use Rattle.lists.proofs.Tests.{by-test, by-order}
 use Rattle.search.specs.Radix.{place}
 use Rattle.search.proofs.Digits.{Positive, product, product-pos, digit-full, Drawn, drawn}
+use Rattle.sheet.specs.Limits.{unbounded}
 use Rattle.sheet.specs.Sheet.{Colour, Sheet, productOf}
 use Rattle.labelling.specs.Layout.{noColour}
 use Rattle.optimum.specs.Budgets.{boundOf, isUnbounded, radixOf, radicesOf, digitIn, drawsOf, fullBudget}
@@ -19,7 +20,7 @@ use Rattle.optimum.specs.Budgets.{boundOf, isUnbounded, radixOf, radices
 pub positive : (ks : List Colour) → Positive (radicesOf ks)
 unfolding Positive radicesOf
 positive [] = tt
-positive (k ∷ ks) = (by-test (eqb (k .bound) 255) (λ e. rw e (omega arith)) (λ e. rw e (omega arith)), positive ks)
+positive (k ∷ ks) = (by-test (eqb (k .bound) unbounded) (λ e. rw e (omega arith)) (λ e. rw e (omega arith)), positive ks)
 
 pub radix-at : (ks : List Colour) (c : ℕ) → getD (radicesOf ks) c 1 ≡ radixOf (getD ks c noColour)
 unfolding radicesOf
@@ -35,7 +36,7 @@ radices-long (k ∷ ks) = ap suc (radices-long ks)
 pub product-is : (ks : List Colour) → productOf ks ≡ product (radicesOf ks)
 unfolding radicesOf productOf product
 product-is [] = refl
-product-is (k ∷ ks) = rw (product-is ks) (by-test (eqb (k .bound) 255) (λ e. rw e) (λ e. rw e))
+product-is (k ∷ ks) = rw (product-is ks) (by-test (eqb (k .bound) unbounded) (λ e. rw e) (λ e. rw e))
 
 pub full-low : (s : Sheet) → fullBudget s < productOf (s .colours)
 full-low s = rw (product-is (s .colours)) (omega (arith, product-pos _ (positive (s .colours))))
@@ -45,7 +46,7 @@ full-low s = rw (product-is (s .colours)) (omega (arith, product-pos _ (positive
 pub bounded-low : (s : Sheet) (c : ℕ) → isUnbounded s c ≡ false → c < length (s .colours)
 bounded-low s c u =
     by-order (length (s .colours)) c
-    (λ h. absurd (eqb-false (boundOf s c) 255 u (ap (λ (k : Colour). k .bound) (List·getD-eq-default (s .colours) noColour h))))
+    (λ h. absurd (eqb-false (boundOf s c) unbounded u (ap (λ (k : Colour). k .bound) (List·getD-eq-default (s .colours) noColour h))))
     (λ h. h)
 
 -- THE FULL BUDGET's digits are the bounds

@@ -16,8 +16,8 @@ use Rattle.search.specs.Semi.{fold}
 use Rattle.search.proofs.Semi.{fold-prod, one-prod}
 use Rattle.search.specs.Split.{conv, just}
 use Rattle.search.proofs.Split.{semiring}
-use Rattle.search.specs.Radix.{below, maskOf, convMasked}
-use Rattle.search.proofs.Radix.{sharing, conv-masked}
+use Rattle.search.specs.Radix.{below}
+use Rattle.search.proofs.Radix.{sharing}
 use Rattle.search.proofs.Sums.{listing-first}
 use Rattle.search.specs.Plan.{T, Rest}
 use Rattle.search.proofs.Plan.{T-nil, T-in, T-out, Rest-one, Rest-two}
@@ -87,12 +87,6 @@ module _ (P : Instance) (C R : ℕ) where
 
   abbrev pub Level : List ℕ → List Point → Type 0
   Level low ss = (p : Strip) (v : ℕ) → InRange p → v < R → getD low (cellOf P C R p v) 0 ≡ T (rulesOf P) ss p v
-
-  -- what two strips cost that share the budget u, by the mask of what may be taken from u: an end in itself, for code that goes by bits
-  pub split-masked : (low : List ℕ) (p q : Strip) (u : ℕ)
-      → splitCells P C R low p q u ≡ convMasked top (maskOf radices u) (λ w. getD low (cellOf P C R p w) 0) (λ w. getD low (cellOf P C R q w) 0) u
-  unfolding splitCells conv
-  split-masked low p q u = sym (conv-masked top radices (λ w. getD low (cellOf P C R p w) 0) (λ w. getD low (cellOf P C R q w) 0) u)
 
   module _ (rising : Rising (P .slots)) where
     pub split-two : (low : List ℕ) (ss : List Point) (p q : Strip) (u : ℕ) → Row low ss p → Row low ss q → u < R
@@ -172,7 +166,7 @@ module _ (P : Instance) (C R : ℕ) where
     level-holds [] h = level-nil
     level-holds (s ∷ ss) h = level-cons (level P C R ss) (level P C R (s ∷ ss)) s ss (h .0) (level-holds ss (h .1)) (listing-first (entryOf P C R (level P C R ss) s) (cells P C R))
 
-    -- ---- the sharing over the open labels
+    -- ---- the budget split over the strips between the open labels
 
     abbrev pub Holds : List ℕ → (ℕ → ℕ) → Type 0
     Holds acc f = (v : ℕ) → v < R → getD acc v 0 ≡ f v

@@ -19,7 +19,7 @@ use Rattle.search.specs.Radix.{below}
 use Rattle.search.proofs.Radix.{sharing}
 use Rattle.search.specs.Plan.{Filled, Laws, Run, process, price as stripPrice, next as stripNext}
 use Rattle.search.proofs.Plan.{strips-independent}
-use Rattle.search.specs.Walk.{best, answer, First, costOf, walk}
+use Rattle.search.specs.Walk.{best, answer, Cheapest, costOf, walk}
 use Rattle.search.proofs.Walk.{answer-by, answer-first, answer-none, walk-cost}
 use Rattle.optimum.specs.Slots.{Slots, over, clearFrom}
 use Rattle.optimum.specs.Strips.{Point, Strip, Instance, inside, opens, joinsUp, joinsDown, cost, draw, children, rulesOf, stripsFrom, strips, holdFrom, hold, marked, State, price, next, labels, value, walked}
@@ -267,7 +267,7 @@ module _ (P : Instance) where
         (λ e. rw e (unfold holders inside in omega arith))
 
     pub laws : Laws (rulesOf P)
-    laws = record { shares = sharing radices; filled = filled; parts = λ p s k. inr (parts p s k) }
+    laws = record { splits = sharing radices; filled = filled; parts = λ p s k. inr (parts p s k) }
 
     -- one strip holds each site
     holders-from : (r i a ca : ℕ) (L M : List ℕ) (t : Point) → r + i ≡ m → a ≤ i → holders (inside P) t (stripsFrom P r i a ca L M) ≡ oneIf (over slots a (t .y))
@@ -393,7 +393,7 @@ module _ (P : Instance) where
     walked-is v ss =
         answer-by (labels P) (value P) Fit (λ x ss l. value-best x ss l) (λ x s k l h. next-fit x s k l) ss (start v) (start-fit v)
 
-    pub walked-first : (v : ℕ) (ss : List Point) (ks : List ℕ) → walked P v ss ≡ some ks → First (labels P) (start v) ss ks
+    pub walked-first : (v : ℕ) (ss : List Point) (ks : List ℕ) → walked P v ss ≡ some ks → Cheapest (labels P) (start v) ss ks
     walked-first v ss ks e = answer-first (labels P) (start v) ss ks (sym (walked-is v ss) ∙ e)
 
     pub walked-none : (v : ℕ) (ss : List Point) → walked P v ss ≡ none → (ks : List ℕ) → costOf (labels P) (start v) ss ks ≡ top

@@ -5,6 +5,7 @@ use Prim.Native.Nat.{ℕ, _+_, _-_}
 use lib.Dec.{eqb}
 use lib.ListN.{getD}
 use Rattle.search.specs.Radix.{digitOf, place}
+use Rattle.sheet.specs.Limits.{unbounded}
 use Rattle.sheet.specs.Sheet.{Colour, Sheet, productOf}
 use Rattle.labelling.specs.Layout.{noColour}
 
@@ -14,11 +15,11 @@ boundOf s c = (getD (s .colours) c noColour) .bound
 
 -- 255 means unbounded
 abbrev pub isUnbounded : Sheet → (colour : ℕ) → Bool
-isUnbounded s c = eqb (boundOf s c) 255
+isUnbounded s c = eqb (boundOf s c) unbounded
 
 -- the radix of a colour's digit, and those of all colours
 abbrev pub radixOf : Colour → ℕ
-radixOf k = cond (eqb (k .bound) 255) 1 (k .bound + 1)
+radixOf k = cond (eqb (k .bound) unbounded) 1 (k .bound + 1)
 
 unfoldable pub radicesOf : List Colour → List ℕ
 radicesOf [] = []
@@ -29,7 +30,7 @@ abbrev pub digitIn : Sheet → (colour budget : ℕ) → ℕ
 digitIn s c v = digitOf (radicesOf (s .colours)) c v
 
 -- what a label of the colour draws: one from its digit, nothing if it is unbounded
-abbrev pub drawAt : (radices : List ℕ) → (colour : ℕ) → (unbounded : Bool) → ℕ
+abbrev pub drawAt : (radices : List ℕ) → (colour : ℕ) → (without : Bool) → ℕ
 drawAt rs c u = cond u 0 (place rs c)
 
 unfoldable pub drawsOf : Sheet → (colour : ℕ) → ℕ

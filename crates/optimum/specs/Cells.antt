@@ -1,27 +1,23 @@
 -- The one-sided table as words, as code fills and reads it: a level of cells for each number of sites left, a cell for each strip
--- and share; the sharing over the open labels in a list of R numbers; the walk by these.
+-- and budget; the least cost of the strips between the open labels at each of R budgets.
 use mathlib.Core.Bool.{cond, _||_}
-use mathlib.Core.Option.{Option}
 use mathlib.Core.List.{List, [], _∷_}
 use Prim.Native.Nat.{ℕ, zero, suc, _+_, _-_, _*_, _/_, _%_}
 use lib.Dec.{eqb}
-use lib.ListN.{length, getD, replicate}
+use lib.ListN.{getD, replicate}
 use Rattle.search.specs.Cost.{plus, least}
 use Rattle.search.specs.Radix.{below}
 use Rattle.search.specs.Split.{conv, just}
 use Rattle.search.specs.Sums.{listing}
-use Rattle.search.specs.Walk.{answerBy}
-use Rattle.sheet.specs.Sheet.{Sheet, productOf}
 use Rattle.optimum.specs.Slots.{Slots}
-use Rattle.optimum.specs.Strips.{Point, Strip, Instance, inside, opens, joinsUp, joinsDown, State, labels}
-use Rattle.optimum.specs.OneSided.{instanceOf, order, pointsAt, tiesOf}
+use Rattle.optimum.specs.Strips.{Point, Strip, Instance, inside, opens, joinsUp, joinsDown, State}
 
 -- C colours, and budgets below R
 module _ (P : Instance) (C R : ℕ) where
   open Instance P using (slots, top, markCount, turn, lead, drawOf, radices, word)
   open Slots slots using (m, height, share)
 
-  -- how many cells a level has; the cell of a strip and a share; the strip and the share of a cell
+  -- how many cells a level has; the cell of a strip and a budget; the strip and the budget of a cell
   abbrev pub cells : ℕ
   cells = (m + 2) * (C + 1) * (m + 2) * (C + 1) * markCount * R
 
@@ -34,7 +30,7 @@ module _ (P : Instance) (C R : ℕ) where
   unfoldable pub budgetAt : ℕ → ℕ
   budgetAt i = i % R
 
-  -- what two strips cost that share the budget u, by the level below
+  -- what two strips cost between which the budget u is split, by the level below
   unfoldable pub splitCells : (low : List ℕ) → Strip → Strip → ℕ → ℕ
   splitCells low p q u = conv top (below radices) (λ w. getD low (cellOf p w) 0) (λ w. getD low (cellOf q w) 0) u
 
@@ -56,7 +52,7 @@ module _ (P : Instance) (C R : ℕ) where
   level [] = replicate cells 0
   level (s ∷ ss) = listing (entryOf (level ss) s) 0 cells
 
-  -- one strip more takes its share, at each budget below R
+  -- one strip more takes its part, at each budget below R
   unfoldable pub joinCells : (low : List ℕ) → (acc : List ℕ) → Strip → List ℕ
   joinCells low acc p = listing (conv top (below radices) (λ w. getD acc w 0) (λ w. getD low (cellOf p w) 0)) 0 R
 
@@ -73,9 +69,3 @@ module _ (P : Instance) (C R : ℕ) where
   -- the least cost of tying the sites ss from a state, by their level
   unfoldable pub valueCells : State P → List Point → ℕ
   valueCells x ss = getD (foldCells (level ss) m 0 0 0 (x .0) (x .2) startCells) (x .1) 0
-
--- THE ANSWER by cells
-unfoldable pub oneSidedCells : Sheet → Option (List ℕ)
-oneSidedCells s =
-    tiesOf s (answerBy (labels (instanceOf s)) (valueCells (instanceOf s) (length (s .colours)) (productOf (s .colours)))
-    (replicate (length (s .slots)) 0, productOf (s .colours) - 1, replicate (suc (length (s .slots))) 0) (pointsAt s (order s)))

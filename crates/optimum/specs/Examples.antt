@@ -1,4 +1,4 @@
--- The models on document 01's starred examples, and on sheets that tell the answer from what a misreading gives.
+-- The models on document 01's starred examples, and on sheets on which a misreading gives another answer.
 use mathlib.Core.Path.{_≡_}
 use mathlib.Core.Bool.{true}
 use mathlib.Core.List.{List, [], _∷_}
@@ -42,7 +42,7 @@ restToNearest = 268468228 ∷ 536870916 ∷ 536870918 ∷ 805306370 ∷ 10738073
 abbrev pub upperPartFirst : List ℕ
 upperPartFirst = 335577093 ∷ 536870912 ∷ 536870917 ∷ 536870918 ∷ 536870919 ∷ 805306370 ∷ 1073758213 ∷ 1073823752 ∷ 1073790977 ∷ []
 
--- each part settled by itself, with the first share that is best, and equals on both sides of a shared bound: shortest, gap 1,
+-- each part settled by itself, with the first way to split the bound that is best, and equals on both sides: shortest, gap 1,
 -- width 4, slots 1 to 5, bound 2, sites (0,2) (1,2) (2,5) (4,0)
 abbrev pub equalsOnBothSides : List ℕ
 equalsOnBothSides =
@@ -61,15 +61,15 @@ abbrev pub inSheetOrder : List ℕ
 inSheetOrder = 469778436 ∷ 536870912 ∷ 536870918 ∷ 805306369 ∷ 1073790977 ∷ 805306369 ∷ 1073758209 ∷ []
 
 -- document 01's misreadings in its order, then what it says of joining, and of the bound that two parts share
-abbrev pub Telling : Type 0
-Telling =
+abbrev pub Misreadings : Type 0
+Misreadings =
     Worse oneSided roundedAtCuts (2 ∷ 1 ∷ []) (2 ∷ 0 ∷ []) × Worse oneSided packedAtCuts (0 ∷ 0 ∷ 0 ∷ []) (1 ∷ 0 ∷ 1 ∷ []) ×
     Forbidden oneSided otherColoursOnly (1 ∷ 1 ∷ []) (1 ∷ 0 ∷ []) 5 × Forbidden oneSided throughASite (1 ∷ 0 ∷ []) (0 ∷ 1 ∷ []) 4 ×
     Worse oneSided restToNearest (0 ∷ 0 ∷ []) (1 ∷ 0 ∷ []) × Worse oneSided upperPartFirst (1 ∷ 3 ∷ 1 ∷ []) (1 ∷ 1 ∷ 0 ∷ []) ×
     Worse oneSided joinedAlways (0 ∷ 1 ∷ []) (0 ∷ 0 ∷ []) × Worse oneSided equalsOnBothSides (1 ∷ 1 ∷ 1 ∷ 0 ∷ []) (1 ∷ 1 ∷ 4 ∷ 1 ∷ [])
 
-abbrev pub TellingTwoSided : Type 0
-TellingTwoSided = Worse twoSided restToNearestTwoSided (0 ∷ 0 ∷ []) (0 ∷ 1 ∷ []) × Worse twoSided inSheetOrder (1 ∷ 0 ∷ []) (0 ∷ 1 ∷ [])
+abbrev pub MisreadingsTwoSided : Type 0
+MisreadingsTwoSided = Worse twoSided restToNearestTwoSided (0 ∷ 0 ∷ []) (0 ∷ 1 ∷ []) × Worse twoSided inSheetOrder (1 ∷ 0 ∷ []) (0 ∷ 1 ∷ [])
 
 -- document 01's starred examples for the maker; on sheet A slots 2, 2, 0 come later
 abbrev pub Starred : Type 0

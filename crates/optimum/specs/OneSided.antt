@@ -8,7 +8,7 @@ use lib.Dec.{eqb, leb}
 use lib.ListN.{length, set, replicate}
 use Rattle.search.specs.Cost.{least, first}
 use Rattle.sheet.specs.Sheet.{Sheet, rankTop}
-use Rattle.labelling.specs.Layout.{siteAt}
+use Rattle.labelling.specs.Layout.{siteAt, tieWord}
 use Rattle.labelling.specs.Lawful.{rankAt}
 use Rattle.optimum.specs.Slots.{sheetSlots}
 use Rattle.optimum.specs.Strips.{Point, Strip, Instance, walked}
@@ -38,6 +38,7 @@ turnOf s t k = 0
 unfoldable pub heldOf : Sheet → Strip → Point → Bool
 heldOf s p t = false
 
+-- the sheet as the one-sided table sees it
 abbrev pub instanceOf : Sheet → Instance
 instanceOf s =
     record {
@@ -54,25 +55,28 @@ instanceOf s =
       word = wordOf s;
     }
 
--- ---- the sites by rising x
+-- ---- the sites by rising x: "take the sites by rising x"
 
+-- the x of a site
 abbrev pub xOf : Sheet → ℕ → ℕ
 xOf s i = siteAt s i .x
 
 -- the least rank from a on, and the site that has it
-unfoldable pub nextRank : Sheet → (from : ℕ) → ℕ
-nextRank s a = least rankTop (length (s .sites)) (λ i. cond (leb a (rankAt s i)) (rankAt s i) rankTop)
+unfoldable pub rankFrom : Sheet → (from : ℕ) → ℕ
+rankFrom s a = least rankTop (length (s .sites)) (λ i. cond (leb a (rankAt s i)) (rankAt s i) rankTop)
 
 unfoldable pub siteOf : Sheet → (rank : ℕ) → ℕ
 siteOf s x = first (length (s .sites)) (λ i. eqb (rankAt s i) x)
 
+-- the numbers of so many sites by rising rank, from a rank on; of all sites
 unfoldable pub orderFrom : Sheet → (count from : ℕ) → List ℕ
 orderFrom s zero a = []
-orderFrom s (suc n) a = siteOf s (nextRank s a) ∷ orderFrom s n (suc (nextRank s a))
+orderFrom s (suc n) a = siteOf s (rankFrom s a) ∷ orderFrom s n (suc (rankFrom s a))
 
 unfoldable pub order : Sheet → List ℕ
 order s = orderFrom s (length (s .sites)) 0
 
+-- a site as the table sees it, and the sites of these numbers
 abbrev pub pointAt : Sheet → ℕ → Point
 pointAt s i = record { x = siteAt s i .x; y = siteAt s i .y; c = siteAt s i .colour }
 
@@ -87,23 +91,17 @@ scatter out [] ks = out
 scatter out (i ∷ is) [] = out
 scatter out (i ∷ is) (k ∷ ks) = scatter (set out i k) is ks
 
--- a layout's first word: kind 8, the count from bit 21 on, the length below it
-abbrev pub headWord : (count size : ℕ) → ℕ
-headWord c l = 8 * 268435456 + c * 2097152 + l
-
--- a tie as a word; the ties written in turn, that of site i to place i + 1 of the area
-abbrev pub tieWord : ℕ → ℕ
-tieWord k = 9 * 268435456 + k
-
+-- the ties written in turn, that of site i to place i + 1 of the area
 unfoldable pub writeTies : (out is ks : List ℕ) → List ℕ
 writeTies out [] ks = out
 writeTies out (i ∷ is) [] = out
 writeTies out (i ∷ is) (k ∷ ks) = writeTies (set out (suc i) (tieWord k)) is ks
 
+-- the walk's slots as ties, in sheet order
 abbrev pub tiesOf : Sheet → Option (List ℕ) → Option (List ℕ)
 tiesOf s none = none
 tiesOf s (some ks) = some (scatter (replicate (length (s .sites)) 0) (order s) ks)
 
--- THE ANSWER
+-- THE ANSWER: the ties of the best layout of a one-sided sheet, or none
 unfoldable pub oneSided : Sheet → Option (List ℕ)
 oneSided s = tiesOf s (walked (instanceOf s) (fullBudget s) (pointsAt s (order s)))

@@ -7,6 +7,7 @@ use lib.ListN.{length}
 use Rattle.sheet.specs.Sheet.{Sheet}
 use Rattle.labelling.specs.Layout.{heightOf, isFar, isClear, siteShare}
 
+-- the slots of a sheet, and what rules 3 and 5 and the length ask of them
 pub record Slots : Type 0 where
   -- how many there are; a slot's height
   pub m : ℕ

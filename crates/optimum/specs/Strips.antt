@@ -51,6 +51,7 @@ module _ (P : Instance) where
 
   -- ---- strips and steps
 
+  -- the site lies in the strip
   unfoldable pub inside : Strip → Point → Bool
   inside p s = over slots (p .a) (s .y) && under slots (p .b) (s .y)
 
@@ -66,20 +67,23 @@ module _ (P : Instance) where
   unfoldable pub joinsDown : Strip → Point → ℕ → Bool
   joinsDown p s k = eqb (p .b) (suc k) && ltb k m && eqb (p .cb) (suc (s .c)) && clearFrom slots (p .a) (s .y)
 
+  -- what a step costs: a label more and its backbone with the site's share, or the share alone; top if it is not lawful
   unfoldable pub cost : Strip → Point → ℕ → ℕ
   cost p s k =
       cond (opens p s k) (word 1 (lead (s .x) + share (height k) (s .y))) (cond (joinsUp p s k || joinsDown p s k) (word 0 (share (height k) (s .y))) top)
 
+  -- what a step draws from the budget: a label of the site's colour, if it opens one
   unfoldable pub draw : Strip → Point → ℕ → ℕ
   draw p s k = cond (opens p s k) (drawOf (s .c)) 0
 
+  -- what a step leaves of a strip: a new label cuts it into an upper and a lower part ("a new one cuts the rest")
   unfoldable pub children : Strip → Point → ℕ → List Strip
   children p s k =
       cond (opens p s k)
       (record { a = p .a; ca = p .ca; b = suc k; cb = suc (s .c); d = turn s k } ∷ record { a = suc k; ca = suc (s .c); b = p .b; cb = p .cb; d = 0 } ∷ [])
       (record { a = p .a; ca = p .ca; b = p .b; cb = p .cb; d = turn s k } ∷ [])
 
-  -- the table and its sharing: `T (rulesOf P)`, `Rest (rulesOf P)`; their equations are in search's Plan
+  -- the table, and strips between which a budget is split: `T (rulesOf P)`, `Rest (rulesOf P)`; their equations are in search's Plan
   abbrev pub rulesOf : Rules Strip Point
   rulesOf = record { top = top; m = m; below = below radices; inside = inside; cost = cost; draw = draw; children = children }
 
@@ -125,6 +129,7 @@ module _ (P : Instance) where
   unfoldable pub next : State → Point → ℕ → State
   next x s k = (set (x .0) k (suc (s .c)), x .1 - draw (hold (x .0) (x .2) (s .y)) s k, marked (x .0) (x .2) s k)
 
+  -- the steps of the walk, the sites by rising x
   abbrev pub labels : Process State Point
   labels = record { top = top; m = m; price = price; next = next; final = λ x. 0 }
 

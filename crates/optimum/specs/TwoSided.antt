@@ -13,6 +13,7 @@ use Rattle.optimum.specs.UsedSlots.{Instance, answer}
 unfoldable pub use Rattle.optimum.specs.Budgets.{radicesOf}
 pub use Rattle.optimum.specs.CostWord.{countUnit, lengthUnit}
 
+-- the sheet as the two-sided table sees it
 abbrev pub instanceOf : Sheet → Instance
 instanceOf s = record {
   slots = sheetSlots s;
@@ -29,6 +30,6 @@ instanceOf s = record {
   colour = λ i. (siteAt s i) .colour;
 }
 
--- THE ANSWER
+-- THE ANSWER: the ties of the best layout of a two-sided sheet, or none
 unfoldable pub twoSided : Sheet → Option (List ℕ)
 twoSided s = answer (instanceOf s)

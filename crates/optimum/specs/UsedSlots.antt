@@ -67,10 +67,11 @@ module _ (G : Instance) where
     unfoldable pub siteCost : (a ca b cb i : ℕ) → ℕ
     siteCost a ca b cb i = min (upCost a ca b i) (downCost a b cb i)
 
+    -- site i lies between the places a and b
     unfoldable pub inside : (a b i : ℕ) → Bool
     inside a b i = over slots a (y i) && under slots b (y i)
 
-    -- S(a, ca, b, cb)
+    -- S(a, ca, b, cb): what the sites of a strip cost
     unfoldable pub strip : (a ca b cb : ℕ) → ℕ
     strip a ca b cb = sumTo top (λ i. cond (inside a b i) (siteCost a ca b cb i) 0) n
 
@@ -78,6 +79,7 @@ module _ (G : Instance) where
     abbrev pub State : Type 0
     State = ℕ × ℕ × ℕ
 
+    -- what a label at slot k costs, with the strip above it; what it leads to; what the strip below the last label costs
     unfoldable pub price : State → ℕ → ℕ → ℕ
     price s k zero = 0
     price s k (suc c) = cond (farFrom slots (s .0) (s .1) k (suc c) && may (suc c) (s .2)) (plus top each (strip (s .0) (s .1) (suc k) (suc c))) top
@@ -89,6 +91,7 @@ module _ (G : Instance) where
     unfoldable pub final : State → ℕ
     final s = strip (s .0) (s .1) (suc m) 0
 
+    -- the steps: a label, or none, at each slot
     abbrev pub labels : Process State ℕ
     labels = record { top = top; m = suc colours; price = price; next = next; final = final }
 
@@ -113,10 +116,12 @@ module _ (G : Instance) where
   unfoldable pub choose : (w : ℕ) → (ℕ → ℕ) → ℕ → ℕ
   choose w caps i = first m (λ k. eqb (value (put caps i (suc k))) w)
 
+  -- so many sites get their caps in turn
   unfoldable pub capAll : (w : ℕ) → ℕ → (ℕ → ℕ) → ℕ → ℕ
   capAll w zero caps = caps
   capAll w (suc f) caps = cond (ltb (leftmost caps n) n) (capAll w f (put caps (leftmost caps n) (suc (choose w caps (leftmost caps n))))) caps
 
+  -- the ties that the caps give, and the answer: none where there are none
   unfoldable pub ties : (ℕ → ℕ) → List ℕ
   ties caps = listing (λ i. caps i - 1) 0 n
 

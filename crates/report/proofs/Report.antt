@@ -14,7 +14,7 @@ use Rattle.sheet.specs.Sheet.{kindOf, sitesIn, sheetIn, sheetFault, workFor}
 use Rattle.sheet.proofs.Accepted.{sound}
 use Rattle.labelling.specs.Layout.{best, statedCount, statedLength}
 use Rattle.labelling.specs.Entry.{isNone, makeFault, makeAnswer}
-use Rattle.labelling.proofs.Maker.{fault-seven}
+use Rattle.sheet.proofs.Accepted.{fault-seven}
 use Rattle.refusals.specs.Input.{mostBytes, isUnfit}
 use Rattle.report.specs.Input.{wordsIn}
 use Rattle.report.specs.Text.{decimal, written, pastOf}

@@ -51,7 +51,7 @@ module _ {Strip Site : Type 0} (G : Rules Strip Site) (laws : Laws G) where
   unfolding Filled
   rest-falls ss h [] f w v e = absurd f
   rest-falls ss h (p ∷ L) f w v e =
-      rw (Rest-cons G laws ss p L v, Rest-cons G laws ss p L w) (conv-falls top below (laws .shares) (T G ss p) (Rest G ss L) (h p) w v e)
+      rw (Rest-cons G laws ss p L v, Rest-cons G laws ss p L w) (conv-falls top below (laws .splits) (T G ss p) (Rest G ss L) (h p) w v e)
 
   pub table-falls : (ss : List Site) (p : Strip) → Falls below (T G ss p)
   table-falls [] p w v e = rw (T-nil G laws p v, T-nil G laws p w) (omega arith)
@@ -65,7 +65,7 @@ module _ {Strip Site : Type 0} (G : Rules Strip Site) (laws : Laws G) where
           ≤ cond (below (draw p s k) w) (plus top (cost p s k) (Rest G ss (children p s k) (w - draw p s k))) top
       step k f =
           by-test (below (draw p s k) w)
-          (λ a. rw (a, laws .shares .trans (draw p s k) w v a e) (plus-mono top (cost p s k) _ _ (f (w - draw p s k) (v - draw p s k) (laws .shares .less (draw p s k) w v a e))))
+          (λ a. rw (a, laws .splits .trans (draw p s k) w v a e) (plus-mono top (cost p s k) _ _ (f (w - draw p s k) (v - draw p s k) (laws .splits .less (draw p s k) w v a e))))
           (λ a. rw a (by-test (below (draw p s k) v) (λ b. rw b (plus-le top (cost p s k) _)) (λ b. rw b (le-refl top))))
 
   -- none at a budget that holds all others: none at each

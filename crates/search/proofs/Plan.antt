@@ -15,7 +15,7 @@ use Rattle.search.proofs.Split.{conv-just, semiring, sum-at, prod-free,
 use Rattle.search.specs.Strips.{holders, oneIf, after, weigh, run}
 use Rattle.search.proofs.Strips.{keeps, independent, table-in}
 use Rattle.search.specs.Plan.{Filled, Rules, Laws, weight, T, Rest, State, price, next, process, Run, answerRest}
-use Rattle.search.specs.Walk.{best, answer, First, costOf}
+use Rattle.search.specs.Walk.{best, answer, Cheapest, costOf}
 use Rattle.search.proofs.Walk.{answer-by, answer-first, answer-none}
 
 filled-append : {A : Type 0} (K L : List A) → Filled K → Filled (K ++ L)
@@ -27,7 +27,7 @@ module _ {Strip Site : Type 0} (G : Rules Strip Site) where
   open Rules G using (top, m, below, inside, cost, draw, children)
 
   module _ (laws : Laws G) where
-    open Laws laws using (shares as B, filled, parts)
+    open Laws laws using (splits as B, filled, parts)
 
     -- the table's equations, as the code computes them
     pub T-nil : (p : Strip) (v : ℕ) → T G [] p v ≡ 0
@@ -51,7 +51,7 @@ module _ {Strip Site : Type 0} (G : Rules Strip Site) where
     T-le-top (s ∷ ss) p v =
         by-test (inside p s) (λ e. rw (T-in s ss p v e) (least-le-top top m _)) (λ e. rw (T-out s ss p v e) (T-le-top ss p v))
 
-    -- the sharing, one strip after the other; of one strip and of two
+    -- the budget split, one strip after the other; of one strip and of two
     pub Rest-cons : (ss : List Site) (p : Strip) (L : List Strip) (v : ℕ) → Rest G ss (p ∷ L) v ≡ conv top below (T G ss p) (Rest G ss L) v
     unfolding Rest T
     Rest-cons ss p L v = refl
@@ -110,7 +110,7 @@ module _ {Strip Site : Type 0} (G : Rules Strip Site) where
     unfolding weight
     parts-weight p s k = by-either (parts p s k) (λ e. inl (rw e (sym (just-top (draw p s k))))) (λ h. inr h)
 
-    -- THEOREM 3 at a budget: what the definition by steps finds is the shared table, where one strip holds each site and
+    -- THEOREM 3 at a budget: what the definition by steps finds is the table, the budget split between the strips, where one strip holds each site and
     -- a lawful step puts in a strip's place strips that part it.
     pub strips-independent : (ss : List Site) (L : List Strip) (v : ℕ) → Filled L → ((t : Site) → holders inside t L ≡ 1) → Run G ss L v ≡ Rest G ss L v
     unfolding Rest
@@ -129,7 +129,7 @@ module _ {Strip Site : Type 0} (G : Rules Strip Site) where
         (λ e. absurd (never-less (below (weigh 0 inside draw s k (x .0)) (x .1)) (rw e at l)))
         (λ q. (filled-after s k (x .0) (h .0), λ t. q t ∙ h .1 t))
 
-    -- THEOREM 4 for the code's walk, which goes by the shared table: it answers as the walk by the definition does.
+    -- THEOREM 4 for the code's walk, which goes by the table: it answers as the walk by the definition does.
     pub walks-agree : (ss : List Site) (L : List Strip) (v : ℕ) → Filled L → ((t : Site) → holders inside t L ≡ 1)
         → answerRest G ss L v ≡ answer (process G) (L, v) ss
     unfolding answerRest
@@ -142,7 +142,7 @@ module _ {Strip Site : Type 0} (G : Rules Strip Site) where
 
     -- THEOREMS 3 AND 4 TOGETHER, for any strips, steps and costs, ends in themselves: so it gives the first
     pub walk-gives-first : (ss : List Site) (L : List Strip) (v : ℕ) (js : List ℕ) → Filled L → ((t : Site) → holders inside t L ≡ 1)
-        → answerRest G ss L v ≡ some js → First (process G) (L, v) ss js
+        → answerRest G ss L v ≡ some js → Cheapest (process G) (L, v) ss js
     walk-gives-first ss L v js f h e = answer-first (process G) (L, v) ss js (sym (walks-agree ss L v f h) ∙ e)
 
     -- and none exactly where every sequence costs none

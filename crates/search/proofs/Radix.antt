@@ -1,19 +1,17 @@
--- Laws of budgets in mixed radix: the digits' order is a way to share; a digit of what is left; the mask of what may be taken.
+-- Laws of budgets in mixed radix: the digits' order is a way to split; a digit of what is left; the mask of what may be taken.
 use mathlib.Core.Path.{_≡_, refl, ap, ap₂, _∙_}
 use mathlib.Core.Bool.{Bool, true, false, cond}
 use mathlib.Core.List.{List, [], _∷_}
 use Prim.Native.Nat.{ℕ, zero, suc, _+_, _-_, _*_, _/_, _%_, _^_, _≤_, _<_}
-use native.Mathlib.Nat.{div-add-mod', mul-le-mul-right, mod-lt, mod-zero, div-zero, zero-mod, zero-div, zero-lt-suc, div-div-eq-div-mul, div-one, pow-zero, pow-succ'}
+use native.Mathlib.Nat.{div-add-mod', mul-le-mul-right, mod-lt, mod-zero, div-zero, zero-mod, zero-div, zero-lt-suc, pow-zero, pow-succ'}
 use native.Mathlib.Omega.{arith}
 use lib.Dec.{eqb, leb}
 use lib.Pow.{pow-mono}
 use lib.Arith.{digits-div, digits-mod}
 use borrow.Author.Tests.{leb-true, le-leb, eq-eqb, ne-eqb}
-use Rattle.lists.proofs.Tests.{and-both, and-of, is-false}
-use Rattle.search.specs.Cost.{plus}
-use Rattle.search.specs.Split.{Splitting, conv}
-use Rattle.search.specs.Radix.{below, digitOf, bitOf, maskBy, maskFrom, maskOf, convMasked}
-use Rattle.search.proofs.Cost.{least-cong}
+use Rattle.lists.proofs.Tests.{and-both, and-of}
+use Rattle.search.specs.Split.{Splitting}
+use Rattle.search.specs.Radix.{below, digitOf, maskBy, maskFrom, maskOf, maskBits, maskTop}
 
 -- the digits, one by one
 digit : (r : ℕ) (rs : List ℕ) (w v : ℕ) → below (r ∷ rs) w v ≡ true → (w % r ≤ v % r) × (below rs (w / r) (v / r) ≡ true)
@@ -79,7 +77,7 @@ less (r ∷ rs) a w v h k =
     let n = minus r a v (f .0) (fits rs (a / r) (v / r) (f .1)) in
     of-digit r rs (w - a) (v - a) (rw (m .0, n .0) (omega arith)) (rw (m .1, n .1) (less rs (a / r) (w / r) (v / r) (d .1) (e .1)))
 
--- the digits' order is a way to share
+-- the digits' order is a way to split
 pub sharing : (rs : List ℕ) → Splitting (below rs)
 sharing rs = record {
   fits = fits rs;
@@ -120,24 +118,10 @@ pub bit-small : (t : Bool) → cond t 1 0 < 2
 bit-small true = omega arith
 bit-small false = omega arith
 
--- the bits are what the test says, where it says no from the last on
-bits-by : (t : ℕ → Bool) (n w : ℕ) → ((k : ℕ) → n ≤ k → t k ≡ false) → bitOf (maskBy t n) w ≡ t w
-unfolding maskBy
-bits-by t zero w h = rw (zero-div (2 ^ w), h w (omega arith))
-bits-by t (suc n) zero h = rw (pow-zero, div-one) (low-bit _ (t 0))
-bits-by t (suc n) (suc w) h =
-    rw (pow-succ', ← (div-div-eq-div-mul (maskBy (λ k. t (suc k)) n * 2 + cond (t 0) 1 0) 2 (2 ^ w)), half (maskBy (λ k. t (suc k)) n) (t 0))
-    (bits-by (λ k. t (suc k)) n w (λ k l. h (suc k) (omega arith)))
-
 mask-small : (t : ℕ → Bool) (n : ℕ) → maskBy t n < 2 ^ n
 unfolding maskBy
 mask-small t zero = rw pow-zero (omega arith)
 mask-small t (suc n) = rw pow-succ' (omega (arith, mask-small (λ k. t (suc k)) n, bit-small (t 0)))
-
--- BIT W of the mask of v says that w may be taken from v
-pub mask-bit : (rs : List ℕ) (v w : ℕ) → bitOf (maskOf rs v) w ≡ below rs w v
-unfolding maskOf
-mask-bit rs v w = bits-by (λ k. below rs k v) (suc v) w (λ k l. is-false (below rs k v) (λ e. omega (arith, fits rs k v e)))
 
 -- tests that say the same give the same mask
 mask-cong : (s t : ℕ → Bool) (n : ℕ) → ((k : ℕ) → s k ≡ t k) → maskBy s n ≡ maskBy t n
@@ -171,14 +155,9 @@ mask-all rs v =
     let e : v + 1 - 0 ≡ suc v = omega arith in
     rw e (mask-cong _ _ (suc v) (λ k. ap (λ (z : ℕ). below rs z v) (omega arith)))
 
--- of a budget below 64 it is a word of 64 bits
-pub mask-word : (rs : List ℕ) (v w : ℕ) → v < 64 → maskFrom rs v w < 18446744073709551616
+-- it is one word, of 64 bits
+pub mask-word : (rs : List ℕ) (v w : ℕ) → v < maskBits → maskFrom rs v w < maskTop
 unfolding maskFrom
 mask-word rs v w h =
-    let p : 2 ^ (v + 1 - w) ≤ 2 ^ 64 = pow-mono {i = v + 1 - w} {j = 64} (omega arith) in
+    let p : 2 ^ (v + 1 - w) ≤ 2 ^ maskBits = pow-mono {i = v + 1 - w} {j = maskBits} (omega arith) in
     omega (arith, mask-small (λ i. below rs (w + i) v) (v + 1 - w))
-
--- SHARING by the mask is sharing
-pub conv-masked : (top : ℕ) (rs : List ℕ) (f g : ℕ → ℕ) (v : ℕ) → convMasked top (maskOf rs v) f g v ≡ conv top (below rs) f g v
-unfolding convMasked conv
-conv-masked top rs f g v = least-cong top (suc v) _ _ (λ w l. ap (λ (b : Bool). cond b (plus top (f w) (g (v - w))) top) (mask-bit rs v w))

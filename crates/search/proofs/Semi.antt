@@ -13,7 +13,7 @@ module _ {S : Type 0} {add mul : S → S → S} {none one : S} (R : Semiring S a
   -- a factor goes into a sum
   pub mul-sum : (n : ℕ) (a : S) (f : ℕ → S) → mul a (sum add none n f) ≡ sum add none n (λ k. mul a (f k))
   unfolding sum
-  mul-sum zero a f = R .lost a
+  mul-sum zero a f = R .absorbs a
   mul-sum (suc n) a f = R .dist a (sum add none n f) (f n) ∙ ap (λ (z : S). add z (mul a (f n))) (mul-sum n a f)
 
   pub sum-mul : (n : ℕ) (a : S) (f : ℕ → S) → mul (sum add none n f) a ≡ sum add none n (λ k. mul (f k) a)

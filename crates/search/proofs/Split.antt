@@ -1,4 +1,4 @@
--- Laws of sharing a budget: with the cheaper of two, the functions from budgets to costs are a commutative semiring.
+-- Laws of splitting a budget: with the cheaper of two, the functions from budgets to costs are a commutative semiring.
 use mathlib.Core.Path.{_≡_, refl, ap, _∙_, fun-ext}
 use mathlib.Core.Bool.{Bool, true, false, cond}
 use mathlib.Core.List.{List, [], _∷_}
@@ -30,7 +30,7 @@ just-le top w = go (eqb w 0)
     go false = omega arith
 
 module _ (top : ℕ) (below : ℕ → ℕ → Bool) (B : Splitting below) where
-  -- each share is an upper bound, and what is below all shares is a lower one
+  -- each way to split is an upper bound, and what is below all is a lower one
   pub conv-le-top : (f g : ℕ → ℕ) (v : ℕ) → conv top below f g v ≤ top
   unfolding conv
   conv-le-top f g v = least-le-top top (suc v) _
@@ -53,7 +53,7 @@ module _ (top : ℕ) (below : ℕ → ℕ → Bool) (B : Splitting below) where
   plus-conv-most x f g v b h q =
       rw plus-least (least-most top (suc v) _ b h (λ w l. by-test (below w v) (λ e. rw e (q w e)) (λ e. rw (e, plus-top) h)))
 
-  -- ---- sharing is commutative
+  -- ---- splitting is commutative
 
   conv-comm-le : (f g : ℕ → ℕ) (v : ℕ) → conv top below f g v ≤ conv top below g f v
   conv-comm-le f g v = conv-most g f v _ (conv-le-top f g v) (λ w e. go w e)
@@ -68,7 +68,7 @@ module _ (top : ℕ) (below : ℕ → ℕ → Bool) (B : Splitting below) where
   pub conv-comm : (f g : ℕ → ℕ) → conv top below f g ≡ conv top below g f
   conv-comm f g = fun-ext (λ v. le-antisymm (conv-comm-le f g v) (conv-comm-le g f v))
 
-  -- ---- sharing is associative
+  -- ---- splitting is associative
 
   -- two parts taken one after the other: both together may be taken, and the first from both
   pub both : (a c v : ℕ) → below a v ≡ true → below c (v - a) ≡ true → (below (a + c) v ≡ true) × (below a (a + c) ≡ true)
@@ -126,7 +126,7 @@ module _ (top : ℕ) (below : ℕ → ℕ → Bool) (B : Splitting below) where
   unfolding never
   conv-never f = fun-ext (λ v. le-antisymm (conv-le-top f (never top) v) (conv-most f (never top) v top (le-refl top) (λ w e. rw plus-top (le-refl top))))
 
-  -- ---- a share that is just e
+  -- ---- a part that is just e
 
   pub conv-just : (c e : ℕ) (g : ℕ → ℕ) (v : ℕ) → conv top below (just top c e) g v ≡ cond (below e v) (plus top c (g (v - e))) top
   conv-just c e g v =
@@ -153,7 +153,7 @@ module _ (top : ℕ) (below : ℕ → ℕ → Bool) (B : Splitting below) where
     comm = conv-comm;
     assoc = conv-assoc;
     dist = conv-cheaper;
-    lost = conv-never;
+    absorbs = conv-never;
     one-one = fun-ext (λ v. conv-one (just top 0 0) v ∙ below-top (just top 0 0) v (just-le top v));
     one-mul = λ f g. fun-ext (λ v. conv-one (conv top below f g) v ∙ below-top (conv top below f g) v (conv-le-top f g v));
   }
@@ -171,7 +171,7 @@ module _ (top : ℕ) (below : ℕ → ℕ → Bool) (B : Splitting below) where
   unfolding plus
   free g v e = let h : conv top below (λ w. 0) g v ≤ min (0 + 0) top = rw e at (conv-low (λ w. 0) g v 0 (B .nothing v)) in omega arith
 
-  -- strips with nothing left to do share any budget at no cost
+  -- strips with nothing left to do split any budget at no cost
   pub prod-free : {A : Type 0} (p : A) (L : List A) (v : ℕ) → prod (conv top below) (just top 0 0) (λ q w. 0) (p ∷ L) v ≡ 0
   unfolding prod
   prod-free p [] v = rw (conv-comm (λ w. 0) (just top 0 0), conv-one (λ w. 0) v) (omega arith)

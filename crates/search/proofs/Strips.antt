@@ -117,10 +117,10 @@ module _ {S Strip Site : Type 0} (add mul : S → S → S) (none one : S) (m : �
           ≡ mul (weigh none inside weight s k L) (rest ss (after inside children s k L))
       step-with s ss k L h ih =
           by-either (keeps s k L)
-          (λ w. rw w (R .comm none _ ∙ R .lost _ ∙ sym (R .lost _) ∙ R .comm _ none))
+          (λ w. rw w (R .comm none _ ∙ R .absorbs _ ∙ sym (R .absorbs _) ∙ R .comm _ none))
           (λ q. ap (mul (weigh none inside weight s k L)) (ih (after inside children s k L) (λ t. q t ∙ h t)))
 
-      -- THEOREM 3: strips are independent. Where one strip holds each site, the definition by steps is the shared table.
+      -- THEOREM 3: strips are independent. Where one strip holds each site, the definition by steps is the table, the budget split between the strips.
       pub independent : (ss : List Site) (L : List Strip) → ((t : Site) → holders inside t L ≡ 1) → run ss L ≡ rest ss L
       unfolding runBy restBy slots
       independent [] L h = refl

@@ -9,7 +9,7 @@ use native.Mathlib.Omega.{arith}
 use lib.Dec.{eqb, ltb}
 use borrow.Author.Tests.{eqb-true, eq-eqb, ltb-true, lt-ltb, le-ltb}
 use Rattle.lists.proofs.Tests.{by-test, by-order, by-either}
-use Rattle.search.specs.Walk.{Before, Process, best, costOf, choose, walk, answer, First, chooseBy, walkBy, answerBy}
+use Rattle.search.specs.Walk.{Before, Process, best, costOf, choose, walk, answer, Cheapest, chooseBy, walkBy, answerBy}
 use Rattle.search.specs.Cost.{plus}
 use Rattle.search.proofs.Cost.{plus-le, plus-past, plus-mono, plus-cancel, plus-below, least-le-top, least-le, least-is, first-le, first-is, first-cong}
 
@@ -105,7 +105,7 @@ module _ {X Site : Type 0} (G : Process X Site) where
       (λ l. inl l)
 
   -- THEOREM 4: the walk gives the first: a cheapest sequence, ahead of all others of its cost
-  pub answer-first : (x : X) (ss : List Site) (js : List ℕ) → answer G x ss ≡ some js → First G x ss js
+  pub answer-first : (x : X) (ss : List Site) (js : List ℕ) → answer G x ss ≡ some js → Cheapest G x ss js
   unfolding answer
   answer-first x ss js e =
       by-order top (best G x ss)

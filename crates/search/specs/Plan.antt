@@ -1,4 +1,4 @@
--- The table and the walk at a budget, for strips whose steps have a cost (top: not lawful) and draw on a budget that the strips share. The
+-- The table and the walk at a budget, for strips whose steps have a cost (top: not lawful) and draw on a budget that is split between the strips. The
 -- record `Laws` is what theorems 3 and 4 ask.
 use mathlib.Core.Path.{_≡_}
 use mathlib.Core.Logic.{_⊎_}
@@ -29,7 +29,7 @@ pub record Rules (Strip Site : Type 0) : Type 0 where
 
 -- what the theorems ask of them
 pub record Laws {Strip Site : Type 0} (G : Rules Strip Site) : Type 0 where
-  pub shares : Splitting (G .below)
+  pub splits : Splitting (G .below)
   pub filled : (p : Strip) (s : Site) (k : ℕ) → Filled (G .children p s k)
   pub parts : (p : Strip) (s : Site) (k : ℕ)
       → (G .cost p s k ≡ G .top) ⊎ ((t : Site) → holders (G .inside) t (G .children p s k) ≡ oneIf (G .inside p t))
@@ -41,7 +41,7 @@ module _ {Strip Site : Type 0} (G : Rules Strip Site) where
   unfoldable pub weight : Strip → Site → ℕ → ℕ → ℕ
   weight p s k = just top (cost p s k) (draw p s k)
 
-  -- the table and the sharing of it
+  -- the table, and what a list of strips costs between which a budget is split
   unfoldable pub T : List Site → Strip → ℕ → ℕ
   unfolding table
   T = table cheaper (conv top below) (never top) (just top 0 0) m inside weight children (λ p v. 0)
@@ -54,6 +54,7 @@ module _ {Strip Site : Type 0} (G : Rules Strip Site) where
   abbrev pub State : Type 0
   State = List Strip × ℕ
 
+  -- what a step costs in a state, top where the budget does not allow it or it is not lawful; what it leads to; the steps as a process
   unfoldable pub price : State → Site → ℕ → ℕ
   price x s k = cond (below (weigh 0 inside draw s k (x .0)) (x .1)) (weigh top inside cost s k (x .0)) top
 
@@ -63,10 +64,11 @@ module _ {Strip Site : Type 0} (G : Rules Strip Site) where
   abbrev pub process : Process State Site
   process = record { top = top; m = m; price = price; next = next; final = λ x. 0 }
 
+  -- the least cost by steps
   unfoldable pub Run : List Site → List Strip → ℕ → ℕ
   Run ss L v = best process (L, v) ss
 
-  -- the code's walk goes by the shared table
+  -- the code's walk goes by the table
   unfoldable pub answerRest : List Site → List Strip → ℕ → Option (List ℕ)
   unfolding answerBy
   answerRest ss L v = answerBy process (λ x ss. Rest ss (x .0) (x .1)) (L, v) ss

@@ -1,11 +1,12 @@
--- Budgets in mixed radix: a number v has a digit for each radix of a list, the lowest first, and what is left above them.
--- w may be taken from v where each digit of w is at most v's. Any list of radices will do, 0 and 1 among them.
+-- Budgets in mixed radix: a number v has a digit for each radix of a list, the lowest first, and what is left above them. So rule 2's
+-- bounds are one number (optimum/specs/Budgets). w may be taken from v where each digit of w is at most v's. Any list of radices will
+-- do, 0 and 1 among them.
 use mathlib.Core.Bool.{Bool, cond, _&&_}
 use mathlib.Core.List.{List, [], _∷_}
-use Prim.Native.Nat.{ℕ, zero, suc, _+_, _-_, _*_, _/_, _%_, _^_}
-use lib.Dec.{eqb, leb}
-use Rattle.search.specs.Cost.{plus, least}
+use Prim.Native.Nat.{ℕ, zero, suc, _+_, _-_, _*_, _/_, _%_}
+use lib.Dec.{leb}
 
+-- w may be taken from v
 unfoldable pub below : List ℕ → ℕ → ℕ → Bool
 below [] w v = leb w v
 below (r ∷ rs) w v = leb (w % r) (v % r) && below rs (w / r) (v / r)
@@ -23,9 +24,12 @@ place (r ∷ rs) (suc c) = place rs c * r
 
 -- ---- what may be taken from a budget, as a mask
 
--- bit w of a mask
-abbrev pub bitOf : (mask w : ℕ) → Bool
-bitOf mask w = eqb (mask / 2 ^ w % 2) 1
+-- a mask is one word of 64 bits, so there are at most 64 budgets; above every mask, 2^64
+abbrev pub maskBits : ℕ
+maskBits = 64
+
+abbrev pub maskTop : ℕ
+maskTop = 18446744073709551616
 
 -- the number whose bits, so many of them, are what a test says of 0, 1, ..
 unfoldable pub maskBy : (ℕ → Bool) → (count : ℕ) → ℕ
@@ -39,7 +43,3 @@ maskFrom rs v w = maskBy (λ i. below rs (w + i) v) (v + 1 - w)
 -- the mask of the budget v: bit w says that w may be taken from it
 unfoldable pub maskOf : (radices : List ℕ) → (v : ℕ) → ℕ
 maskOf rs v = maskBy (λ w. below rs w v) (suc v)
-
--- the least cost of sharing v between f and g, where the mask says what may be taken from v
-unfoldable pub convMasked : (top mask : ℕ) → (ℕ → ℕ) → (ℕ → ℕ) → ℕ → ℕ
-convMasked top mask f g v = least top (suc v) (λ w. cond (bitOf mask w) (plus top (f w) (g (v - w))) top)

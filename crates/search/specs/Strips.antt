@@ -1,5 +1,5 @@
 -- Strips: how many hold a site, what a step does to them and weighs, the table over them, and the definition by steps. For any strips,
--- sites, steps and costs: what a share of a budget costs is an element of a commutative semiring.
+-- sites, steps and costs: what a part of a budget costs is an element of a commutative semiring.
 use mathlib.Core.Bool.{Bool, true, false, cond}
 use mathlib.Core.List.{List, [], _∷_, _++_}
 use Prim.Native.Nat.{ℕ, _+_}
@@ -36,7 +36,7 @@ module _ {S Strip Site : Type 0} (add mul : S → S → S) (none one : S) (m : �
   table (s ∷ ss) p =
       cond (inside p s) (sum add none m (λ k. mul (weight p s k) (prod mul one (λ q. table ss q) (children p s k)))) (table ss p)
 
-  -- the strips of a list share the budget
+  -- the budget is split between the strips of a list
   unfoldable pub rest : List Site → List Strip → S
   unfolding table prod
   rest ss L = prod mul one (table ss) L

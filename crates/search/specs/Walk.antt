@@ -44,6 +44,7 @@ module _ {X Site : Type 0} (G : Process X Site) where
   unfoldable pub choose : X → Site → List Site → ℕ
   choose x s ss = first m (λ k. eqb (plus top (price x s k) (best (next x s k) ss)) (best x (s ∷ ss)))
 
+  -- the walk: the slots that it takes
   unfoldable pub walk : X → List Site → List ℕ
   walk x [] = []
   walk x (s ∷ ss) = choose x s ss ∷ walk (next x s (choose x s ss)) ss
@@ -53,7 +54,7 @@ module _ {X Site : Type 0} (G : Process X Site) where
   answer x ss = cond (ltb (best x ss) top) (some (walk x ss)) none
 
   -- js costs less than none, no sequence costs less, and js comes before every sequence that costs as much
-  pub record First (x : X) (ss : List Site) (js : List ℕ) : Type 0 where
+  pub record Cheapest (x : X) (ss : List Site) (js : List ℕ) : Type 0 where
     pub lawful : costOf x ss js < top
     pub lowest : (ks : List ℕ) → costOf x ss js ≤ costOf x ss ks
     pub ahead : (ks : List ℕ) → costOf x ss ks ≡ costOf x ss js → Before js ks

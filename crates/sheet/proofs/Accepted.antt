@@ -9,6 +9,7 @@ use native.Mathlib.Omega.{arith}
 use lib.Dec.{ltb, leb, eqb}
 use lib.ListN.{length, length-drop}
 use borrow.Author.Tests.{ltb-true, ltb-false, leb-true, eqb-true, eqb-false, lt-ltb, eq-eqb, ne-eqb}
+use Rattle.sheet.specs.Limits.{mostSlots, mostColours, mostSites, mostBudgets, mostWords, numberTop}
 use Rattle.sheet.specs.Sheet.{all, kindOf, bits, hasSpare, inOrder, Site, Sheet, slotsIn, sitesIn, coloursIn, headIn, bodyOf, sheetIn, productOf, rising, rankOf, rankTop, hasRank, ranksDiffer, isHead, countsFit, insideBy, sheetFault}
 use Rattle.lists.proofs.Tests.{by-test, and-l, and-r, and-i, or-e, not-f}
 
@@ -28,7 +29,7 @@ pub record Unrefused (ws : List ℕ) : Type 0 where
   pub rise : rising (slotsIn (bodyOf ws)) ≡ true
   pub inside : all (insideBy (bits (headIn ws) 0 14)) (sitesIn 0 (bodyOf ws)) ≡ true
   pub differ : ranksDiffer (sitesIn 0 (bodyOf ws)) ≡ true
-  pub product : ltb 64 (productOf (coloursIn (bodyOf ws))) ≡ false
+  pub product : ltb mostBudgets (productOf (coloursIn (bodyOf ws))) ≡ false
 
 chain : (a b c d e f g : Bool) →
     _≡_ {A = ℕ} (cond (not a) 1 (cond (not b) 2 (cond (not c) 3 (cond (not d) 4 (cond (not e) 5 (cond (not f) 6 (cond g 7 0))))))) 0 →
@@ -46,44 +47,44 @@ pub unrefused : (ws : List ℕ) → sheetFault ws ≡ 0 → Unrefused ws
 unrefused ws h =
     let t = chain (isHead ws) (inOrder 0 (bodyOf ws)) (countsFit (sheetIn ws)) (rising (slotsIn (bodyOf ws)))
     (all (insideBy (bits (headIn ws) 0 14)) (sitesIn 0 (bodyOf ws))) (ranksDiffer (sitesIn 0 (bodyOf ws)))
-    (ltb 64 (productOf (coloursIn (bodyOf ws)))) h in
+    (ltb mostBudgets (productOf (coloursIn (bodyOf ws)))) h in
     record { head = t .0; order = t .1; counts = t .2; rise = t .3; inside = t .4; differ = t .5; product = t .6 }
 
--- a refusal's number is below 8
-small : (a b c d e f g : Bool) → cond (not a) 1 (cond (not b) 2 (cond (not c) 3 (cond (not d) 4 (cond (not e) 5 (cond (not f) 6 (cond g 7 0)))))) < 8
-small false b c d e f g = omega arith
-small true false c d e f g = omega arith
-small true true false d e f g = omega arith
-small true true true false e f g = omega arith
-small true true true true false f g = omega arith
-small true true true true true false g = omega arith
-small true true true true true true true = omega arith
-small true true true true true true false = omega arith
+-- a refusal's number is at most 7
+at-most-seven : (a b c d e f g : Bool) → cond (not a) 1 (cond (not b) 2 (cond (not c) 3 (cond (not d) 4 (cond (not e) 5 (cond (not f) 6 (cond g 7 0)))))) ≤ 7
+at-most-seven false b c d e f g = omega arith
+at-most-seven true false c d e f g = omega arith
+at-most-seven true true false d e f g = omega arith
+at-most-seven true true true false e f g = omega arith
+at-most-seven true true true true false f g = omega arith
+at-most-seven true true true true true false g = omega arith
+at-most-seven true true true true true true true = omega arith
+at-most-seven true true true true true true false = omega arith
 
-pub fault-small : (ws : List ℕ) → sheetFault ws < 8
-fault-small ws =
-    small (isHead ws) (inOrder 0 (bodyOf ws)) (countsFit (sheetIn ws)) (rising (slotsIn (bodyOf ws)))
+pub fault-seven : (ws : List ℕ) → sheetFault ws ≤ 7
+fault-seven ws =
+    at-most-seven (isHead ws) (inOrder 0 (bodyOf ws)) (countsFit (sheetIn ws)) (rising (slotsIn (bodyOf ws)))
     (all (insideBy (bits (headIn ws) 0 14)) (sitesIn 0 (bodyOf ws))) (ranksDiffer (sitesIn 0 (bodyOf ws)))
-    (ltb 64 (productOf (coloursIn (bodyOf ws))))
+    (ltb mostBudgets (productOf (coloursIn (bodyOf ws))))
 
 -- bits are low
-pub low14 : (w : ℕ) (i : ℕ) → bits w i 14 < 16384
+pub low14 : (w : ℕ) (i : ℕ) → bits w i 14 < numberTop
 low14 w i = omega arith
 
 abbrev pub lowX : Site → Bool
-lowX s = ltb (s .x) 16384
+lowX s = ltb (s .x) numberTop
 
 abbrev pub lowY : Site → Bool
-lowY s = ltb (s .y) 16384
+lowY s = ltb (s .y) numberTop
 
 abbrev pub lowN : ℕ → Bool
-lowN h = ltb h 16384
+lowN h = ltb h numberTop
 
 pub slots-low : (ws : List ℕ) → all lowN (slotsIn ws) ≡ true
 unfolding all slotsIn
 slots-low [] = refl
 slots-low (w ∷ ws) =
-    by-test (eqb (kindOf w) 2) (λ e. rw e (and-i (lt-ltb (bits w 0 14) 16384 (low14 w 0)) (slots-low ws))) λ e. rw e (slots-low ws)
+    by-test (eqb (kindOf w) 2) (λ e. rw e (and-i (lt-ltb (bits w 0 14) numberTop (low14 w 0)) (slots-low ws))) λ e. rw e (slots-low ws)
 
 pub sites-low : (c : ℕ) (ws : List ℕ) → (all lowX (sitesIn c ws) ≡ true) × (all lowY (sitesIn c ws) ≡ true)
 unfolding all sitesIn
@@ -92,7 +93,7 @@ sites-low c (w ∷ ws) =
     by-test (eqb (kindOf w) 3) (λ e. rw e (sites-low (suc c) ws)) λ e. rw e
     (by-test (eqb (kindOf w) 4)
     (λ f. rw f
-    (and-i (lt-ltb (bits w 14 14) 16384 (low14 w 14)) (sites-low c ws .0), and-i (lt-ltb (bits w 0 14) 16384 (low14 w 0)) (sites-low c ws .1)))
+    (and-i (lt-ltb (bits w 14 14) numberTop (low14 w 14)) (sites-low c ws .0), and-i (lt-ltb (bits w 0 14) numberTop (low14 w 0)) (sites-low c ws .1)))
     λ f. rw f (sites-low c ws))
 
 -- ONE WORD after the head, in order: a slot, a colour or a site
@@ -152,15 +153,15 @@ sites-coloured ws h =
     (coloured 0 0 (bodyOf ws) (unrefused ws h .order) λ q. absurd (omega arith))
 
 pub record Sound (s : Sheet) : Type 0 where
-  pub few-slots : length (s .slots) ≤ 48
-  pub few-colours : length (s .colours) ≤ 8
-  pub few-sites : length (s .sites) ≤ 32
+  pub few-slots : length (s .slots) ≤ mostSlots
+  pub few-colours : length (s .colours) ≤ mostColours
+  pub few-sites : length (s .sites) ≤ mostSites
   pub rise : rising (s .slots) ≡ true
   pub inside : all (insideBy (s .width)) (s .sites) ≡ true
   pub differ : ranksDiffer (s .sites) ≡ true
-  pub product : productOf (s .colours) ≤ 64
+  pub product : productOf (s .colours) ≤ mostBudgets
   pub wide : 0 < s .width
-  pub narrow : s .width < 16384
+  pub narrow : s .width < numberTop
   pub gapped : 0 < s .gap
   pub xs : all lowX (s .sites) ≡ true
   pub ys : all lowY (s .sites) ≡ true
@@ -174,19 +175,19 @@ sound ws h =
     let hw : Bool = ltb 0 (length ws) && eqb (kindOf (headIn ws)) 1 in
     let nw : Bool = not (eqb (bits (headIn ws) 0 14) 0) in
     let nd : Bool = not (eqb (bits (headIn ws) 14 12) 0) in
-    let cs : Bool = leb (length (s .slots)) 48 in
-    let cc : Bool = leb (length (s .colours)) 8 in
-    let cn : Bool = leb (length (s .sites)) 32 in
+    let cs : Bool = leb (length (s .slots)) mostSlots in
+    let cc : Bool = leb (length (s .colours)) mostColours in
+    let cn : Bool = leb (length (s .sites)) mostSites in
     let w0 : eqb (bits (headIn ws) 0 14) 0 ≡ false = not-f (eqb (bits (headIn ws) 0 14) 0) (and-r hw nw (and-l (hw && nw) nd (u .head))) in
     let d0 : eqb (bits (headIn ws) 14 12) 0 ≡ false = not-f (eqb (bits (headIn ws) 14 12) 0) (and-r (hw && nw) nd (u .head)) in
     record {
-      few-slots = leb-true (length (s .slots)) 48 (and-l cs cc (and-l (cs && cc) cn (u .counts)));
-      few-colours = leb-true (length (s .colours)) 8 (and-r cs cc (and-l (cs && cc) cn (u .counts)));
-      few-sites = leb-true (length (s .sites)) 32 (and-r (cs && cc) cn (u .counts));
+      few-slots = leb-true (length (s .slots)) mostSlots (and-l cs cc (and-l (cs && cc) cn (u .counts)));
+      few-colours = leb-true (length (s .colours)) mostColours (and-r cs cc (and-l (cs && cc) cn (u .counts)));
+      few-sites = leb-true (length (s .sites)) mostSites (and-r (cs && cc) cn (u .counts));
       rise = u .rise;
       inside = u .inside;
       differ = u .differ;
-      product = ltb-false 64 (productOf (s .colours)) (u .product);
+      product = ltb-false mostBudgets (productOf (s .colours)) (u .product);
       wide = omega (arith, eqb-false (bits (headIn ws) 0 14) 0 w0);
       narrow = low14 (headIn ws) 0;
       gapped = omega (arith, eqb-false (bits (headIn ws) 14 12) 0 d0);
@@ -210,12 +211,12 @@ parts-length z c (w ∷ ws) h = go (step z w ws h .1) (λ y d i. parts-length y 
     go (Step.site e q i) f =
         rw (ne-eqb (kindOf w) 2 (λ q. omega arith), ne-eqb (kindOf w) 3 (λ q. omega arith), eq-eqb (kindOf w) 4 e) (omega (arith, f 1 c i))
 
-pub few-words : (ss : List ℕ) → sheetFault ss ≡ 0 → length ss ≤ 89
+pub few-words : (ss : List ℕ) → sheetFault ss ≡ 0 → length ss ≤ mostWords
 few-words ss ok =
     let o = sound ss ok in
     omega (arith, parts-length 0 0 (bodyOf ss) (unrefused ss ok .order), length-drop 1 ss, o .few-slots, o .few-colours, o .few-sites)
 
-pub rank-low : (s : Site) → s .x < 16384 → s .y < 16384 → rankOf s < rankTop
+pub rank-low : (s : Site) → s .x < numberTop → s .y < numberTop → rankOf s < rankTop
 unfolding rankOf
 rank-low s h k = omega arith
 
@@ -225,5 +226,5 @@ low-x [] h k x e = absurd (false≢true e)
 low-x (s ∷ ss) h k x e = go (or-e (eqb (rankOf s) x) (hasRank x ss) e) (low-x ss (and-r (lowX s) (all lowX ss) h) (and-r (lowY s) (all lowY ss) k) x)
   where
     go : (eqb (rankOf s) x ≡ true) ⊎ (hasRank x ss ≡ true) → (hasRank x ss ≡ true → x < rankTop) → x < rankTop
-    go (inl p) ih = omega (arith, eqb-true (rankOf s) x p, rank-low s (ltb-true (s .x) 16384 (and-l (lowX s) (all lowX ss) h)) (ltb-true (s .y) 16384 (and-l (lowY s) (all lowY ss) k)))
+    go (inl p) ih = omega (arith, eqb-true (rankOf s) x p, rank-low s (ltb-true (s .x) numberTop (and-l (lowX s) (all lowX ss) h)) (ltb-true (s .y) numberTop (and-l (lowY s) (all lowY ss) k)))
     go (inr p) ih = ih p

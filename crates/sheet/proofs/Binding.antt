@@ -10,6 +10,7 @@ use lib.Dec.{ltb, leb, eqb}
 use lib.ListN.{length, getD}
 use borrow.Author.Tests.{eqb-true, eq-eqb, ne-eqb}
 use Rattle.lists.proofs.Tests.{by-test, and-l, and-r, tests}
+use Rattle.sheet.specs.Limits.{unbounded, mostBudgets}
 use Rattle.sheet.specs.Sheet.{kindOf, bits, hasSpare, inOrder, Site, Colour, Sheet, slotsIn, sitesRun, coloursIn, sitesIn, headIn, bodyOf, sheetIn, productOf, isHead, sheetFault, workFor}
 use Rattle.sheet.specs.Binding.{bindingWord, bindingOnly, bindingColours, withColours, sitesOf}
 use Rattle.sheet.proofs.Accepted.{unrefused, Step, step}
@@ -27,7 +28,7 @@ spare-bits w n = by-test (eqb (kindOf w) 3 && leb n (bits w 0 8)) (λ e. rw e (o
 pub spare-kept : (w n : ℕ) → hasSpare (bindingWord w n) ≡ hasSpare w
 spare-kept w n = by-test (eqb (kindOf w) 3) (λ e. rw (kind-kept w n, spare-bits w n, e, eqb-true (kindOf w) 3 e)) (λ e. rw (others-kept w n e))
 
-pub bound-binding : (w n : ℕ) → eqb (kindOf w) 3 ≡ true → bits (bindingWord w n) 0 8 ≡ cond (leb n (bits w 0 8)) 255 (bits w 0 8)
+pub bound-binding : (w n : ℕ) → eqb (kindOf w) 3 ≡ true → bits (bindingWord w n) 0 8 ≡ cond (leb n (bits w 0 8)) unbounded (bits w 0 8)
 bound-binding w n e = rw e (by-test (leb n (bits w 0 8)) (λ f. rw f (omega arith)) (λ f. rw f))
 
 -- THE WORDS
@@ -81,8 +82,8 @@ pub product-binding : (cs : List Colour) → productOf (bindingColours cs) ≤ p
 unfolding bindingColours productOf
 product-binding [] = omega arith
 product-binding (c ∷ cs) =
-    mul-le-mul {n₂ = cond (eqb (c .bound) 255) 1 (c .bound + 1)} {m₂ = productOf cs}
-    (by-test (leb (c .sites) (c .bound)) (λ e. rw e (by-test (eqb (c .bound) 255) (λ f. rw f (omega arith)) (λ f. rw f (omega arith)))) (λ e. rw e (omega arith)))
+    mul-le-mul {n₂ = cond (eqb (c .bound) unbounded) 1 (c .bound + 1)} {m₂ = productOf cs}
+    (by-test (leb (c .sites) (c .bound)) (λ e. rw e (by-test (eqb (c .bound) unbounded) (λ f. rw f (omega arith)) (λ f. rw f (omega arith)))) (λ e. rw e (omega arith)))
     (product-binding cs)
 
 pub work-binding : (s : Sheet) → workFor (withColours s (bindingColours (s .colours))) ≤ workFor s
@@ -122,7 +123,7 @@ binding-accepted ws h =
     let u = unrefused ws h in
     let b = bodyOf ws in
     let e = head-kept ws (u .head) in
-    let p : ltb 64 (productOf (bindingColours (coloursIn b))) ≡ false = omega (arith, tests, u .product, product-binding (coloursIn b)) in
+    let p : ltb mostBudgets (productOf (bindingColours (coloursIn b))) ≡ false = omega (arith, tests, u .product, product-binding (coloursIn b)) in
     rw (length-kept ws, e .0, e .1, order-kept 0 b, slots-kept b, colours-binding b, sites-kept 0 b, length-binding (coloursIn b), u .head, u .order, u .counts, u .rise, u .inside, u .differ, p)
 
 -- A COLOUR'S SITES: those that follow its word at once are all that there are

@@ -4,11 +4,12 @@ use mathlib.Core.Bool.{_&&_, cond}
 use mathlib.Core.List.{List, [], _∷_}
 use Prim.Native.Nat.{ℕ, suc, _+_, _*_, _/_}
 use lib.Dec.{leb, eqb}
+use Rattle.sheet.specs.Limits.{unbounded, byteTop}
 use Rattle.sheet.specs.Sheet.{kindOf, bits, Site, Colour, Sheet, sitesRun}
 
 -- a word that so many sites follow: of a colour with no more sites than its bound, bits 7 to 0 are set
 abbrev pub bindingWord : (word sites : ℕ) → ℕ
-bindingWord w n = cond (eqb (kindOf w) 3 && leb n (bits w 0 8)) (w / 256 * 256 + 255) w
+bindingWord w n = cond (eqb (kindOf w) 3 && leb n (bits w 0 8)) (w / byteTop * byteTop + unbounded) w
 
 -- the words of a sheet, each so
 unfoldable pub bindingOnly : List ℕ → List ℕ
@@ -17,7 +18,7 @@ bindingOnly (w ∷ ws) = bindingWord w (sitesRun ws) ∷ bindingOnly ws
 
 -- the same for a colour, and for the colours
 abbrev pub bindingColour : Colour → Colour
-bindingColour c = record { bound = cond (leb (c .sites) (c .bound)) 255 (c .bound); sites = c .sites }
+bindingColour c = record { bound = cond (leb (c .sites) (c .bound)) unbounded (c .bound); sites = c .sites }
 
 unfoldable pub bindingColours : List Colour → List Colour
 bindingColours [] = []

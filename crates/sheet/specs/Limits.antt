@@ -34,14 +34,20 @@ wordTop = 4294967296
 abbrev pub topWord : ℕ
 topWord = 4294967295
 
--- a number above every x, y, height and width: they have 14 bits (2^14)
+-- a number above every x, y, height and width: they have 14 bits (2^14); and the greatest of them
 abbrev pub numberTop : ℕ
 numberTop = 16384
+
+abbrev pub mostNumber : ℕ
+mostNumber = 16383
 
 -- a bound or a slot in a word has 8 bits (2^8)
 abbrev pub byteTop : ℕ
 byteTop = 256
 
--- a layout's length is in bits 20 to 0 of its first word (2^21), and its count above it
+-- a layout's length is in bits 20 to 0 of its first word (2^21), and its count in the seven bits above it (2^7)
 abbrev pub lengthTop : ℕ
 lengthTop = 2097152
+
+abbrev pub countTop : ℕ
+countTop = 128

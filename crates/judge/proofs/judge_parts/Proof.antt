@@ -3,7 +3,7 @@ use mathlib.Core.Bool.{true, false}
 use lib.Dec.{eqb}
 use borrow.Author.Tests.{not-true, not-false, eq-eqb, ne-eqb}
 use Rattle.sheet.specs.Sheet.{sheetIn, sheetFault}
-use Rattle.sheet.proofs.Accepted.{fault-small}
+use Rattle.sheet.proofs.Accepted.{fault-seven}
 use Rattle.labelling.specs.Layout.{isLayout}
 use mathlib.Core.Path.{_≡_, refl, ap, sym, _∙_}
 use Prim.Native.Nat.{ℕ}
@@ -21,7 +21,7 @@ sheet-fault-requires c κs = search needs
 
 cast-refusal : tie.Need-cast-refusal
 cast-refusal c =
-    omega (arith, c .before .sheet-fault .ensures, fault-small (c .before .before .before .before .args .sheet .now))
+    omega (arith, c .before .sheet-fault .ensures, fault-seven (c .before .before .before .before .args .sheet .now))
 
 returns : tie.Need-returns
 returns c =

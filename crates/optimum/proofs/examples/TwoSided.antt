@@ -8,8 +8,8 @@ use Rattle.search.specs.Sums.{listing, sumTo}
 use Rattle.optimum.specs.Slots.{over, under, farFrom, clearFrom, farEnough}
 use Rattle.optimum.specs.UsedSlots.{put, at, may, draw, allows, upCost, downCost, siteCost, inside, strip, price, next, final, below, T, value, leftmost, choose, capAll, ties, answer}
 use Rattle.optimum.specs.TwoSided.{radicesOf, twoSided}
-use Rattle.optimum.specs.Examples.{StarredTwoSided, TellingTwoSided}
+use Rattle.optimum.specs.Examples.{StarredTwoSided, MisreadingsTwoSided}
 
-pub examples : StarredTwoSided × TellingTwoSided
+pub examples : StarredTwoSided × MisreadingsTwoSided
 unfolding slotsIn sitesIn coloursIn sitesRun productOf plus least first Rattle.search.specs.Walk.best digitOf place listing sumTo put at over under farFrom clearFrom farEnough may draw allows upCost downCost siteCost inside strip price next final below T value leftmost choose capAll ties answer radicesOf twoSided siteShare rankOf all tiedOf isUsed usedFrom leastX slotsOf boundsKept backbones drops nextRank byRank slotAt comesFirst
 examples = (refl, ((refl, refl, refl), (refl, refl, refl)))

@@ -17,7 +17,7 @@ use Rattle.sheet.proofs.Accepted.{Sound, colourLow}
 use Rattle.labelling.specs.Layout.{isFar, isClear, tied, heightOf, isUsed, usedOf, slotsOf, drops, countOf}
 use Rattle.labelling.specs.Lawful.{Miss}
 use Rattle.labelling.proofs.Members.{at-all, at-used}
-use Rattle.labelling.proofs.Best.{below, Obeys}
+use Rattle.labelling.proofs.Best.{lowTies, Obeys}
 use Rattle.labelling.proofs.Rules.{Rules, siteAt, rules-obey}
 use Rattle.labelling.proofs.Counted.{at-slots}
 use Rattle.search.specs.Sums.{tally}
@@ -71,7 +71,7 @@ module _ (s : Sheet) (o : Sound s) (two : s .isTwoSided ≡ true) (coloured : al
           let b = own i il in
           (omega arith, λ z. absurd (omega (arith, ap code e)))
 
-  lows : below (length (s .slots)) js ≡ true
+  lows : lowTies (length (s .slots)) js ≡ true
   lows = at-all (λ j. ltb j (length (s .slots))) 0 js (λ i l. lt-ltb (getD js i 0) (length (s .slots)) (slot i (omega (arith, long))))
 
   far : (p q : ℕ) → p < q → q < length (s .slots) → code p ≢ 0 → code q ≢ 0 → farFrom (sheetSlots s) (suc p) (code p) q (code q) ≡ true

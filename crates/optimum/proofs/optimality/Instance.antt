@@ -11,6 +11,7 @@ use Rattle.lists.proofs.Tests.{by-test, by-either, clash, not-f}
 use Rattle.search.specs.Radix.{below}
 use Rattle.search.proofs.Radix.{digit-le, sharing}
 use Rattle.search.proofs.Digits.{place-same, digit-wide}
+use Rattle.sheet.specs.Limits.{unbounded}
 use Rattle.sheet.specs.Sheet.{Sheet}
 use Rattle.optimum.specs.Strips.{Strip, Point}
 use Rattle.optimum.specs.Budgets.{boundOf, isUnbounded, radicesOf, digitIn, drawsOf}
@@ -59,11 +60,11 @@ module _ (s : Sheet) where
   }
     where
       can-open : (t : Point) (v : ℕ) → (isUnbounded s (t .c) ≡ true) ⊎ (0 < digitIn s (t .c) v) → not (eqb (boundOf s (t .c)) 0) ≡ true
-      can-open t v (inl u) = rw (ne-eqb (boundOf s (t .c)) 0 (λ (e : boundOf s (t .c) ≡ 0). omega (arith, eqb-true (boundOf s (t .c)) 255 u)))
+      can-open t v (inl u) = rw (ne-eqb (boundOf s (t .c)) 0 (λ (e : boundOf s (t .c) ≡ 0). omega (arith, eqb-true (boundOf s (t .c)) unbounded u)))
       can-open t v (inr h) =
           by-test (eqb (boundOf s (t .c)) 0)
           (λ e. absurd (let z = eqb-true (boundOf s (t .c)) 0 e in
-          let q : getD (radicesOf (s .colours)) (t .c) 1 ≡ boundOf s (t .c) + 1 = rw (ne-eqb (boundOf s (t .c)) 255 (λ (y : boundOf s (t .c) ≡ 255). omega arith)) at (radix-at (s .colours) (t .c)) in
+          let q : getD (radicesOf (s .colours)) (t .c) 1 ≡ boundOf s (t .c) + 1 = rw (ne-eqb (boundOf s (t .c)) unbounded (λ (y : boundOf s (t .c) ≡ unbounded). omega arith)) at (radix-at (s .colours) (t .c)) in
           omega (arith, digit-wide (radicesOf (s .colours)) (t .c) v (positive (s .colours)) h)))
           (λ e. rw e)
 

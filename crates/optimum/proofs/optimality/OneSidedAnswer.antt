@@ -20,7 +20,7 @@ use Rattle.labelling.proofs.Maker.{First, best-none-iff, Result, made, unmade, 
 use Rattle.optimum.specs.Strips.{Strip, Instance, rulesOf, stripsFrom, strips, labels, value, walked}
 use Rattle.optimum.specs.CostWord.{layoutCost}
 use Rattle.optimum.specs.OneSided.{topWord, instanceOf, order, pointsAt, tiesOf, oneSided}
-use Rattle.optimum.specs.Cells.{cells, cellOf, level, valueCells, oneSidedCells}
+use Rattle.optimum.specs.Cells.{cells, cellOf, level, valueCells}
 use Rattle.optimum.proofs.StripsHeld.{laws, walked-first, walked-cost}
 use Rattle.optimum.proofs.Pairs.{zeros}
 use Rattle.optimum.proofs.Budgets.{full-low}
@@ -64,13 +64,6 @@ module _ (s : Sheet) (o : Sound s) (one : s .isTwoSided ≡ false) (low : all (c
 
   start-kept : Kept (instanceOf s) (length (s .colours)) (productOf (s .colours)) (good s o .rising) (turn-low s) (replicate (length (s .slots)) 0, fullBudget s, replicate (suc (length (s .slots))) 0)
   start-kept = (λ j. omega (arith, zeros (length (s .slots)) j), full-low s, λ j. omega (arith, zeros (suc (length (s .slots))) j))
-
-  -- THE BEST, by a table of words filled level by level: an end in itself
-  pub one-sided-cells : best s ≡ oneSidedCells s
-  unfolding oneSidedCells
-  one-sided-cells =
-      one-sided-best s o one
-      ∙ (unfold oneSided walked in ap (tiesOf s) (sym (answer-cells (instanceOf s) (length (s .colours)) (productOf (s .colours)) (good s o .rising) (turn-low s) (pointsAt s (order s)) coloured _ start-kept)))
 
   -- the first cell is the table at the whole sheet with the full budget, and the slots are those of the walk by the table
   pub first-cell : firstCell s ≡ T (rulesOf (instanceOf s)) (pointsAt s (order s)) (wholeStrip s) (fullBudget s)

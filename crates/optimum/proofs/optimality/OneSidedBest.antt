@@ -10,12 +10,13 @@ use lib.Dec.{eqb, ltb}
 use lib.ListN.{length, getD, set, replicate, length-replicate}
 use borrow.Author.Tests.{ltb-true, lt-ltb, eqb-true, eqb-false}
 use Rattle.lists.proofs.Tests.{by-test, by-either, or-e, is-false}
-use Rattle.search.specs.Walk.{Before, First as Cheapest, costOf}
+use Rattle.search.specs.Walk.{Before, Cheapest, costOf}
+use Rattle.sheet.specs.Limits.{unbounded}
 use Rattle.sheet.specs.Sheet.{sheetIn, sheetFault, Sheet}
 use Rattle.sheet.proofs.Accepted.{Sound, sound}
 use Rattle.labelling.specs.Layout.{noColour, isUsed, isBetter, best}
 use Rattle.labelling.proofs.Members.{noSite, all-at, at-all, used-head, used-tail}
-use Rattle.labelling.proofs.Best.{Obeys, below as lowTies}
+use Rattle.labelling.proofs.Best.{Obeys, lowTies}
 use Rattle.labelling.proofs.Rules.{Rules, Bounded, obeys-rules, rules-obey}
 use Rattle.labelling.proofs.Earlier.{Earlier, better-e}
 use Rattle.labelling.proofs.Maker.{First, best-some-iff, best-none-iff}
@@ -97,7 +98,7 @@ module _ (s : Sheet) (o : Sound s) (one : s .isTwoSided ≡ false) where
         enough c u =
             let h = bounded-low s c u in
             rw (colour-is s o one js long steps (agree-of p) c, full-digit s c u)
-            (by-either (r .two c h) (λ q. absurd (eqb-false (boundOf s c) 255 u q)) (λ q. q))
+            (by-either (r .two c h) (λ q. absurd (eqb-false (boundOf s c) unbounded u q)) (λ q. q))
 
     pub steps-obey : Steps (instanceOf s) (replicate (length (s .slots)) 0) (pointsAt s (order s)) (gather js (order s))
         → Pays (instanceOf s) (replicate (length (s .slots)) 0) (fullBudget s) (pointsAt s (order s)) (gather js (order s))
@@ -123,7 +124,7 @@ module _ (s : Sheet) (o : Sound s) (one : s .isTwoSided ≡ false) where
         two : (c : ℕ) → c < length (s .colours) → Bounded s js c (getD (s .colours) c noColour)
         two c h =
             by-test (isUnbounded s c)
-            (λ u. inl (eqb-true (boundOf s c) 255 u))
+            (λ u. inl (eqb-true (boundOf s c) unbounded u))
             (λ u. inr (let g = pays-e (instanceOf s) (digitIn s) (isUnbounded s) (budgeted s) (pointsAt s (order s)) (gather js (order s)) _ (fullBudget s) y c u in
             omega (arith, g, colour-is s o one js long t (agree-of p) c, full-digit s c u)))
 

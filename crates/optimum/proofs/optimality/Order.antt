@@ -20,7 +20,7 @@ use Rattle.labelling.specs.Layout.{isUsed}
 use Rattle.labelling.proofs.Counted.{sumOver}
 use Rattle.labelling.proofs.Members.{noSite, all-at, used-head, used-tail}
 use Rattle.labelling.proofs.Earlier.{rankAt}
-use Rattle.optimum.specs.OneSided.{nextRank, siteOf, orderFrom, order, scatter}
+use Rattle.optimum.specs.OneSided.{rankFrom, siteOf, orderFrom, order, scatter}
 use Rattle.optimum.proofs.StripsHeld.{set-same, set-other}
 
 -- ---- distinct x
@@ -89,10 +89,10 @@ module _ (s : Sheet) (o : Sound s) where
   count a = sum (length (s .sites)) (λ i. cond (leb a (rankAt s i)) 1 0)
 
   abbrev Next : ℕ → ℕ → Type 0
-  Next a p = (p < length (s .sites)) × (a ≤ rankAt s p) × (rankAt s p ≡ nextRank s a) × ((i : ℕ) → i < length (s .sites) → a ≤ rankAt s i → rankAt s p ≤ rankAt s i)
+  Next a p = (p < length (s .sites)) × (a ≤ rankAt s p) × (rankAt s p ≡ rankFrom s a) × ((i : ℕ) → i < length (s .sites) → a ≤ rankAt s i → rankAt s p ≤ rankAt s i)
 
-  next-site : (a i : ℕ) → i < length (s .sites) → a ≤ rankAt s i → Next a (siteOf s (nextRank s a))
-  unfolding nextRank siteOf
+  next-site : (a i : ℕ) → i < length (s .sites) → a ≤ rankAt s i → Next a (siteOf s (rankFrom s a))
+  unfolding rankFrom siteOf
   next-site a i h l = go (least-is rankTop n f)
     where
       n : ℕ
@@ -102,12 +102,12 @@ module _ (s : Sheet) (o : Sound s) where
       f j = cond (leb a (rankAt s j)) (rankAt s j) rankTop
 
       x : ℕ
-      x = nextRank s a
+      x = rankFrom s a
 
       low : (j : ℕ) → j < n → a ≤ rankAt s j → x ≤ rankAt s j
       low j hj lj = let g : least rankTop n f ≤ f j = least-le rankTop n f j hj in rw (le-leb a (rankAt s j) lj) at g
 
-      go : (least rankTop n f ≡ rankTop) ⊎ ((k : ℕ) × (k < n) × (f k ≡ least rankTop n f)) → Next a (siteOf s (nextRank s a))
+      go : (least rankTop n f ≡ rankTop) ⊎ ((k : ℕ) × (k < n) × (f k ≡ least rankTop n f)) → Next a (siteOf s (rankFrom s a))
       go (inl e) = absurd (let g : x ≡ rankTop = e in omega (arith, low i h l, low-at i h))
       go (inr (k, hk, e)) =
           by-test (leb a (rankAt s k))
@@ -143,15 +143,15 @@ module _ (s : Sheet) (o : Sound s) where
     where
       none : (i : ℕ) → i < length (s .sites) → a ≤ rankAt s i → ⊥
       none i h l = let q = next-site a i h l in omega (arith, count-less a _ (q .0) (q .1) (q .3))
-  ordered-from (suc n) a e = step (sum-pos (length (s .sites)) (λ i. cond (leb a (rankAt s i)) 1 0) (omega arith)) (λ c. ordered-from n (suc (nextRank s a)) c)
+  ordered-from (suc n) a e = step (sum-pos (length (s .sites)) (λ i. cond (leb a (rankAt s i)) 1 0) (omega arith)) (λ c. ordered-from n (suc (rankFrom s a)) c)
     where
       p : ℕ
-      p = siteOf s (nextRank s a)
+      p = siteOf s (rankFrom s a)
 
       L : List ℕ
-      L = orderFrom s n (suc (nextRank s a))
+      L = orderFrom s n (suc (rankFrom s a))
 
-      build : Next a p → Ordered s n (suc (nextRank s a)) L → Ordered s (suc n) a (p ∷ L)
+      build : Next a p → Ordered s n (suc (rankFrom s a)) L → Ordered s (suc n) a (p ∷ L)
       build q r =
           record {
             long = ap suc (r .long);
@@ -165,7 +165,7 @@ module _ (s : Sheet) (o : Sound s) where
             rise = (λ j u. omega (arith, r .low j u .1, q .2), r .rise);
           }
 
-      step : (i : ℕ) × (i < length (s .sites)) × (0 < cond (leb a (rankAt s i)) 1 0) → (count (suc (nextRank s a)) ≡ n → Ordered s n (suc (nextRank s a)) L) → Ordered s (suc n) a (p ∷ L)
+      step : (i : ℕ) × (i < length (s .sites)) × (0 < cond (leb a (rankAt s i)) 1 0) → (count (suc (rankFrom s a)) ≡ n → Ordered s n (suc (rankFrom s a)) L) → Ordered s (suc n) a (p ∷ L)
       step (i, h, g) ih =
           let q : Next a p = next-site a i h (by-test (leb a (rankAt s i)) (λ t. leb-true a (rankAt s i) t) (λ t. absurd (let z : 0 < 0 = rw t at g in omega arith))) in
           let c : count a ≡ 1 + count (suc (rankAt s p)) = count-less a p (q .0) (q .1) (q .3) in

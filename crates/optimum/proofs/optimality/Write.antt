@@ -12,10 +12,10 @@ use Rattle.sheet.specs.Sheet.{Sheet, sheetIn}
 use Rattle.sheet.proofs.Accepted.{Sound, sound, sites-coloured}
 use Rattle.labelling.specs.Promise.{takesSheet}
 use Rattle.labelling.proofs.Maker.{Result, cleared}
-use Rattle.labelling.specs.Layout.{isUsed, tieWords, layoutWords}
+use Rattle.labelling.specs.Layout.{isUsed, tieWord, tieWords, firstWord, layoutWords}
 use Rattle.labelling.proofs.Members.{used-head, used-tail}
 use Rattle.labelling.proofs.Words.{length-tieWords}
-use Rattle.optimum.specs.OneSided.{headWord, tieWord, writeTies, topWord, order, scatter}
+use Rattle.optimum.specs.OneSided.{writeTies, topWord, order, scatter}
 use Rattle.optimum.proofs.StripsHeld.{set-same, set-other}
 use Rattle.optimum.proofs.optimality.OneSidedAnswer.{countIn, lengthIn, firstCell, slotsWalked, walk-long, call-made}
 use Rattle.optimum.proofs.optimality.Order.{ordered}
@@ -70,7 +70,7 @@ scatter-words (i ∷ is) (k ∷ ks) b = ap (λ (z : List ℕ). scatter z is (wor
 
 -- THE ANSWER AREA: the first word, then the ties in the order of the walk, whatever the area held
 pub write-all : (s : Sheet) → Sound s → (ks : List ℕ) → length ks ≡ length (s .sites) → (c l : ℕ) (out : List ℕ) → length (s .sites) + 1 ≤ length out
-    → writeTies (set out 0 (headWord c l)) (order s) ks ≡ layoutWords c l (putBack s ks) ++ drop (length (s .sites) + 1) out
+    → writeTies (set out 0 (firstWord c l)) (order s) ks ≡ layoutWords c l (putBack s ks) ++ drop (length (s .sites) + 1) out
 write-all s o ks lk c l [] h = absurd (omega arith)
 write-all s o ks lk c l (w ∷ out) h =
     ap (λ (z : List ℕ). writeTies (head ∷ z) (order s) ks) (sym (take-append-drop n out))
@@ -82,7 +82,7 @@ write-all s o ks lk c l (w ∷ out) h =
     n = length (s .sites)
 
     head : ℕ
-    head = headWord c l
+    head = firstWord c l
 
     later : suc n ≡ length (s .sites) + 1
     later = omega arith
@@ -100,7 +100,7 @@ write-all s o ks lk c l (w ∷ out) h =
 -- ---- THE CALL on a one-sided sheet, as the code makes it: the first word from the first cell, then a tie for each site by rising x
 pub call-written : (ws k out : List ℕ) (t : takesSheet ws k out) → sheetIn ws .isTwoSided ≡ false → firstCell (sheetIn ws) < topWord →
     Result ws k out 0
-    (writeTies (set out 0 (headWord (countIn (sheetIn ws) (firstCell (sheetIn ws))) (lengthIn (sheetIn ws) (firstCell (sheetIn ws)))))
+    (writeTies (set out 0 (firstWord (countIn (sheetIn ws) (firstCell (sheetIn ws))) (lengthIn (sheetIn ws) (firstCell (sheetIn ws)))))
     (order (sheetIn ws)) (slotsWalked (sheetIn ws))) (cleared ws k)
 call-written ws k out t one h =
     let s = sheetIn ws in

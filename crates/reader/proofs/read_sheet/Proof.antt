@@ -6,7 +6,7 @@ use lib.Dec.{eqb}
 use borrow.Author.Tests.{ne-eqb}
 use borrow.Author.Needs.{needs}
 use Rattle.sheet.specs.Sheet.{sheetFault}
-use Rattle.sheet.proofs.Accepted.{fault-small}
+use Rattle.sheet.proofs.Accepted.{fault-seven}
 use Rattle.reader.proofs.read_sheet.Statement.{statement}
 use Rattle.reader.proofs.read_sheet.Tie as tie
 
@@ -24,7 +24,7 @@ returns c =
 
 refused-requires : tie.Need-refused-requires
 refused-requires c κs =
-    omega (arith, fault-small (c .before .before .before .args .sheet .now))
+    omega (arith, fault-seven (c .before .before .before .args .sheet .now))
 
 returns-2 : tie.Need-returns-2
 returns-2 c =
