@@ -141,6 +141,19 @@ fn bad_input_is_told() {
 }
 
 #[test]
+fn options_that_do_not_go_together_are_told() {
+    let a = example("a.txt");
+    let told = |arguments: &[&str], words: &str| {
+        let (code, said) = failure(arguments);
+        assert!(code == 2 && said.contains(words), "{arguments:?}: {said}");
+    };
+    told(&["--step", "0.1pt", &a], "--step goes with --rounded");
+    told(&["--compare", &a, "--rounded", &a], "both want the place beside it");
+    told(&["--compare", "-", "-"], "can't be both files");
+    told(&["--all", ".", "--stretch"], "another option");
+}
+
+#[test]
 fn heights_are_stretched_when_asked() {
     let drawn = picture(&["--stretch", &example("gearbox.txt")]);
     assert!(drawn.contains("drawn 5 : 1 across, 6 : 1 down<"), "the picture says so");

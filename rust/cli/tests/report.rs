@@ -61,7 +61,7 @@ fn a_browser_shows_the_page_and_sorts_it() {
     // The files' numbers in the order of the rows, after the browser has run the page's script.
     let order = |sort: &str| -> Option<Vec<String>> {
         let line = format!(
-            "{browser} --headless --no-sandbox --disable-gpu --user-data-dir={} --dump-dom 'file://{page}{sort}' 2>/dev/null",
+            "timeout 60 {browser} --headless --no-sandbox --disable-gpu --user-data-dir={} --dump-dom 'file://{page}{sort}' 2>/dev/null",
             folder.path("profile")
         );
         let shown = shell(&line, b"").text();

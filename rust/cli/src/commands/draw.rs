@@ -9,6 +9,7 @@ use backbone::{Layout, NotLaidOut, Refusal, Sheet};
 use draw::{sheet_and_layout, Background, Options, Side};
 use model::rounding::Rounding;
 use sheet::Names;
+use std::ffi::{OsStr, OsString};
 use std::fmt::Display;
 use std::path::Path;
 
@@ -61,8 +62,11 @@ impl From<Failure> for NoPicture {
 }
 
 fn run(arguments: &Arguments, output: &mut Output) -> Result<Exit, Failure> {
+    if let Some(problem) = wrong_use(arguments) {
+        return Err(Failure::WrongUse(problem.to_string()));
+    }
     if let Some(folder) = arguments.path("--all") {
-        return draw_all(arguments, &folder);
+        return draw_all(&folder);
     }
     match (picture(arguments), arguments.path("-o")) {
         (Ok(svg), Some(path)) if path != Path::new("-") => write_file(&path, svg.as_bytes())?,
@@ -76,11 +80,27 @@ fn run(arguments: &Arguments, output: &mut Output) -> Result<Exit, Failure> {
     Ok(Exit::Done)
 }
 
-fn draw_all(arguments: &Arguments, folder: &Path) -> Result<Exit, Failure> {
-    if let Some(operand) = arguments.operands.first() {
-        let operand = operand.to_string_lossy();
-        return Err(Failure::WrongUse(format!("--all takes the files of its folder, not '{operand}'")));
+/// Options that don't go together.
+fn wrong_use(arguments: &Arguments) -> Option<&'static str> {
+    let has = |name: &str| arguments.has(name);
+    let is_standard = |operand: Option<&OsStr>| operand.is_some_and(|operand| operand == "-");
+    let others = ["-o", "--background", "--compare", "--rounded", "--step", "--stretch"];
+    if has("--all") && (!arguments.operands.is_empty() || others.iter().any(|name| has(name))) {
+        Some("--all takes the files of its folder, and neither another file nor another option")
+    } else if has("--compare") && has("--rounded") {
+        Some("--compare and --rounded both want the place beside it")
+    } else if has("--step") && !has("--rounded") {
+        Some("--step goes with --rounded")
+    } else if is_standard(arguments.value("--compare"))
+        && is_standard(arguments.operands.first().map(OsString::as_os_str))
+    {
+        Some("standard input can't be both files")
+    } else {
+        None
     }
+}
+
+fn draw_all(folder: &Path) -> Result<Exit, Failure> {
     for (path, content) in draw::examples::files(folder).map_err(Failure::Unable)? {
         write_file(&path, content.as_bytes())?;
     }
@@ -89,13 +109,9 @@ fn draw_all(arguments: &Arguments, folder: &Path) -> Result<Exit, Failure> {
 
 fn picture(arguments: &Arguments) -> Result<String, NoPicture> {
     let step = arguments.choice("--step", &[("0.1mm", Rounding::TenthMillimetre), ("0.1pt", Rounding::TenthPoint)])?;
-    let other = arguments.value("--compare");
-    if other.is_some() && arguments.has("--rounded") {
-        return Err(Failure::WrongUse("--compare and --rounded both want the place beside it".to_string()).into());
-    }
     let drawn = Drawn::of(Source::of(arguments.operand()?))?;
     let options = options(arguments, &drawn)?;
-    if let Some(other) = other {
+    if let Some(other) = arguments.value("--compare") {
         return compare(&drawn, &Drawn::of(Source::of(other))?, &options);
     }
     if arguments.has("--rounded") {

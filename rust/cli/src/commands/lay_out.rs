@@ -103,5 +103,8 @@ fn refused(
     }
     message(&format!("{source}: refused {number}: {refusal}"));
     causes.iter().for_each(|cause| message(&format!("{source}: {cause}")));
+    if refusal == Refusal::NoLayout {
+        message("`backbone why` says for which sites there is none, and what would help");
+    }
     Ok(Exit::Found)
 }
