@@ -22,6 +22,10 @@ Inv-loop work₀ q heights bounds parts counts left s base low n ends p₀ at₀
 abbrev μ-loop : tie.MeasureT-loop
 μ-loop work₀ q heights bounds parts counts left s base low n ends p₀ at₀ work p at = endPlace (q .colours) (length heights + 2) 0 - endPlace (q .colours) (p .b) (p .cb)
 
+-- where the function starts
+abbrev begin : tie.After-fill-row-arg Inv-loop μ-loop → tie.Start Inv-loop μ-loop
+begin c = c .before .before .before .before .before .before .before .before .before .before .before .before .before .before .before
+
 -- the row that the loop has come to
 row-lies : (c : tie.Then2 Inv-loop μ-loop) → Lies (length (c .before .before .before .before .before .before .before .before .before .before .before .before .before .before .args .heights .now)) (c .before .before .before .before .before .before .before .before .before .before .before .before .before .before .args .q .colours) (stripOf (c .before .before .loop .p))
 row-lies c =
@@ -66,8 +70,8 @@ loop-holds c =
 
 fill-row-requires : tie.Need-fill-row-requires Inv-loop μ-loop
 fill-row-requires c κs =
-    let p = c .before .before .before .before .before .before .before .before .before .before .before .before .before .before .before .pre in
-    let a = c .before .before .before .before .before .before .before .before .before .before .before .before .before .before .before .args in
+    let p = begin c .pre in
+    let a = begin c .args in
     let l = c .before .before .before .loop in
     let r = row-lies (c .before) in (
       record {
@@ -85,28 +89,28 @@ fill-row-requires c κs =
 
 add-at-2 : tie.Need-add-at-2 Inv-loop μ-loop
 add-at-2 c =
-    let p = c .before .before .before .before .before .before .before .before .before .before .before .before .before .before .before .before .before .before .pre in
-    let a = c .before .before .before .before .before .before .before .before .before .before .before .before .before .before .before .before .before .before .args in
+    let p = begin (c .before .before .before) .pre in
+    let a = begin (c .before .before .before) .args in
     let l = c .before .before .before .before .before .before .loop in
     let r = row-lies (c .before .before .before .before) in
     let z = row-low (a .q) (a .heights .now) (a .bounds .now) (a .parts .now) (a .counts .now) (a .left .now) (a .base) (a .low) (pointOf (a .s)) (stripOf (l .p)) (l .at) (p .0 .ready .apart) r (l .inv .4) in
-    omega (arith, z, c .before .before .before .before .before .before .before .before .before .before .before .before .before .before .before .before .before .before .fits)
+    omega (arith, z, begin (c .before .before .before) .fits)
 
 next-below-requires : tie.Need-next-below-requires Inv-loop μ-loop
 next-below-requires c κs =
-    let p = c .before .before .before .before .before .before .before .before .before .before .before .before .before .before .before .before .before .before .pre in
+    let p = begin (c .before .before .before) .pre in
     let l = c .before .before .before .before .before .before .loop in
     (p .0 .ready .sheet .fewColours, omega (arith, c .before .before .before .before .if2 .taken, p .0 .ready .sheet .fewSlots), l .inv .2)
 
 loop-less : tie.Need-loop-less Inv-loop μ-loop
 loop-less c =
     let l = c .before .before .before .before .before .before .before .loop in
-    omega (arith, c .next-below .ensures .3, later-end (c .before .before .before .before .before .before .before .before .before .before .before .before .before .before .before .before .before .before .before .args .q .colours) (l .p .b) (l .p .cb) (length (c .before .before .before .before .before .before .before .before .before .before .before .before .before .before .before .before .before .before .before .args .heights .now) + 2) 0 (l .inv .2) (omega (arith, c .before .before .before .before .before .if2 .taken)))
+    omega (arith, c .next-below .ensures .3, later-end (begin (c .before .before .before .before) .args .q .colours) (l .p .b) (l .p .cb) (length (begin (c .before .before .before .before) .args .heights .now) + 2) 0 (l .inv .2) (omega (arith, c .before .before .before .before .before .if2 .taken)))
 
 loop-again : tie.Need-loop-again Inv-loop μ-loop
 loop-again c =
-    let p = c .before .before .before .before .before .before .before .before .before .before .before .before .before .before .before .before .before .before .before .pre in
-    let a = c .before .before .before .before .before .before .before .before .before .before .before .before .before .before .before .before .before .before .before .args in
+    let p = begin (c .before .before .before .before) .pre in
+    let a = begin (c .before .before .before .before) .args in
     let l = c .before .before .before .before .before .before .before .loop in
     let f = c .before .before .before .fill-row in
     let e = c .next-below .ensures in

@@ -13,6 +13,10 @@ use Rattle.rows.proofs.budgets.list_left.Reads as list-left-reads
 use Rattle.table.proofs.fill_level.Reads as fill-level-reads
 use Rattle.words.proofs.get.Reads as get-reads
 
+-- where the function starts
+abbrev begin : tie.After-left3 → tie.Start
+begin c = c .before .before .before .before .before .before .before .before .before .before .before .before .before .before .before .before .before .before
+
 site-at-requires : tie.Need-site-at-requires
 site-at-requires c κs =
     let p = c .before .before .before .before .before .before .before .before .before .before .pre in (p .1 .1, omega (arith, p .0 .sheet .ysLong, p .1 .1), omega (arith, p .0 .sheet .coloursLong, p .1 .1))
@@ -35,21 +39,21 @@ slice-aggregate-fill-level c = search needs
 
 mul-fill-level : tie.Need-mul-fill-level
 mul-fill-level c =
-    let p = c .before .before .before .before .before .before .before .before .before .before .before .before .before .before .before .before .before .before .pre in
-    omega (arith, place-small (p .0 .sheet) (c .before .before .before .before .before .before .before .before .before .before .before .before .before .before .before .before .before .before .args .j) _ (omega (arith, p .1 .1, p .0 .sheet .fewSites)) (p .1 .0))
+    let p = begin c .pre in
+    omega (arith, place-small (p .0 .sheet) (begin c .args .j) _ (omega (arith, p .1 .1, p .0 .sheet .fewSites)) (p .1 .0))
 
 add-fill-level : tie.Need-add-fill-level
 add-fill-level c = search needs
 
 mul-fill-level-2 : tie.Need-mul-fill-level-2
 mul-fill-level-2 c =
-    let p = c .before .before .before .before .before .before .before .before .before .before .before .before .before .before .before .before .before .before .pre in
-    omega (arith, place-small (p .0 .sheet) (c .before .before .before .before .before .before .before .before .before .before .before .before .before .before .before .before .before .before .args .j + 1) _ (omega (arith, p .1 .1, p .0 .sheet .fewSites)) (p .1 .0))
+    let p = begin c .pre in
+    omega (arith, place-small (p .0 .sheet) (begin c .args .j + 1) _ (omega (arith, p .1 .1, p .0 .sheet .fewSites)) (p .1 .0))
 
 fill-level-requires : tie.Need-fill-level-requires
 fill-level-requires c κs =
-    let a = c .before .before .before .before .before .before .before .before .before .before .before .before .before .before .before .before .before .before .args in
-    let p = c .before .before .before .before .before .before .before .before .before .before .before .before .before .before .before .before .before .before .pre in
+    let a = begin c .args in
+    let p = begin c .pre in
     let r = level-within (a .j) _ (a .size) _ _ (p .1 .0) (p .1 .1) (p .0 .fits) in
     record {
       ready = record {
@@ -68,8 +72,8 @@ same-length c =
 
 returns : tie.Need-returns
 returns c =
-    let a = c .before .before .before .before .before .before .before .before .before .before .before .before .before .before .before .before .before .before .before .before .before .args in
-    let p = c .before .before .before .before .before .before .before .before .before .before .before .before .before .before .before .before .before .before .before .before .before .pre in
+    let a = begin (c .before .before .before) .args in
+    let p = begin (c .before .before .before) .pre in
     let f = c .before .before .fill-level .ensures in (
       others-of _ _ _ _ _ (p .1 .0) (f .0),
       λ m h. level-right (p .0 .sheet) (a .work .now) (c .before .before .fill-level .last .0) _ _ _ (a .j) _ _ _ (c .before .before .before .before .before .before .before .before .before .before .site-at .ensures) (p .0 .splits) (p .1 .1) (rw (← (c .before .before .before .before .before .before .before .before .before .get .ensures)) (c .before .before .before .before .before .before .list-left .ensures)) (f .1) m h,

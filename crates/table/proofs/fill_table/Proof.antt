@@ -24,6 +24,10 @@ Inv-loop work₀ q heights bounds radices draws parts counts xs ys cs rows size 
 abbrev μ-loop : tie.MeasureT-loop
 μ-loop work₀ q heights bounds radices draws parts counts xs ys cs rows size j₀ work j = j
 
+-- where the function starts
+abbrev begin : tie.After-zero-level-arg Inv-loop μ-loop → tie.Start Inv-loop μ-loop
+begin c = c .before .before .before .before .before .before .before .before .before .before .before .before .before .before .before .before .before
+
 rows-of-requires : tie.Need-rows-of-requires Inv-loop μ-loop
 rows-of-requires c κs =
     let g = c .before .before .before .before .before .before .before .before .before .before .pre in (g .sheet .fewSlots, g .sheet .fewColours)
@@ -42,18 +46,18 @@ mark-table-requires c κs =
 
 mul-zero-level : tie.Need-mul-zero-level Inv-loop μ-loop
 mul-zero-level c =
-    let g = c .before .before .before .before .before .before .before .before .before .before .before .before .before .before .before .before .before .pre in
-    omega (arith, place-small (g .sheet) (length (c .before .before .before .before .before .before .before .before .before .before .before .before .before .before .before .before .before .args .xs .now)) _ (omega (arith, g .sheet .fewSites)) (ap (λ (z : ℕ). z * c .before .before .before .before .before .before .before .before .before .before .before .before .before .before .before .before .before .args .q .budgets) (c .before .before .before .before .before .before .rows-of .ensures)))
+    let g = begin c .pre in
+    omega (arith, place-small (g .sheet) (length (begin c .args .xs .now)) _ (omega (arith, g .sheet .fewSites)) (ap (λ (z : ℕ). z * begin c .args .q .budgets) (c .before .before .before .before .before .before .rows-of .ensures)))
 
 zero-level-requires : tie.Need-zero-level-requires Inv-loop μ-loop
 zero-level-requires c κs =
-    let g = c .before .before .before .before .before .before .before .before .before .before .before .before .before .before .before .before .before .pre in
-    let a = c .before .before .before .before .before .before .before .before .before .before .before .before .before .before .before .before .before .args in
+    let g = begin c .pre in
+    let a = begin c .args in
     last-within (length (a .xs .now)) _ _ _ _ (ap (λ (z : ℕ). z * a .q .budgets) (c .before .before .before .before .before .before .rows-of .ensures)) (g .fits) (c .before .before .before .mark-table .kept .0)
 
 loop-holds : tie.Need-loop-holds Inv-loop μ-loop
 loop-holds c =
-    let a = c .before .before .before .before .before .before .before .before .before .before .before .before .before .before .before .before .before .before .before .before .args in
+    let a = begin (c .before .before .before) .args in
     let e = ap (λ (z : ℕ). z * a .q .budgets) (c .before .before .before .before .before .before .before .before .before .rows-of .ensures) in
     let z = c .before .before .zero-level .ensures in
     (e, omega arith, refl, λ o. done-last o (c .before .before .before .before .before .before .mark-table .last .0) (c .before .before .zero-level .last .0) _ e (c .before .before .before .before .before .before .mark-table .ensures .0) (z .0) (z .1))
@@ -63,7 +67,7 @@ sub-j c = search needs
 
 fill-site-requires : tie.Need-fill-site-requires Inv-loop μ-loop
 fill-site-requires c κs =
-    let p = c .before .before .before .before .before .before .before .before .before .before .before .before .before .before .before .before .before .before .before .before .before .before .before .pre in
+    let p = begin (c .before .before .before .before .before .before) .pre in
     let l = c .before .before .loop in (
       ready-area p (l .inv .2 ∙ c .before .before .before .before .before .zero-level .kept .0 ∙ c .before .before .before .before .before .before .before .before .before .mark-table .kept .0),
       (l .inv .0, omega (arith, c .before .loop-test .taken, l .inv .1)),
@@ -75,7 +79,7 @@ loop-less c = search needs
 loop-again : tie.Need-loop-again Inv-loop μ-loop
 loop-again c =
     let l = c .before .before .before .before .before .loop in
-    let a = c .before .before .before .before .before .before .before .before .before .before .before .before .before .before .before .before .before .before .before .before .before .before .before .before .before .before .args in
+    let a = begin (c .before .before .before .before .before .before .before .before .before) .args in
     let f = c .before .before .fill-site in (
       l .inv .0,
       omega (arith, l .inv .1),
@@ -89,8 +93,8 @@ same-length c =
 
 returns : tie.Need-returns Inv-loop μ-loop
 returns c =
-    let p = c .before .before .before .before .before .before .before .before .before .before .before .before .before .before .before .before .before .before .before .before .before .before .pre in
-    let a = c .before .before .before .before .before .before .before .before .before .before .before .before .before .before .before .before .before .before .before .before .before .before .args in
+    let p = begin (c .before .before .before .before .before) .pre in
+    let a = begin (c .before .before .before .before .before) .args in
     let l = c .before .loop in
     let z : l .j ≡ 0 = omega (arith, c .loop-test .left) in
     let m = c .before .before .before .before .before .before .before .before .mark-table in

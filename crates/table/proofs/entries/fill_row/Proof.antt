@@ -18,6 +18,14 @@ use Rattle.table.proofs.entries.open_slots.Reads as open-slots-reads
 use Rattle.rows.proofs.row_place.Reads as row-place-reads
 use Rattle.table.proofs.entries.start_row.Reads as start-row-reads
 
+-- where the function starts
+abbrev begin : tie.After-is-inside → tie.Start
+begin c = c .before .before .before .before .before .before .before .before .before .before .before
+
+-- where its first slice is known
+abbrev known : tie.After-is-inside → tie.After-slice-known
+known c = c .before .before .before .before .before .before .before .before .before .before
+
 mul-if1 : tie.Need-mul-if1
 mul-if1 c =
     let p = c .before .before .before .before .before .before .pre in omega (arith, p .0 .ready .apart, p .0 .ready .within, p .0 .ready .sheet .someBudget)
@@ -59,11 +67,11 @@ same-length c =
 
 returns-2 : tie.Need-returns-2
 returns-2 c =
-    let a = c .before .before .before .before .before .before .before .before .before .before .before .before .before .before .before .before .args in
+    let a = begin (c .before .before .before .before .before) .args in
     let o = c .before .before .start-row in
     let g = sym (c .before .before .before .before .before .is-inside .ensures (a .q) (a .bounds .now)) ∙ not-f _ (c .before .before .before .before .if2 .taken) in
     let f = ap (λ (z : ℕ). a .low + z) (c .before .before .before .before .before .before .row-place .ensures) in
-    (o .ensures .0, λ m. row-copied (a .q) (a .heights .now) (a .bounds .now) (a .parts .now) (a .counts .now) (a .left .now) (a .work .now) (o .last .0) (a .base) (a .low) _ (stripOf (a .p)) (pointOf (a .s)) (λ i. omega (arith, c .before .before .before .before .before .before .before .before .before .before .before .before .before .before .before .slice-known .given i)) g f (o .ensures .1))
+    (o .ensures .0, λ m. row-copied (a .q) (a .heights .now) (a .bounds .now) (a .parts .now) (a .counts .now) (a .left .now) (a .work .now) (o .last .0) (a .base) (a .low) _ (stripOf (a .p)) (pointOf (a .s)) (λ i. omega (arith, known (c .before .before .before .before .before) .slice-known .given i)) g f (o .ensures .1))
 
 join-least-requires : tie.Need-join-least-requires
 join-least-requires c κs =
@@ -79,11 +87,11 @@ start-row-requires-2 c κs =
 
 site-opens-requires : tie.Need-site-opens-requires
 site-opens-requires c κs =
-    let p = c .before .before .before .before .before .before .before .before .before .before .before .before .before .before .before .before .before .pre in omega (arith, p .0 .ready .site .colourLow, p .1)
+    let p = begin (c .before .before .before .before .before .before) .pre in omega (arith, p .0 .ready .site .colourLow, p .1)
 
 open-slots-requires : tie.Need-open-slots-requires
 open-slots-requires c κs =
-    let p = c .before .before .before .before .before .before .before .before .before .before .before .before .before .before .before .before .before .before .before .before .pre in
+    let p = begin (c .before .before .before .before .before .before .before .before .before) .pre in
     rw (c .before .before .before .before .before .start-row2 .kept .0) (no-bounds (p .0))
 
 same-length-2 : tie.Need-same-length-2
@@ -92,8 +100,8 @@ same-length-2 c =
 
 returns-3 : tie.Need-returns-3
 returns-3 c =
-    let a = c .before .before .before .before .before .before .before .before .before .before .before .before .before .before .before .before .before .before .before .before .before .before .before .args in
-    let p = c .before .before .before .before .before .before .before .before .before .before .before .before .before .before .before .before .before .before .before .before .before .before .before .pre in
+    let a = begin (c .before .before .before .before .before .before .before .before .before .before .before .before) .args in
+    let p = begin (c .before .before .before .before .before .before .before .before .before .before .before .before) .pre in
     let r = c .before .before .before .before .before .before .before .before .start-row2 in
     let o = c .before .before .open-slots in
     let g = sym (c .before .before .before .before .before .before .before .before .before .before .before .before .is-inside .ensures (a .q) (a .bounds .now)) ∙ not-e _ (c .before .before .before .before .before .before .before .before .before .before .before .if2 .left) in
@@ -110,7 +118,7 @@ same-length-3 c =
 
 returns-4 : tie.Need-returns-4
 returns-4 c =
-    let a = c .before .before .before .before .before .before .before .before .before .before .before .before .before .before .before .before .before .before .before .args in
+    let a = begin (c .before .before .before .before .before .before .before .before) .args in
     let r = c .before .before .before .before .start-row2 in
     let g = sym (c .before .before .before .before .before .before .before .before .is-inside .ensures (a .q) (a .bounds .now)) ∙ not-e _ (c .before .before .before .before .before .before .before .if2 .left) in
     let h = sym (c .before .site-opens .ensures) ∙ c .if3 .left in

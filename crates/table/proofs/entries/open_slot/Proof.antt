@@ -19,6 +19,10 @@ use Rattle.strips.proofs.open_cost.Reads as open-cost-reads
 use Rattle.words.proofs.either.Reads as either-reads
 use Rattle.words.proofs.same.Reads as same-reads
 
+-- where the function starts
+abbrev begin : tie.After-open-cost → tie.Start
+begin c = c .before .before .before .before .before .before .before .before .before .before .before .before .before .before .before
+
 -- the rows of both parts stand below the row that is filled
 fitting : (c : tie.After-part-places) → PartsFit (c .before .before .before .before .before .before .args .q .budgets) (c .before .before .before .before .before .before .args .base) (length (c .before .before .before .before .before .before .args .work .now)) (c .part-places .result .upper) (c .part-places .result .lower)
 fitting c =
@@ -85,7 +89,7 @@ open-cost-requires c κs =
 
 open-row-requires : tie.Need-open-row-requires
 open-row-requires c κs =
-    let p = c .before .before .before .before .before .before .before .before .before .before .before .before .before .before .before .pre .0 in let f = fitting (c .before .before .before .before .before .before .before .before .before) in (p .budgets .listed, f, p .budgets .leftLong)
+    let p = begin c .pre .0 in let f = fitting (c .before .before .before .before .before .before .before .before .before) in (p .budgets .listed, f, p .budgets .leftLong)
 
 same-length : tie.Need-same-length
 same-length c =
@@ -93,8 +97,8 @@ same-length c =
 
 returns-2 : tie.Need-returns-2
 returns-2 c =
-    let a = c .before .before .before .before .before .before .before .before .before .before .before .before .before .before .before .before .before .before .args in
-    let p = c .before .before .before .before .before .before .before .before .before .before .before .before .before .before .before .before .before .before .pre in
+    let a = begin (c .before .before .before) .args in
+    let p = begin (c .before .before .before) .pre in
     let o = c .before .before .open-row in
     let e = c .before .before .before .before .before .before .before .before .before .before .before .before .part-places .ensures in (
       o .ensures .0,

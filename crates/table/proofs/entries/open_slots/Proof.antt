@@ -22,6 +22,10 @@ Inv-loop work₀ q heights parts counts left p s base low window k₀ work k = (
 abbrev μ-loop : tie.MeasureT-loop
 μ-loop work₀ q heights parts counts left p s base low window k₀ work k = window .to - k
 
+-- where the function starts
+abbrev begin : tie.After-open-slot-arg Inv-loop μ-loop → tie.Start Inv-loop μ-loop
+begin c = c .before .before .before .before .before .before .before .before .before .before .before .before .before .before .before
+
 open-window-requires : tie.Need-open-window-requires Inv-loop μ-loop
 open-window-requires c κs =
     let p = c .before .before .before .before .before .pre in
@@ -96,10 +100,10 @@ loop-holds c =
 
 open-slot-requires : tie.Need-open-slot-requires Inv-loop μ-loop
 open-slot-requires c κs =
-    let p = c .before .before .before .before .before .before .before .before .before .before .before .before .before .before .before .pre in
+    let p = begin c .pre in
     let l = c .before .before .before .loop in
     let w = c .before .before .before .before .before .before .before .before .before .open-window .ensures in
-    (rw (l .inv .2 .long) p, (omega (arith, c .before .if3 .taken, w .high (c .before .before .before .before .before .before .before .if1 .left)), window-gap (c .before .before .before .before .before .before .before .before .before .before .before .before .before .before .before .args .q) (c .before .before .before .before .before .before .before .before .before .before .before .before .before .before .before .args .heights .now) (stripOf (c .before .before .before .before .before .before .before .before .before .before .before .before .before .before .before .args .p)) (pointOf (c .before .before .before .before .before .before .before .before .before .before .before .before .before .before .before .args .s)) w (l .k) (l .inv .0) (c .before .if3 .taken)))
+    (rw (l .inv .2 .long) p, (omega (arith, c .before .if3 .taken, w .high (c .before .before .before .before .before .before .before .if1 .left)), window-gap (begin c .args .q) (begin c .args .heights .now) (stripOf (begin c .args .p)) (pointOf (begin c .args .s)) w (l .k) (l .inv .0) (c .before .if3 .taken)))
 
 add-k : tie.Need-add-k Inv-loop μ-loop
 add-k c =
@@ -111,8 +115,8 @@ loop-less c =
 
 loop-again : tie.Need-loop-again Inv-loop μ-loop
 loop-again c =
-    let a = c .before .before .before .before .before .before .before .before .before .before .before .before .before .before .before .before .before .before .args in
-    let p = c .before .before .before .before .before .before .before .before .before .before .before .before .before .before .before .before .before .before .pre in
+    let a = begin (c .before .before .before) .args in
+    let p = begin (c .before .before .before) .pre in
     let l = c .before .before .before .before .before .before .loop in
     let o = c .before .before .open-slot in
     let w = c .before .before .before .before .before .before .before .before .before .before .before .before .open-window .ensures in

@@ -22,6 +22,10 @@ Inv-loop work₀ q heights bounds s base low n ends p₀ at₀ work p at = (p .a
 abbrev μ-loop : tie.MeasureT-loop
 μ-loop work₀ q heights bounds s base low n ends p₀ at₀ work p at = endPlace (q .colours) (length heights + 2) 0 - endPlace (q .colours) (p .b) (p .cb)
 
+-- where the function starts
+abbrev begin : tie.After-slice-known2 Inv-loop μ-loop → tie.Start Inv-loop μ-loop
+begin c = c .before .before .before .before .before .before .before .before .before .before .before .before .before .before .before
+
 -- the row that the loop has come to
 row-lies : (c : tie.Then2 Inv-loop μ-loop) → Lies (length (c .before .before .before .before .before .before .before .before .before .before .before .args .heights .now)) (c .before .before .before .before .before .before .before .before .before .before .before .args .q .colours) (stripOf (c .before .before .loop .p))
 row-lies c =
@@ -80,27 +84,27 @@ mark-row-requires c κs =
 
 add-at-2 : tie.Need-add-at-2 Inv-loop μ-loop
 add-at-2 c =
-    let p = c .before .before .before .before .before .before .before .before .before .before .before .before .before .before .before .pre in
+    let p = begin c .pre in
     let l = c .before .before .before .before .before .before .loop in
     let r = row-lies (c .before .before .before .before) in
     omega (arith, at-low (p .0) _ r _ (l .inv .4), p .0 .within)
 
 next-below-requires : tie.Need-next-below-requires Inv-loop μ-loop
 next-below-requires c κs =
-    let p = c .before .before .before .before .before .before .before .before .before .before .before .before .before .before .before .pre in
+    let p = begin c .pre in
     let l = c .before .before .before .before .before .before .loop in
     (p .0 .sheet .fewColours, omega (arith, l .inv .3, p .0 .sheet .fewSlots), l .inv .2)
 
 loop-less : tie.Need-loop-less Inv-loop μ-loop
 loop-less c =
-    let p = c .before .before .before .before .before .before .before .before .before .before .before .before .before .before .before .before .pre in
+    let p = begin (c .before) .pre in
     let l = c .before .before .before .before .before .before .before .loop in
-    omega (arith, c .next-below .ensures .3, later-end (c .before .before .before .before .before .before .before .before .before .before .before .before .before .before .before .before .args .q .colours) (l .p .b) (l .p .cb) (length (c .before .before .before .before .before .before .before .before .before .before .before .before .before .before .before .before .args .heights .now) + 2) 0 (l .inv .2) (omega (arith, c .before .before .before .before .before .if2 .taken)))
+    omega (arith, c .next-below .ensures .3, later-end (begin (c .before) .args .q .colours) (l .p .b) (l .p .cb) (length (begin (c .before) .args .heights .now) + 2) 0 (l .inv .2) (omega (arith, c .before .before .before .before .before .if2 .taken)))
 
 loop-again : tie.Need-loop-again Inv-loop μ-loop
 loop-again c =
-    let p = c .before .before .before .before .before .before .before .before .before .before .before .before .before .before .before .before .pre in
-    let a = c .before .before .before .before .before .before .before .before .before .before .before .before .before .before .before .before .args in
+    let p = begin (c .before) .pre in
+    let a = begin (c .before) .args in
     let l = c .before .before .before .before .before .before .before .loop in
     let f = c .before .before .before .mark-row in
     let e = c .next-below .ensures in

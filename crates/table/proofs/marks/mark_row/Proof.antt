@@ -22,6 +22,10 @@ use Rattle.strips.proofs.open_window.Reads as open-window-reads
 use Rattle.strips.proofs.site_opens.Reads as site-opens-reads
 use Rattle.words.proofs.less.Reads as less-reads
 
+-- where the function starts
+abbrev begin : tie.After-site-opens → tie.Start
+begin c = c .before .before .before .before .before .before .before .before .before .before .before .before .before .before
+
 returns : tie.Need-returns
 returns c =
     (marking-none _ _ _, λ e. absurd (c .if1 .taken e))
@@ -60,11 +64,11 @@ site-opens-requires c κs =
 
 open-window-requires : tie.Need-open-window-requires
 open-window-requires c κs =
-    let p = c .before .before .before .before .before .before .before .before .before .before .before .before .before .before .before .before .pre in (on-slots (p .sheet), p .site, p .lies .bLow)
+    let p = begin (c .before .before) .pre in (on-slots (p .sheet), p .site, p .lies .bLow)
 
 mark-window-requires : tie.Need-mark-window-requires
 mark-window-requires c κs =
-    let p = c .before .before .before .before .before .before .before .before .before .before .before .before .before .before .before .before .before .pre in
+    let p = begin (c .before .before .before) .pre in
     ((rw (c .before .before .before .before .before .before .mark-own2 .kept .0) (p .fits), p .lies), (p .site .colourLow, c .open-window .ensures .high))
 
 same-length-2 : tie.Need-same-length-2
@@ -73,8 +77,8 @@ same-length-2 c =
 
 returns-3 : tie.Need-returns-3
 returns-3 c =
-    let a = c .before .before .before .before .before .before .before .before .before .before .before .before .before .before .before .before .before .before .before .before .args in
-    let p = c .before .before .before .before .before .before .before .before .before .before .before .before .before .before .before .before .before .before .before .before .pre in
+    let a = begin (c .before .before .before .before .before .before) .args in
+    let p = begin (c .before .before .before .before .before .before) .pre in
     let o = c .before .before .before .before .before .before .before .before .before .mark-own2 .ensures in
     let w = c .before .before .mark-window .ensures in
     let i = sym (c .before .before .before .before .before .before .before .before .before .before .before .before .before .before .is-inside .ensures (a .q) (a .bounds .now)) ∙ not-e _ (c .before .before .before .before .before .before .before .before .before .before .before .before .before .if2 .left) in (
@@ -90,8 +94,8 @@ same-length-3 c =
 
 returns-4 : tie.Need-returns-4
 returns-4 c =
-    let a = c .before .before .before .before .before .before .before .before .before .before .before .before .before .before .before .args in
-    let p = c .before .before .before .before .before .before .before .before .before .before .before .before .before .before .before .pre in
+    let a = begin (c .before) .args in
+    let p = begin (c .before) .pre in
     let o = c .before .before .before .before .mark-own2 .ensures in
     let i = sym (c .before .before .before .before .before .before .before .before .before .is-inside .ensures (a .q) (a .bounds .now)) ∙ not-e _ (c .before .before .before .before .before .before .before .before .if2 .left) in (
       o .0,

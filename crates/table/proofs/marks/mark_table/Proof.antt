@@ -26,6 +26,10 @@ Inv-loop work₀ q heights bounds xs ys cs rows n size j₀ work j = (size ≡ l
 abbrev μ-loop : tie.MeasureT-loop
 μ-loop work₀ q heights bounds xs ys cs rows n size j₀ work j = length xs - j
 
+-- where the function starts
+abbrev begin : tie.After-slice-known3 Inv-loop μ-loop → tie.Start Inv-loop μ-loop
+begin c = c .before .before .before .before .before .before .before .before .before .before .before .before .before .before .before
+
 cast-n : tie.Need-cast-n Inv-loop μ-loop
 cast-n c = search needs
 
@@ -65,20 +69,20 @@ mark-own-requires c κs =
 
 loop-holds : tie.Need-loop-holds Inv-loop μ-loop
 loop-holds c =
-    let a = c .before .before .before .before .before .before .before .before .before .before .before .before .before .before .before .args in
-    let p = c .before .before .before .before .before .before .before .before .before .before .before .before .before .before .before .pre in
+    let a = begin c .args in
+    let p = begin c .pre in
     let e = ap (λ (z : ℕ). z * a .q .budgets) (p .3) in
     (e, omega arith, refl, λ o. reach-first o (c .before .before .mark-own .last .0) (a .rows * a .q .budgets) (whole-marked (a .q) (a .heights .now) (a .bounds .now) (c .before .before .mark-own .last .0) (c .before .before .mark-own .ensures .1 refl)), λ i h. refl)
 
 mark-site-requires : tie.Need-mark-site-requires Inv-loop μ-loop
 mark-site-requires c κs =
-    let p = c .before .before .before .before .before .before .before .before .before .before .before .before .before .before .before .before .before .before .pre in
+    let p = begin (c .before .before .before) .pre in
     let l = c .before .before .loop in
     (p .0, p .1, omega (arith, p .2, l .inv .2 ∙ c .before .before .before .before .before .mark-own .kept .0 ∙ c .before .before .before .before .before .before .before .before .before .clear-marks .kept .0), (l .inv .0, c .before .loop-test .taken))
 
 add-j : tie.Need-add-j Inv-loop μ-loop
 add-j c =
-    omega (arith, c .before .before .before .before .loop-test .taken, c .before .before .before .before .before .before .before .before .before .before .before .before .before .before .before .before .before .before .before .before .before .pre .0 .fewSites)
+    omega (arith, c .before .before .before .before .loop-test .taken, begin (c .before .before .before .before .before .before) .pre .0 .fewSites)
 
 loop-less : tie.Need-loop-less Inv-loop μ-loop
 loop-less c =
@@ -86,8 +90,8 @@ loop-less c =
 
 loop-again : tie.Need-loop-again Inv-loop μ-loop
 loop-again c =
-    let a = c .before .before .before .before .before .before .before .before .before .before .before .before .before .before .before .before .before .before .before .before .before .args in
-    let p = c .before .before .before .before .before .before .before .before .before .before .before .before .before .before .before .before .before .before .before .before .before .pre in
+    let a = begin (c .before .before .before .before .before .before) .args in
+    let p = begin (c .before .before .before .before .before .before) .pre in
     let l = c .before .before .before .before .before .loop in
     let m = c .before .before .mark-site in (
       l .inv .0,
@@ -103,8 +107,8 @@ same-length c =
 
 returns : tie.Need-returns Inv-loop μ-loop
 returns c =
-    let a = c .before .before .before .before .before .before .before .before .before .before .before .before .before .before .before .before .before .args in
-    let p = c .before .before .before .before .before .before .before .before .before .before .before .before .before .before .before .before .before .pre in
+    let a = begin (c .before .before) .args in
+    let p = begin (c .before .before) .pre in
     let l = c .before .loop in
     let z : l .j ≡ length (a .xs .now) = omega (arith, c .loop-test .left, l .inv .1) in (
       to-level (instanceOn (a .q) (a .heights .now) (a .bounds .now)) (a .q) (pointsBy (a .xs .now) (a .ys .now) (a .cs .now)) (l .work) _ _ (l .j) (l .inv .0) z (l .inv .3 (p .0)),
