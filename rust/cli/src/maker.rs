@@ -2,9 +2,11 @@
 
 use crate::exit::Failure;
 use backbone::{Layout, NotLaidOut, Refusal, WorkArea};
-use model::sheet::Sheet;
+use model::maker::drop_loose_bounds;
+use model::sheet::{Sheet, MOST_BUDGETS};
 
-/// The maker with its work area.
+/// The maker with its work area. It is asked about the sheet without what can't make a difference, since the work area
+/// grows with it.
 #[derive(Default)]
 pub struct Maker {
     area: WorkArea,
@@ -13,7 +15,7 @@ pub struct Maker {
 impl Maker {
     /// The best layout of a sheet, or its refusal.
     pub fn lay_out(&mut self, sheet: &Sheet) -> Result<Result<Layout, Refusal>, Failure> {
-        match self.area.lay_out(&sheet.words()) {
+        match self.area.lay_out(&lean(sheet).words()) {
             Ok(layout) => Ok(Ok(layout)),
             Err(NotLaidOut::Refused(refusal)) => Ok(Err(refusal)),
             Err(problem) => Err(Failure::Unable(problem.to_string())),
@@ -23,5 +25,48 @@ impl Maker {
     /// Whether a sheet has a layout. A sheet that the reader refuses has none.
     pub fn has_layout(&mut self, sheet: &Sheet) -> Result<bool, Failure> {
         Ok(self.lay_out(sheet)?.is_ok())
+    }
+}
+
+/// The sheet without bounds that can't bind and without colours that have no sites: it has the same layouts. A sheet
+/// that the reader refuses for its bounds stays as it is.
+fn lean(sheet: &Sheet) -> Sheet {
+    let mut lean = sheet.clone();
+    if sheet.budgets() > MOST_BUDGETS {
+        return lean;
+    }
+    drop_loose_bounds(&mut lean);
+    for colour in (0..lean.bounds.len()).rev() {
+        if lean.sites.iter().all(|site| site.colour != colour) {
+            lean.bounds.remove(colour);
+            lean.sites.iter_mut().filter(|site| site.colour > colour).for_each(|site| site.colour -= 1);
+        }
+    }
+    lean
+}
+
+#[cfg(test)]
+mod tests {
+    use super::*;
+    use model::random::{medium_sheet, small_sheet, Random};
+
+    #[test]
+    fn what_is_left_out_makes_no_difference() {
+        let mut random = Random::new(1705);
+        let (mut maker, mut leaner) = (Maker::default(), 0);
+        for index in 0..4_000 {
+            let sheet = if index % 4 == 0 { medium_sheet(&mut random) } else { small_sheet(&mut random) };
+            assert_eq!(maker.lay_out(&sheet), Ok(backbone::lay_out(&sheet.words())), "{sheet:?}");
+            leaner += u32::from(lean(&sheet) != sheet);
+        }
+        assert!(leaner > 1_000, "{leaner}");
+    }
+
+    #[test]
+    fn too_high_bounds_are_still_refused() {
+        let words = [0x1000_8008, 0x3000_0007, 0x3000_0008];
+        let sheet = Sheet { bounds: vec![7, 8], ..model::sheet::read(&words[..1]).expect("a head") };
+        assert_eq!(backbone::lay_out(&words), Err(Refusal::TooManyBudgets));
+        assert_eq!(Maker::default().lay_out(&sheet), Ok(Err(Refusal::TooManyBudgets)));
     }
 }

@@ -12,7 +12,7 @@ pub fn make(words: &[u32], work: &mut [u32], answer: &mut [u32]) -> u32 {
 }
 
 /// A bound that is at least its colour's number of sites can't bind: without it the table is smaller.
-pub(crate) fn drop_loose_bounds(sheet: &mut Sheet) {
+pub fn drop_loose_bounds(sheet: &mut Sheet) {
     for (colour, bound) in sheet.bounds.iter_mut().enumerate() {
         let sites = sheet.sites.iter().filter(|site| site.colour == colour).count();
         if sites as u32 <= *bound {

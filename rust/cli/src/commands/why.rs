@@ -6,7 +6,7 @@ use crate::input::Source;
 use crate::maker::Maker;
 use crate::output::{write_file, Output};
 use crate::subcommand::Subcommand;
-use crate::why::remedies::{helping_slots, largest_gap, raised_bounds, Heights, Raised};
+use crate::why::remedies::{Heights, Raised, Remedies};
 use crate::why::{is_smallest, smallest_set};
 use backbone::{causes, split_stored, Refusal};
 use draw::Options;
@@ -77,12 +77,10 @@ impl Explanation {
         if !is_smallest(sheet, &set, maker)? {
             return Err(Failure::Unable("the set of sites that was found is not smallest".to_string()));
         }
-        Ok(Explanation {
-            gap: largest_gap(sheet, maker)?,
-            bounds: raised_bounds(sheet, maker)?,
-            slots: helping_slots(sheet, &set, maker)?,
-            set,
-        })
+        let mut remedies = Remedies::new(sheet, &set, maker);
+        let (gap, bounds) = (remedies.largest_gap()?, remedies.raised_bounds()?);
+        let slots = remedies.helping_slots()?;
+        Ok(Explanation { set, gap, bounds, slots })
     }
 
     fn heading(&self, sheet: &Sheet) -> String {

@@ -18,9 +18,10 @@ pub fn with_sites(sheet: &Sheet, sites: &[usize]) -> Sheet {
 /// layout. The sheet has no layout.
 ///
 /// A layout stays lawful when sites are left out, so a set of sites with a layout has no part without one. Each round
-/// finds the shortest list of candidates that has no layout beside the kept sites; its last site is then needed.
+/// finds the shortest list of candidates, by rising x, that has no layout beside the kept sites; its last site is then
+/// needed.
 pub fn smallest_set(sheet: &Sheet, maker: &mut Maker) -> Result<Vec<usize>, Failure> {
-    let mut candidates: Vec<usize> = (0..sheet.sites.len()).collect();
+    let mut candidates = sheet.by_x();
     let mut kept: Vec<usize> = Vec::new();
     while maker.has_layout(&with_sites(sheet, &kept))? {
         let shortest = shortest_without_layout(sheet, &kept, &candidates, maker)?;
@@ -39,11 +40,15 @@ fn shortest_without_layout(
     candidates: &[usize],
     maker: &mut Maker,
 ) -> Result<usize, Failure> {
-    let (mut with_layout, mut without) = (0, candidates.len());
+    let mut has_layout = |count: usize| maker.has_layout(&with_sites(sheet, &[kept, &candidates[..count]].concat()));
+    // Few sites first: the maker's work grows with them.
+    let (mut with_layout, mut without) = (0, 1);
+    while without < candidates.len() && has_layout(without)? {
+        (with_layout, without) = (without, (2 * without).min(candidates.len()));
+    }
     while without - with_layout > 1 {
         let middle = (with_layout + without) / 2;
-        let sites = [kept, &candidates[..middle]].concat();
-        if maker.has_layout(&with_sites(sheet, &sites))? {
+        if has_layout(middle)? {
             with_layout = middle;
         } else {
             without = middle;

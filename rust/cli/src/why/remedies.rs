@@ -1,29 +1,14 @@
 //! What would give a sheet a layout: a smaller gap, a higher bound, one slot more. Each is tried by a call.
 
-use super::with_sites;
+use super::{smallest_set, with_sites};
 use crate::exit::Failure;
 use crate::maker::Maker;
-use backbone::{Refusal, MOST_SLOTS};
-use model::sheet::{Sheet, UNBOUNDED};
+use backbone::MOST_SLOTS;
+use model::sheet::{Sheet, MOST_BUDGETS, UNBOUNDED};
 use std::collections::BTreeSet;
 
 /// The highest height that a slot can have.
 const MOST_HEIGHT: u32 = 16_383;
-
-/// The largest gap with which there is a layout, if any has one. A layout that keeps a gap keeps every smaller one, so
-/// the search halves; the gap that it gives and the next larger one were both tried.
-pub fn largest_gap(sheet: &Sheet, maker: &mut Maker) -> Result<Option<u32>, Failure> {
-    let (mut with_layout, mut without) = (0, sheet.gap);
-    while without - with_layout > 1 {
-        let gap = (with_layout + without) / 2;
-        if maker.has_layout(&Sheet { gap, ..sheet.clone() })? {
-            with_layout = gap;
-        } else {
-            without = gap;
-        }
-    }
-    Ok((with_layout > 0).then_some(with_layout))
-}
 
 /// A bound that would give a layout.
 #[derive(Clone, Copy, Debug, PartialEq, Eq)]
@@ -34,67 +19,111 @@ pub struct Raised {
     pub to: u32,
 }
 
-/// For each bounded colour whose bound alone can be raised to give a layout, the least bound that does.
-pub fn raised_bounds(sheet: &Sheet, maker: &mut Maker) -> Result<Vec<Raised>, Failure> {
-    let mut raised = Vec::new();
-    for (colour, from) in sheet.bounds.iter().copied().enumerate() {
-        if from != UNBOUNDED && maker.has_layout(&with_bound(sheet, colour, UNBOUNDED))? {
-            let to = least_bound(sheet, colour, maker)?;
-            raised.push(Raised { colour, from, to });
-        }
-    }
-    Ok(raised)
-}
-
-/// The least bound of a colour that gives a layout, where no bound gives one.
-fn least_bound(sheet: &Sheet, colour: usize, maker: &mut Maker) -> Result<u32, Failure> {
-    // A colour has no more labels than sites: a bound above that does not bind.
-    let own = sheet.sites.iter().filter(|site| site.colour == colour).count() as u32;
-    for bound in sheet.bounds[colour] + 1..=own {
-        match maker.lay_out(&with_bound(sheet, colour, bound))? {
-            Ok(_) => return Ok(bound),
-            // Higher bounds are refused too.
-            Err(Refusal::TooManyBudgets) => break,
-            Err(_) => {}
-        }
-    }
-    Ok(UNBOUNDED)
-}
-
-fn with_bound(sheet: &Sheet, colour: usize, bound: u32) -> Sheet {
-    let mut sheet = sheet.clone();
-    sheet.bounds[colour] = bound;
-    sheet
-}
-
 /// Heights from one to another, both included.
 pub type Heights = (u32, u32);
 
-/// The heights at which one more slot gives a layout, as ranges from the top downwards; none where the sheet has as
-/// many slots as it may. `set` is a set of its sites without a layout: a slot that helps the sheet helps the set too.
-///
-/// Whether a slot helps depends on how its height compares with each slot's and site's height, and with those heights
-/// less or plus the gap. So heights between two neighbouring such numbers help or do not help together: each number,
-/// the one before and the one after are tried, and with them every range and both its ends.
-pub fn helping_slots(sheet: &Sheet, set: &[usize], maker: &mut Maker) -> Result<Vec<Heights>, Failure> {
-    let mut ranges: Vec<Heights> = Vec::new();
-    if sheet.slots.len() >= MOST_SLOTS {
-        return Ok(ranges);
+/// A sheet without a layout, of which changes are tried.
+pub struct Remedies<'a> {
+    sheet: &'a Sheet,
+    maker: &'a mut Maker,
+    /// Sets of sites for which some change gave no layout.
+    sets: Vec<Vec<usize>>,
+}
+
+impl<'a> Remedies<'a> {
+    /// `set` is a set of the sheet's sites without a layout.
+    pub fn new(sheet: &'a Sheet, set: &[usize], maker: &'a mut Maker) -> Remedies<'a> {
+        Remedies { sheet, maker, sets: vec![set.to_vec()] }
     }
-    let part = with_sites(sheet, set);
-    let mut last_helped = false;
-    for height in heights_to_try(sheet) {
-        let is_new = !sheet.slots.contains(&height);
-        let helps =
-            is_new && maker.has_layout(&with_slot(&part, height))? && maker.has_layout(&with_slot(sheet, height))?;
-        match ranges.last_mut() {
-            Some(range) if helps && last_helped => range.1 = height,
-            _ if helps => ranges.push((height, height)),
-            _ => {}
+
+    /// Whether the changed sheet has a layout. One that has gives each set of its sites one; the sets are asked first,
+    /// since they are small. A change that gives all of them a layout and the sheet none leaves one more set to ask.
+    fn helps(&mut self, changed: &Sheet) -> Result<bool, Failure> {
+        for set in self.sets.iter().rev() {
+            if !self.maker.has_layout(&with_sites(changed, set))? {
+                return Ok(false);
+            }
         }
-        last_helped = helps;
+        let helps = self.maker.has_layout(changed)?;
+        if !helps {
+            self.sets.push(smallest_set(changed, self.maker)?);
+        }
+        Ok(helps)
     }
-    Ok(ranges)
+
+    /// The largest gap with which there is a layout, if any has one. A layout that keeps a gap keeps every smaller one,
+    /// so the search halves; the gap that it gives and the next larger one were both tried.
+    pub fn largest_gap(&mut self) -> Result<Option<u32>, Failure> {
+        let (mut with_layout, mut without) = (0, self.sheet.gap);
+        while without - with_layout > 1 {
+            let gap = (with_layout + without) / 2;
+            if self.helps(&Sheet { gap, ..self.sheet.clone() })? {
+                with_layout = gap;
+            } else {
+                without = gap;
+            }
+        }
+        Ok((with_layout > 0).then_some(with_layout))
+    }
+
+    /// For each bounded colour whose bound alone can be raised to give a layout, the least bound that does.
+    pub fn raised_bounds(&mut self) -> Result<Vec<Raised>, Failure> {
+        let mut raised = Vec::new();
+        for (colour, from) in self.sheet.bounds.iter().copied().enumerate() {
+            if from != UNBOUNDED && self.helps(&self.with_bound(colour, UNBOUNDED))? {
+                let to = self.least_bound(colour)?;
+                raised.push(Raised { colour, from, to });
+            }
+        }
+        Ok(raised)
+    }
+
+    /// The least bound of a colour that gives a layout, where no bound gives one.
+    fn least_bound(&mut self, colour: usize) -> Result<u32, Failure> {
+        // A colour has no more labels than sites: a bound above that does not bind.
+        let own = self.sheet.sites.iter().filter(|site| site.colour == colour).count() as u32;
+        for bound in self.sheet.bounds[colour] + 1..=own {
+            let changed = self.with_bound(colour, bound);
+            if changed.budgets() > MOST_BUDGETS {
+                break;
+            }
+            if self.helps(&changed)? {
+                return Ok(bound);
+            }
+        }
+        Ok(UNBOUNDED)
+    }
+
+    fn with_bound(&self, colour: usize, bound: u32) -> Sheet {
+        let mut changed = self.sheet.clone();
+        changed.bounds[colour] = bound;
+        changed
+    }
+
+    /// The heights at which one more slot gives a layout, as ranges from the top downwards; none where the sheet has as
+    /// many slots as it may.
+    ///
+    /// Whether a slot helps depends on how its height compares with each slot's and site's height, and with those
+    /// heights less or plus the gap. So heights between two neighbouring such numbers help or do not help together: each
+    /// number, the one before and the one after are tried, and with them every range and both its ends.
+    pub fn helping_slots(&mut self) -> Result<Vec<Heights>, Failure> {
+        let mut ranges: Vec<Heights> = Vec::new();
+        if self.sheet.slots.len() >= MOST_SLOTS {
+            return Ok(ranges);
+        }
+        let mut last_helped = false;
+        for height in heights_to_try(self.sheet) {
+            let is_new = !self.sheet.slots.contains(&height);
+            let helps = is_new && self.helps(&with_slot(self.sheet, height))?;
+            match ranges.last_mut() {
+                Some(range) if helps && last_helped => range.1 = height,
+                _ if helps => ranges.push((height, height)),
+                _ => {}
+            }
+            last_helped = helps;
+        }
+        Ok(ranges)
+    }
 }
 
 /// The numbers at which a comparison changes, with those before and after, and both ends of the page; rising.

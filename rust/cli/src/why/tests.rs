@@ -1,6 +1,6 @@
 //! Smallest sets and remedies, held to the plain search and to the plain table, which share no code with the library.
 
-use super::remedies::{helping_slots, largest_gap, raised_bounds, Raised};
+use super::remedies::{Raised, Remedies};
 use super::{is_smallest, smallest_set, with_sites};
 use crate::maker::Maker;
 use model::random::{medium_sheet, sheet_of, small_sheet, Random, Shape};
@@ -91,7 +91,7 @@ fn known() -> Sheet {
     }
 }
 
-/// With one slot left, any two sites of two colours are a set; of the sites in sheet order the first two are taken.
+/// With one slot left, any two sites of two colours are a set; the two that are leftmost are taken.
 #[test]
 fn the_set_of_a_known_sheet() {
     let mut sheet = known();
@@ -99,8 +99,9 @@ fn the_set_of_a_known_sheet() {
     sheet.slots = vec![50];
     let mut maker = Maker::default();
     assert_eq!(smallest_set(&sheet, &mut maker), Ok(vec![0, 3]));
-    assert_eq!(raised_bounds(&sheet, &mut maker), Ok(Vec::new()), "no colour is bounded");
-    assert_eq!(largest_gap(&sheet, &mut maker), Ok(None), "one backbone can't have two colours");
+    let mut remedies = Remedies::new(&sheet, &[0, 3], &mut maker);
+    assert_eq!(remedies.raised_bounds(), Ok(Vec::new()), "no colour is bounded");
+    assert_eq!(remedies.largest_gap(), Ok(None), "one backbone can't have two colours");
 }
 
 /// A colour that may have no label: each of its sites is a set of one.
@@ -110,9 +111,10 @@ fn a_site_without_any_slot_is_a_set_of_one() {
     sheet.bounds[1] = 0;
     let mut maker = Maker::default();
     assert_eq!(smallest_set(&sheet, &mut maker), Ok(vec![3]));
-    assert_eq!(raised_bounds(&sheet, &mut maker), Ok(vec![Raised { colour: 1, from: 0, to: 1 }]));
-    assert_eq!(largest_gap(&sheet, &mut maker), Ok(None));
-    assert_eq!(helping_slots(&sheet, &[3], &mut maker), Ok(Vec::new()));
+    let mut remedies = Remedies::new(&sheet, &[3], &mut maker);
+    assert_eq!(remedies.raised_bounds(), Ok(vec![Raised { colour: 1, from: 0, to: 1 }]));
+    assert_eq!(remedies.largest_gap(), Ok(None));
+    assert_eq!(remedies.helping_slots(), Ok(Vec::new()));
 }
 
 /// A small sheet all of whose heights can be tried.
@@ -134,10 +136,11 @@ fn gaps_bounds_and_slots_are_those_of_the_plain_search() {
         let mut maker = Maker::default();
         let set = smallest_set(&sheet, &mut maker).expect("there is memory");
         let gap = (1..sheet.gap).rev().find(|gap| is_found(&Sheet { gap: *gap, ..sheet.clone() }));
-        assert_eq!(largest_gap(&sheet, &mut maker), Ok(gap), "{sheet:?}");
-        let bounds = raised_bounds(&sheet, &mut maker).expect("there is memory");
+        let mut remedies = Remedies::new(&sheet, &set, &mut maker);
+        assert_eq!(remedies.largest_gap(), Ok(gap), "{sheet:?}");
+        let bounds = remedies.raised_bounds().expect("there is memory");
         assert_eq!(bounds, plain_bounds(&sheet), "{sheet:?}");
-        let ranges = helping_slots(&sheet, &set, &mut maker).expect("there is memory");
+        let ranges = remedies.helping_slots().expect("there is memory");
         for height in 0..60 {
             let in_range = ranges.iter().any(|(from, to)| (from..=to).contains(&&height));
             assert_eq!(in_range, slot_helps(&sheet, height), "{sheet:?} {height} {ranges:?}");
