@@ -5,9 +5,6 @@ use borrow.Author.Needs.{needs}
 use Rattle.backbones.proofs.put_answer.Statement.{statement}
 use Rattle.backbones.proofs.put_answer.Tie as tie
 
-cast-number : tie.Need-cast-number
-cast-number c = search needs
-
 put-refused-requires : tie.Need-put-refused-requires
 put-refused-requires c κs = search needs
 
@@ -34,7 +31,6 @@ pub put-answer-spec : {M : Type 1} → statement M
 put-answer-spec =
     tie.close
     (tie.spec
-    cast-number
     put-refused-requires
     same-length
     returns
