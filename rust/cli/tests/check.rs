@@ -81,6 +81,31 @@ fn every_finding_on_sheet_a() {
     assert_eq!(check(&shortest), (Some(1), line.to_string()));
 }
 
+/// The sites and slots that a finding names, as JSON gives them.
+#[test]
+fn sites_and_slots_of_findings() {
+    let bounded = SHEET_A.replacen("colour unbounded", "colour bound 1", 1);
+    let layout = |labels: u32, length: u32, [a, b, c]: [u8; 3]| {
+        format!("layout labels {labels} length {length}\ntie {a}\ntie {b}\ntie {c}\n")
+    };
+    let cases = [
+        (stored_a(1, 13, [0, 0, 0]), "1", "[0, 2]", "[0]"),
+        (bounded + &layout(3, 18, [0, 1, 2]), "2", "[0, 1]", "[0, 1]"),
+        (stored_a(2, 16, [0, 0, 1]).replace("gap 2", "gap 4"), "3", "[0, 1, 2]", "[0, 1]"),
+        (stored_a(2, 16, [0, 0, 1]), "4", "[1]", "[1]"),
+        (stored_a(2, 19, [0, 0, 3]), "11", "[2]", "[3]"),
+        (stored_a(2, 19, [0, 0, 2]).replace("slot 5", "slot 1"), "4", "", "[0, 1]"),
+        (stored_a(2, 19, [0, 0, 2]).replace("site 6 6", "site 2 6"), "6", "[0, 1]", ""),
+    ];
+    for (stored, number, sites, slots) in cases {
+        let text = run(["check", "--format", "json", "-"], stored.as_bytes()).text();
+        let member = |name: &str, value: &str| value.is_empty() || text.contains(&format!("\"{name}\": {value},"));
+        assert!(member("rule", number) || member("refusal", number), "{number}: {text}");
+        assert!(member("sites", sites) && member("slots", slots), "{sites} {slots}: {text}");
+        assert!(!sites.is_empty() || !text.contains("\"sites\": ["), "{text}");
+    }
+}
+
 /// A stored sheet as an engine might write it: best, lawful, invented, damaged, or a claim.
 fn engine(random: &mut Random) -> Record {
     let sheet = small_sheet(random);

@@ -111,16 +111,6 @@ impl Finding {
         Finding::FAULTS.contains(&self.name())
     }
 
-    /// The sites that it names.
-    pub fn sites(&self) -> Vec<usize> {
-        match self {
-            Finding::Equal { site, .. } => vec![*site],
-            Finding::Unlawful { faults, .. } => united(faults.iter().flat_map(Fault::sites)),
-            Finding::Refused { causes, .. } => united(causes.iter().flat_map(Cause::sites)),
-            _ => Vec::new(),
-        }
-    }
-
     /// The slots that it names.
     pub fn slots(&self) -> Vec<usize> {
         match self {
@@ -172,6 +162,25 @@ impl Checked {
                 failure.strip_prefix(&source).unwrap_or(&failure).to_string()
             }
         }
+    }
+
+    /// The sites that the finding is about. Where a fault names slots alone, these are the sites tied to them.
+    pub fn sites(&self) -> Vec<usize> {
+        match &self.finding {
+            Finding::Equal { site, .. } => vec![*site],
+            Finding::Unlawful { faults, .. } => united(faults.iter().flat_map(|fault| self.sites_of(fault))),
+            Finding::Refused { causes, .. } => united(causes.iter().flat_map(Cause::sites)),
+            _ => Vec::new(),
+        }
+    }
+
+    fn sites_of(&self, fault: &Fault) -> Vec<usize> {
+        let (sites, slots) = (fault.sites(), fault.slots());
+        if !sites.is_empty() {
+            return sites;
+        }
+        let ties = self.given.iter().flat_map(|layout| layout.slots.iter().enumerate());
+        ties.filter(|(_, slot)| slots.contains(&usize::from(**slot))).map(|(site, _)| site).collect()
     }
 
     /// The name of the finding, with a refusal's number.

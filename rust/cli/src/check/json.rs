@@ -40,7 +40,7 @@ fn members(checked: &Checked) -> Vec<(&'static str, String)> {
         )),
         _ => {}
     }
-    let (sites, slots, text) = (checked.finding.sites(), checked.finding.slots(), checked.text());
+    let (sites, slots, text) = (checked.sites(), checked.finding.slots(), checked.text());
     let mut add = |name: &'static str, value: Option<String>| members.extend(value.map(|value| (name, value)));
     add("sites", (!sites.is_empty()).then(|| list(&sites)));
     add("slots", (!slots.is_empty()).then(|| list(&slots)));

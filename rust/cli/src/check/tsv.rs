@@ -48,7 +48,7 @@ fn row(checked: &Checked) -> [String; 16] {
     }
     let [more_labels, more_length, more_points, more_mm] = more;
     let (file, finding) = (checked.source.to_string(), checked.finding.name().to_string());
-    let (sites, slots) = (list(checked.finding.sites()), list(checked.finding.slots()));
+    let (sites, slots) = (list(checked.sites()), list(checked.finding.slots()));
     [
         file,
         finding,
