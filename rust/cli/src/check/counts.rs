@@ -83,7 +83,7 @@ impl Counts {
     }
 
     /// Sheets with the best count and length, but not the first in the order.
-    pub fn equals(&self) -> u64 {
+    fn equals(&self) -> u64 {
         self.by_name().filter(|(name, _)| *name == "equal").map(|(_, count)| count).sum()
     }
 
@@ -91,9 +91,11 @@ impl Counts {
         self.whole.counts[FINDINGS - 1]
     }
 
-    /// What could not be read counts more than what was found: the check is not whole.
-    pub fn exit(&self) -> Exit {
-        match (self.unreadable(), self.faults()) {
+    /// What could not be read counts more than what was found: the check is not whole. A strict check counts equals as
+    /// findings.
+    pub fn exit(&self, is_strict: bool) -> Exit {
+        let findings = self.faults() + if is_strict { self.equals() } else { 0 };
+        match (self.unreadable(), findings) {
             (0, 0) => Exit::Done,
             (0, _) => Exit::Found,
             _ => Exit::Unable,

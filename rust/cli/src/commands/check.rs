@@ -96,6 +96,5 @@ fn run(arguments: &Arguments, output: &mut Output) -> Result<Exit, Failure> {
     told?;
     format.end(&counts, output)?;
     report.map_or(Ok(()), |report| report.finish(&counts))?;
-    let is_strict = arguments.has("--strict");
-    Ok(if is_strict && counts.exit() == Exit::Done && counts.equals() > 0 { Exit::Found } else { counts.exit() })
+    Ok(counts.exit(arguments.has("--strict")))
 }

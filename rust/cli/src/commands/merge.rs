@@ -18,11 +18,10 @@ pub const SUBCOMMAND: Subcommand = Subcommand {
 Reads reports of `backbone check --format tsv`, or manifests of `backbone corpus`, that were made in shares (--shard),
 and writes one of them all, its lines by file name: what one run without shares writes. The table of a check goes to
 standard error, as that of `backbone check --format tsv` does.",
-    settings: &[Setting {
-        name: "--by-depth",
-        value: "",
-        about: "count the findings by the depth of the best layout too",
-    }],
+    settings: &[
+        Setting { name: "--by-depth", value: "", about: "count the findings by the depth of the best layout too" },
+        Setting { name: "--strict", value: "", about: "an equal is a finding too: exit code 1" },
+    ],
     exits: &[(Exit::Done, "no report has findings"), (Exit::Found, "findings, as of `backbone check`")],
     run,
 };
@@ -44,7 +43,7 @@ fn run(arguments: &Arguments, output: &mut Output) -> Result<Exit, Failure> {
     }
     let counts = merged.counts(arguments.has("--by-depth"))?;
     message(&format!("findings\n{}", counts.table().trim_end()));
-    Ok(counts.exit())
+    Ok(counts.exit(arguments.has("--strict")))
 }
 
 /// The lines of all reports by their files, in the order in which a folder's files are read.
