@@ -56,7 +56,7 @@ fn draw(line: &str) {
 }
 
 fn bar(name: &str, done: u64, total: u64) -> String {
-    let filled = if total == 0 { COLUMNS } else { COLUMNS * done.min(total) / total };
+    let filled = (COLUMNS * done.min(total)).checked_div(total).unwrap_or(COLUMNS);
     let (full, rest) = ("#".repeat(filled as usize), "-".repeat((COLUMNS - filled) as usize));
     format!("{name} [{full}{rest}] {done} of {total}")
 }

@@ -164,10 +164,12 @@ impl<'a> Rival<'a> {
         }
         let mut row = vec![None; self.budgets.count];
         for place in strip.above.0..=strip.below.0 {
-            let allowed = self.given.is_none_or(|slots| slots[self.order[rank]] + 1 == place);
-            if allowed && place == strip.above.0 || allowed && place == strip.below.0 {
+            if self.given.is_some_and(|slots| slots[self.order[rank]] + 1 != place) {
+                continue;
+            }
+            if place == strip.above.0 || place == strip.below.0 {
                 self.join(rank, strip, place, &mut row);
-            } else if allowed && self.may_open(rank, strip, place) {
+            } else if self.may_open(rank, strip, place) {
                 self.open(rank, strip, place, &mut row);
             }
         }

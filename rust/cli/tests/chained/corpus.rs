@@ -4,7 +4,7 @@ use crate::command::{backbone, files, rows, Folder};
 use model::depth::depth;
 use model::ranked::rank;
 use model::rounding::{lay_out, rounded_length, Rounding};
-use model::rules::{judge, split, Ties};
+use model::rules::{judge, split};
 
 fn corpus(folder: &str, more: &[&str]) -> crate::command::Run {
     backbone(&[&["corpus", "--out", folder], more].concat())
@@ -38,6 +38,13 @@ fn shards_are_together_the_whole() {
     }
 }
 
+/// A line of a manifest with the stored sheets that it is about.
+struct Line<'a> {
+    field: &'a dyn Fn(&str) -> String,
+    best: Vec<u32>,
+    rounded: Vec<u32>,
+}
+
 /// Every line of a manifest, against the plain judge, the depth, the search and the rival.
 #[test]
 fn manifests_say_what_is_true() {
@@ -48,38 +55,58 @@ fn manifests_say_what_is_true() {
     assert_eq!(rows.len(), 56);
     let mut searched = 0;
     for row in rows {
-        let field = |name: &str| row[place(name)].as_str();
+        let field = |name: &str| row[place(name)].clone();
         let read = |kind: &str| {
             let text = std::fs::read_to_string(format!("{out}/{kind}/{}", field("file"))).expect("a sheet");
             sheet::encode(&text).expect("a stored sheet")
         };
-        let (sheet, slot_of, (labels, length)) = split(&read("best")).expect("a stored sheet");
-        assert_eq!(judge(&read("best")), (0, 0));
-        assert_eq!(field("depth"), depth(&sheet, &slot_of).to_string());
-        assert_eq!((field("labels"), field("length")), (&*labels.to_string(), &*length.to_string()));
-        assert_eq!(field("slots_by_site"), slot_of.iter().map(usize::to_string).collect::<Vec<_>>().join(","));
-        assert_eq!(field("aim") == "shortest", sheet.shortest);
-        if let Some(found) = rank(&sheet, 3_000_000).map(|found| found.expect("there is a layout")) {
-            assert_eq!(found.slot_of, slot_of, "the maker and the search");
-            let second =
-                found.second.map_or(("-".to_string(), "-".to_string()), |(a, b)| (a.to_string(), b.to_string()));
-            if field("equals") != "-" {
-                assert_eq!(field("equals"), found.equals.to_string());
-                assert_eq!((field("second_labels"), field("second_length")), (&*second.0, &*second.1));
-                searched += 1;
-            }
-        }
-        let rounding = Rounding::TenthMillimetre;
-        let (same, rounded, numbers) = split(&read("rounded")).expect("a stored sheet");
-        assert_eq!((judge(&read("rounded")), &same), ((0, 0), &sheet));
-        assert_eq!(lay_out(&sheet, rounding), Ok(rounded.clone()));
-        let cost = |(labels, length): (u32, u32)| if sheet.shortest { (length, labels) } else { (labels, length) };
-        assert!(cost(numbers) > cost((labels, length)), "it is worse");
-        assert_eq!(numbers, Ties::new(&sheet, &rounded).numbers());
-        let sum = |slot_of: &[usize]| rounded_length(&sheet, slot_of, rounding).expect("a length").to_string();
-        assert_eq!((field("sum_of_rounded"), field("sum_of_best")), (&*sum(&rounded), &*sum(&slot_of)));
+        let line = Line { field: &field, best: read("best"), rounded: read("rounded") };
+        hold_best(&line);
+        hold_rounded(&line);
+        searched += u32::from(is_searched(&line));
     }
     assert!(searched > 40, "{searched}");
+}
+
+/// The layout is lawful, and its numbers are those of the line.
+fn hold_best(line: &Line) {
+    let field = line.field;
+    let (sheet, slot_of, (labels, length)) = split(&line.best).expect("a stored sheet");
+    assert_eq!(judge(&line.best), (0, 0));
+    assert_eq!(field("depth"), depth(&sheet, &slot_of).to_string());
+    assert_eq!((field("labels"), field("length")), (labels.to_string(), length.to_string()));
+    assert_eq!(field("slots_by_site"), slot_of.iter().map(usize::to_string).collect::<Vec<_>>().join(","));
+    assert_eq!(field("aim") == "shortest", sheet.shortest);
+}
+
+/// The search finds the same layout, as many equals, and the same second best, where the line has them.
+fn is_searched(line: &Line) -> bool {
+    let field = line.field;
+    let (sheet, slot_of, _) = split(&line.best).expect("a stored sheet");
+    let Some(found) = rank(&sheet, 3_000_000) else { return false };
+    let found = found.expect("there is a layout");
+    assert_eq!(found.slot_of, slot_of);
+    if field("equals") == "-" {
+        return false;
+    }
+    let second = found.second.map_or(["-".to_string(), "-".to_string()], |(a, b)| [a.to_string(), b.to_string()]);
+    assert_eq!(field("equals"), found.equals.to_string());
+    assert_eq!([field("second_labels"), field("second_length")], second);
+    true
+}
+
+/// The rival's layout is its own, lawful, and worse.
+fn hold_rounded(line: &Line) {
+    let (field, rounding) = (line.field, Rounding::TenthMillimetre);
+    let (sheet, best, numbers_of_best) = split(&line.best).expect("a stored sheet");
+    let (same, rounded, numbers) = split(&line.rounded).expect("a stored sheet");
+    assert_eq!((judge(&line.rounded), &same), ((0, 0), &sheet));
+    assert_eq!(lay_out(&sheet, rounding), Ok(rounded.clone()));
+    let cost = |(labels, length): (u32, u32)| if sheet.shortest { (length, labels) } else { (labels, length) };
+    assert!(cost(numbers) > cost(numbers_of_best));
+    assert_eq!((field("rounded_labels"), field("rounded_length")), (numbers.0.to_string(), numbers.1.to_string()));
+    let sum = |slot_of: &[usize]| rounded_length(&sheet, slot_of, rounding).expect("a length").to_string();
+    assert_eq!((field("sum_of_rounded"), field("sum_of_best")), (sum(&rounded), sum(&best)));
 }
 
 #[test]
