@@ -1,30 +1,30 @@
 -- The slots that are tried one after the other. Assumes nothing.
-use Rattle.choice.specs.Choice.{keepsCost}
 use mathlib.Core.Path.{_≡_, refl, sym, ap, _∙_, subst⁻¹}
 use mathlib.Core.Bool.{Bool, true, false}
 use mathlib.Core.List.{List}
 use Prim.Native.Nat.{ℕ, _+_, _-_, _≤_, _<_}
 use native.Mathlib.Numerals.{add-one}
 use native.Mathlib.Omega.{arith}
-use lib.Dec.{eqb}
-use lib.ListN.{length, set}
+use lib.ListN.{length, set, length-set}
 use Rattle.lists.proofs.Tests.{by-equal}
-use Rattle.search.specs.Cost.{plus, first}
+use Rattle.search.specs.Cost.{first}
 use Rattle.optimum.proofs.Loops.{first-at, first-none}
-use Rattle.optimum.specs.Strips.{Point, Strip, Instance}
-use Rattle.optimum.specs.OneSided.{topWord}
-use Rattle.rows.specs.Rest.{LevelIn, restRows}
+use Rattle.optimum.specs.Strips.{Point, Strip}
+use Rattle.arrays.specs.Given.{Given, instanceOf}
+use Rattle.rows.specs.Rest.{LevelIn}
 use Rattle.strips.specs.Steps.{priceIn, budgetLeft}
+use Rattle.choice.specs.Choice.{comesTo, keepsCost}
 
 -- the labels are as they were
 pub level-same : (parts counts work : List ℕ) (base C R : ℕ) (old new : List ℕ) → new ≡ old → LevelIn parts counts work base C R old → LevelIn parts counts work base C R new
 level-same parts counts work base C R old new e l = subst⁻¹ (LevelIn parts counts work base C R) e l
 
 -- what a slot is asked, by its step
-pub kept-by : (P : Instance) (parts counts work : List ℕ) (base C R : ℕ) (p : Strip) (s : Point) (old new : List ℕ) (v here k left price : ℕ) (r : Bool) → new ≡ old → length old ≡ P .slots .m
-    → left ≡ budgetLeft P p s v k → price ≡ priceIn P p s v k → r ≡ eqb (plus topWord price (restRows parts counts work base (length new) C R (set new k (s .c + 1)) left)) here
-    → r ≡ keepsCost P parts counts work base C R p s old v here k
-kept-by P parts counts work base C R p s old new v here k left price r e m l c f = f ∙ rw (e, m, l, c, add-one (s .c)) refl
+pub kept-by : (g : Given) (work : List ℕ) (base : ℕ) (p : Strip) (s : Point) (old new : List ℕ) (v here k left price : ℕ) (r : Bool) → new ≡ old → length old ≡ length (g .heights)
+    → left ≡ budgetLeft (instanceOf g) p s v k → price ≡ priceIn (instanceOf g) p s v k
+    → r ≡ comesTo (g .parts) (g .counts) work base (g .measures) (set new k (s .c + 1)) left price here
+    → r ≡ keepsCost g work base p s old v here k
+kept-by g work base p s old new v here k left price r e m l c f = f ∙ rw (length-set new k (s .c + 1), e, m, l, c, add-one (s .c)) refl
 
 -- the slot that the loop finds
 pub record Tried (t : ℕ → Bool) (m k : ℕ) : Type 0 where

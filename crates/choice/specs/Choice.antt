@@ -1,14 +1,20 @@
 -- ONE STEP OF THE WALK over the words of a table: what it costs, and which slots keep the least cost. Definitions.
+use mathlib.Core.Path.{_≡_}
 use mathlib.Core.Bool.{Bool}
 use mathlib.Core.List.{List}
-use Prim.Native.Nat.{ℕ, suc}
+use Prim.Native.Nat.{ℕ, suc, _+_, _<_}
 use lib.Dec.{eqb}
-use lib.ListN.{set}
-use Rattle.search.specs.Cost.{plus}
-use Rattle.optimum.specs.Strips.{Point, Strip, Instance}
+use lib.ListN.{length, getD, set}
+use Rattle.sheet.specs.Limits.{mostSlots}
+use Rattle.search.specs.Cost.{plus, first}
+use Rattle.optimum.specs.Strips.{Point, Strip}
+use Rattle.labelling.specs.Layout.{tieWord}
 use Rattle.optimum.specs.OneSided.{topWord}
+use Rattle.arrays.specs.declared.Measures.{Measures}
+use Rattle.arrays.specs.Given.{Given, instanceOf, OfSheet, Bounded, SiteIn}
 use Rattle.strips.specs.Steps.{priceIn, budgetLeft}
-use Rattle.rows.specs.Rest.{restRows}
+use Rattle.rows.specs.Rest.{LevelIn, restRows}
+use Rattle.choice.specs.declared.Left.{Left}
 
 -- ---- one step, of the site s in the strip p
 
@@ -16,7 +22,49 @@ use Rattle.rows.specs.Rest.{restRows}
 abbrev pub labelled : (labels : List ℕ) → Point → (k : ℕ) → List ℕ
 labelled L s k = set L k (suc (s .c))
 
+-- a price, and REST of these labels at the budget v, come to the cost
+abbrev pub comesTo : (parts counts work : List ℕ) (base : ℕ) → Measures → (labels : List ℕ) → (v price cost : ℕ) → Bool
+comesTo parts counts work base q L v price cost =
+    eqb (plus topWord price (restRows parts counts work base (length L) (q .colours) (q .budgets) L v)) cost
+
 -- slot k keeps the least cost `here`; the next level begins at the word `base`
-abbrev pub keepsCost : (P : Instance) (parts counts work : List ℕ) (base C R : ℕ) → Strip → Point → (labels : List ℕ) → (v here k : ℕ) → Bool
-keepsCost P parts counts work base C R p s L v here k =
-    eqb (plus topWord (priceIn P p s v k) (restRows parts counts work base (P .slots .m) C R (labelled L s k) (budgetLeft P p s v k))) here
+abbrev pub keepsCost : Given → (work : List ℕ) → (base : ℕ) → Strip → Point → (labels : List ℕ) → (v here k : ℕ) → Bool
+keepsCost g work base p s L v here k =
+    eqb (plus topWord (priceIn (instanceOf g) p s v k)
+    (restRows (g .parts) (g .counts) work base (length (g .heights)) (g .measures .colours) (g .measures .budgets) (labelled L s k) (budgetLeft (instanceOf g) p s v k))) here
+
+-- the lowest slot that does; the number of slots if none does
+abbrev pub lowestKept : Given → (work : List ℕ) → (base : ℕ) → Strip → Point → (labels : List ℕ) → Left → ℕ
+lowestKept g work base p s L left = first (length (g .heights)) (keepsCost g work base p s L (left .budget) (left .cost))
+
+-- ---- what is asked
+
+-- where a slot is tried: the next level stands in the work area, and slot, colour, budget and cost are in range
+pub record TriedIn (parts counts work : List ℕ) (base : ℕ) (q : Measures) (labels : List ℕ) (k c v cost : ℕ) : Type 0 where
+  pub level : LevelIn parts counts work base (q .colours) (q .budgets) labels
+  pub slotLow : k < length labels
+  pub colourLow : c < q .colours + 1
+  pub budget : v < q .budgets
+  pub low : cost < topWord
+
+-- where a slot is chosen for the site s
+pub record ChosenIn (g : Given) (work : List ℕ) (base : ℕ) (labels : List ℕ) (s : Point) (left : Left) : Type 0 where
+  pub sheet : OfSheet g
+  pub bounded : Bounded g
+  pub level : LevelIn (g .parts) (g .counts) work base (g .measures .colours) (g .measures .budgets) labels
+  pub site : SiteIn (g .measures) s
+  pub labelsLong : length labels ≡ length (g .heights)
+  pub budget : left .budget < g .measures .budgets
+  pub low : left .cost < topWord
+
+-- ---- the word of a tie
+
+-- the answer area with the site of rank j, whose place in the sheet the order gives, tied to slot k
+abbrev pub withTie : (order out : List ℕ) → (j k : ℕ) → List ℕ
+withTie order out j k = set out (getD order j 0 + 1) (tieWord k)
+
+-- there is such a site, its word is in the area, and slot k is a sheet's
+pub record TieIn (order out : List ℕ) (j k : ℕ) : Type 0 where
+  pub ranked : j < length order
+  pub within : getD order j 0 + 1 < length out
+  pub slotLow : k < mostSlots

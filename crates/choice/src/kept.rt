@@ -1,11 +1,7 @@
 // Whether a step of the one-sided walk keeps the least cost.
 ghost use mathlib.Core.Path.{_≡_};
-ghost use Prim.Native.Nat.{_+_, _<_};
-ghost use lib.Dec.{eqb};
-ghost use lib.ListN.{length, set};
-ghost use Rattle.search.specs.Cost.{plus};
-ghost use Rattle.optimum.specs.OneSided.{topWord};
-ghost use Rattle.rows.specs.Rest.{LevelIn, restRows};
+ghost use lib.ListN.{set};
+ghost use Rattle.choice.specs.Choice.{TriedIn, comesTo};
 use arrays::Measures;
 use rows::rest::rest_of;
 
@@ -24,9 +20,8 @@ pub fn keeps_cost(
     price: u32,
     cost: u32,
 ) -> bool
-    requires { ⌜ LevelIn (now parts) (now counts) (now work) base (q .colours) (q .budgets) (now labels) ⌝ }
-    requires { ⌜ (k < length (now labels)) × (c < q .colours + 1) × (v < q .budgets) × (cost < topWord) ⌝ }
-    ensures { λ r. ⌜ r ≡ eqb (plus topWord price (restRows (now (parts .entry)) (now (counts .entry)) (now (work .entry)) base (length (now (labels .entry))) (q .colours) (q .budgets) (set (now (labels .entry)) k c) v)) cost ⌝ }
+    requires { ⌜ TriedIn (now parts) (now counts) (now work) base q (now labels) k c v cost ⌝ }
+    ensures { λ r. ⌜ r ≡ comesTo (now (parts .entry)) (now (counts .entry)) (now (work .entry)) base q (set (now (labels .entry)) k c) v price cost ⌝ }
     ensures { λ r. ⌜ now (labels .exit) ≡ now (labels .entry) ⌝ }
 {
     if price == words::NONE {

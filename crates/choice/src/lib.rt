@@ -3,17 +3,10 @@ pub mod kept;
 pub mod ties;
 
 ghost use mathlib.Core.Path.{_≡_};
-ghost use Prim.Native.Nat.{_+_, _-_, _<_};
-ghost use lib.ListN.{length};
-ghost use Rattle.search.specs.Cost.{first};
-ghost use Rattle.optimum.specs.OneSided.{topWord};
-ghost use Rattle.rows.specs.Rest.{LevelIn};
-ghost use Rattle.optimum.specs.Strips as model;
-ghost use Rattle.arrays.specs.Arrays.{instanceBy};
-ghost use Rattle.arrays.specs.declared.Measures as measured;
+ghost use mathlib.Core.List.{[]};
+ghost use Rattle.arrays.specs.Given.{Given, given};
 ghost use Rattle.rows.specs.Rows.{stripOf, pointOf};
-ghost use Rattle.choice.specs.Choice.{keepsCost};
-ghost use Rattle.arrays.specs.Given.{onStep, OfSheet, Bounded, SiteIn};
+ghost use Rattle.choice.specs.Choice.{ChosenIn, lowestKept};
 use arrays::Measures;
 use rows::Site;
 use rows::Strip;
@@ -40,11 +33,11 @@ pub fn choose_slot(
     s: Site,
     left: Left,
 ) -> u32
-    requires { ⌜ OfSheet (onStep q (now heights) (now bounds) (now radices) (now draws)) × Bounded (onStep q (now heights) (now bounds) (now radices) (now draws)) ⌝ }
-    requires { ⌜ LevelIn (now parts) (now counts) (now work) base (q .colours) (q .budgets) (now labels) ⌝ }
-    requires { ⌜ SiteIn q (pointOf s) × (left .budget < q .budgets) × (left .cost < topWord) × (length (now labels) ≡ length (now heights)) ⌝ }
-    ensures { λ r. ⌜ r ≡ first (length (now (heights .entry))) (keepsCost (instanceBy q (now (heights .entry)) (now (bounds .entry)) (now (radices .entry)) (now (draws .entry))) (now (parts .entry)) (now (counts .entry)) (now (work .entry)) base (q .colours) (q .budgets) (stripOf p) (pointOf s) (now (labels .entry)) (left .budget) (left .cost)) ⌝ }
-    ensures { λ r. ⌜ now (labels .exit) ≡ now (labels .entry) ⌝ }
+    ghost { Given }
+    requires { λ g. ⌜ given q (now heights) (now bounds) (now radices) (now draws) [] [] [] [] (now parts) (now counts) ≡ g ⌝ }
+    requires { λ g. ⌜ ChosenIn g (now work) base (now labels) (pointOf s) left ⌝ }
+    ensures { λ g r. ⌜ r ≡ lowestKept g (now (work .entry)) base (stripOf p) (pointOf s) (now (labels .entry)) left ⌝ }
+    ensures { λ g _. ⌜ now (labels .exit) ≡ now (labels .entry) ⌝ }
 {
     let m = heights.len() as u32;
     let c = s.c + 1;

@@ -25,7 +25,7 @@ use Rattle.reader.proofs.Reading.{reading, refusal-is}
 use Rattle.refusals.specs.Wordwise.{capped}
 use Rattle.refusals.specs.Work.{workOf}
 use Rattle.refusals.proofs.refusal_7.Factors.{capped-same}
-use Rattle.onesided.specs.Ranked.{SizesOf}
+use Rattle.onesided.specs.Laying.{SizesOf, Made}
 
 -- a list of 32-bit numbers
 pub are-words : (ws : List ℕ) → ((i : ℕ) → getD ws i 0 < wordTop) → areWords ws ≡ true
@@ -120,16 +120,14 @@ module _ (ws k o ls : List ℕ) (e : ls ≡ bindingOnly ws) (t : takesSheet ws k
       pub needs-less : (l : List ℕ) → l ≡ makeWork ls k o → (n ≤ r .work) × (r .work ≤ length l)
       needs-less l y = (omega (arith, words-kept, words-given, work-less ws (t .1)), omega (arith, words-given, t .2, ap length y, areas-kept .1 ls k o .3))
 
-      -- the three equations of a call, from those of the call on the sheet without them
-      pub laid : (f : ℕ) (l m a : List ℕ) → f ≡ makeFault ls k o → l ≡ makeWork ls k o → a ≡ makeAnswer ls k o → m ≡ zeroed n (r .work) l →
-          (f ≡ makeFault ws k o) × ((m ≡ makeWork ws k o) × (a ≡ makeAnswer ws k o))
-      laid f l m a x y z d = (
-        x ∙ ap (λ (v : List ℕ). makeFault v k o) e ∙ fault-binding ws k o serves,
-        (
-          d ∙ ap₃ words-kept words-given (y ∙ ap (λ (v : List ℕ). makeWork v k o) e) ∙ work-zeroed ws k o serves,
-          z ∙ ap (λ (v : List ℕ). makeAnswer v k o) e ∙ area-binding ws k o serves,
-        ),
-      )
+      -- the call, from the call on the sheet without them
+      pub laid : (f : ℕ) (l m a : List ℕ) → f ≡ makeFault ls k o → l ≡ makeWork ls k o → a ≡ makeAnswer ls k o → m ≡ zeroed n (r .work) l → Made ws k o f m a
+      laid f l m a x y z d =
+          record {
+            fault-is = x ∙ ap (λ (v : List ℕ). makeFault v k o) e ∙ fault-binding ws k o serves;
+            work-is = d ∙ ap₃ words-kept words-given (y ∙ ap (λ (v : List ℕ). makeWork v k o) e) ∙ work-zeroed ws k o serves;
+            out-is = z ∙ ap (λ (v : List ℕ). makeAnswer v k o) e ∙ area-binding ws k o serves;
+          }
         where
           serves : Serves ws k o
           serves = (t .1, t .2, t .3)

@@ -5,7 +5,7 @@ ghost use Rattle.sheet.specs.Sheet.{sheetIn};
 ghost use Rattle.labelling.specs.Entry.{makeFault, makeAnswer, makeWork};
 ghost use Rattle.labelling.specs.Promise.{takesSheet};
 ghost use Rattle.reader.specs.Read.{readOf};
-ghost use Rattle.onesided.specs.Ranked.{SizesOf};
+ghost use Rattle.onesided.specs.Laying.{SizesOf, Made};
 use areas::lengths::area_fault;
 use areas::zero_part;
 use reader::Sizes;
@@ -34,9 +34,7 @@ fn lay_side(
 ) -> u8
     requires { ⌜ takesSheet (now sheet) (now work) (now out) ⌝ }
     requires { ⌜ (two ≡ sheetIn (now sheet) .isTwoSided) × SizesOf (sheetIn (now sheet)) slots colours sites budgets ⌝ }
-    ensures { λ r. ⌜ r ≡ makeFault (now (sheet .entry)) (now (work .entry)) (now (out .entry)) ⌝ }
-    ensures { λ _. ⌜ now (work .exit) ≡ makeWork (now (sheet .entry)) (now (work .entry)) (now (out .entry)) ⌝ }
-    ensures { λ _. ⌜ now (out .exit) ≡ makeAnswer (now (sheet .entry)) (now (work .entry)) (now (out .entry)) ⌝ }
+    ensures { λ r. ⌜ Made (now (sheet .entry)) (now (work .entry)) (now (out .entry)) r (now (work .exit)) (now (out .exit)) ⌝ }
 {
     if two {
         return twosided::lay_two_sided(sheet, slots, colours, sites, budgets, work, out);
@@ -49,9 +47,7 @@ fn lay_side(
 fn lay_binding(sheet: &[u32], sizes: Sizes, work: &mut [u32], out: &mut [u32]) -> u8
     requires { ⌜ takesSheet (now sheet) (now work) (now out) ⌝ }
     requires { ⌜ sizes ≡ readOf (sheetIn (now sheet)) ⌝ }
-    ensures { λ r. ⌜ r ≡ makeFault (now (sheet .entry)) (now (work .entry)) (now (out .entry)) ⌝ }
-    ensures { λ _. ⌜ now (work .exit) ≡ makeWork (now (sheet .entry)) (now (work .entry)) (now (out .entry)) ⌝ }
-    ensures { λ _. ⌜ now (out .exit) ≡ makeAnswer (now (sheet .entry)) (now (work .entry)) (now (out .entry)) ⌝ }
+    ensures { λ r. ⌜ Made (now (sheet .entry)) (now (work .entry)) (now (out .entry)) r (now (work .exit)) (now (out .exit)) ⌝ }
 {
     let words = binding_only(sheet);
     let kept = &words[..sheet.len()];

@@ -1,5 +1,5 @@
 -- What is laid out from the arrays of an accepted one-sided sheet is what the maker is to answer and leave. Assumes nothing.
-use mathlib.Core.Path.{_≡_, sym, ap, ap₂, _∙_}
+use mathlib.Core.Path.{_≡_, sym, ap, ap₂, _∙_, subst⁻¹}
 use mathlib.Core.Bool.{true, false}
 use mathlib.Core.List.{List, _++_}
 use Prim.Native.Nat.{ℕ, _+_, _*_}
@@ -8,30 +8,29 @@ use lib.Dec.{ltb}
 use lib.ListN.{length, set, drop, replicate}
 use borrow.Author.Tests.{lt-ltb, le-ltb}
 use Rattle.lists.proofs.Tests.{by-order}
+use Rattle.sheet.specs.Limits.{kindTop, lengthTop}
 use Rattle.sheet.specs.Sheet.{Sheet, sheetIn, productOf, workFor}
 use Rattle.sheet.proofs.Accepted.{sound, sites-coloured}
-use Rattle.labelling.specs.Entry.{makeFault, makeWork, makeAnswer}
+use Rattle.areas.proofs.Zeroed.{zeroed-front}
+use Rattle.labelling.specs.Entry.{zeroed}
 use Rattle.labelling.specs.Promise.{takesSheet}
 use Rattle.labelling.proofs.Maker.{cleared}
+use Rattle.optimum.specs.Strips.{Point}
 use Rattle.optimum.specs.OneSided.{topWord, instanceOf, order, pointsAt, writeTies}
 use Rattle.optimum.specs.CostWord.{countIn, lengthIn}
 use Rattle.optimum.proofs.optimality.Order.{ordered}
 use Rattle.optimum.proofs.optimality.OneSidedBest.{points-long}
 use Rattle.optimum.proofs.optimality.OneSidedAnswer.{firstCell, slotsWalked, cell-value, slots-walked, work-cells, call-unmade}
 use Rattle.optimum.proofs.optimality.Write.{call-written}
-use Rattle.arrays.specs.declared.Measures.{Measures}
-use Rattle.arrays.specs.Arrays.{measuresOf, boundsOf, drawsList, xsOf, ysOf, coloursOf, gathered, instanceBy, pointsBy}
+use Rattle.arrays.specs.Arrays.{measuresOf}
+use Rattle.arrays.specs.Given as given
+use Rattle.arrays.specs.Given.{Given}
 use Rattle.arrays.proofs.Instances.{instance-by, points-by}
-use Rattle.optimum.specs.Budgets.{radicesOf}
 use Rattle.rows.specs.Rest.{levelSize}
 use Rattle.costs.specs.Costs.{headWord}
-use Rattle.walk.specs.Laid.{leastCost, laidFault, written, laidOut, wiped}
-
--- the three equations of a call: what it returns, and both areas
-pub record Made (ws k o : List ℕ) (fault : ℕ) (work out : List ℕ) : Type 0 where
-  pub fault-is : fault ≡ makeFault ws k o
-  pub work-is : work ≡ makeWork ws k o
-  pub out-is : out ≡ makeAnswer ws k o
+use Rattle.walk.specs.Walk.{levelWords}
+use Rattle.walk.specs.Laid.{leastCost, faultBy, writtenBy, outBy, laidFault, laidOut, laidWork}
+use Rattle.onesided.specs.Laying.{Made, arraysOf}
 
 module _ (ws k out : List ℕ) (t : takesSheet ws k out) (one : sheetIn ws .isTwoSided ≡ false) where
   abbrev s : Sheet
@@ -48,11 +47,13 @@ module _ (ws k out : List ℕ) (t : takesSheet ws k out) (one : sheetIn ws .isTw
       size : (a b n : ℕ) → a * b * a * b * n ≡ a * b * a * b * 1 * n
       size a b n = ap (λ (z : ℕ). z * n) (omega arith)
 
-  wiped-is : (work : List ℕ) → drop (workFor s) work ≡ drop (workFor s) k → wiped (instanceOf s) (measuresOf s) (pointsAt s (order s)) work ≡ cleared ws k
-  wiped-is work e = ap (λ (n : ℕ). replicate n 0 ++ drop n work) size-is ∙ ap (λ (l : List ℕ). replicate (workFor s) 0 ++ l) e
+  zeroed-is : (work : List ℕ) → drop (workFor s) work ≡ drop (workFor s) k → laidWork (arraysOf s) work ≡ cleared ws k
+  zeroed-is work e =
+      ap (λ (p : List Point). zeroed 0 ((length p + 1) * levelWords (arraysOf s)) work) (points-by s (order s)) ∙ ap (λ (n : ℕ). zeroed 0 n work) size-is ∙ zeroed-front (workFor s) work
+      ∙ ap (λ (l : List ℕ). replicate (workFor s) 0 ++ l) e
 
-  written-is : written (instanceOf s) (measuresOf s) (pointsAt s (order s)) (order s) out
-      ≡ writeTies (set out 0 (8 * 268435456 + countIn s (firstCell s) * 2097152 + lengthIn s (firstCell s))) (order s) (slotsWalked s)
+  written-is : writtenBy (instanceOf s) (measuresOf s) (pointsAt s (order s)) (order s) out
+      ≡ writeTies (set out 0 (8 * kindTop + countIn s (firstCell s) * lengthTop + lengthIn s (firstCell s))) (order s) (slotsWalked s)
   unfolding countIn lengthIn
   written-is =
       ap₂ (λ (w : ℕ) (js : List ℕ). writeTies (set out 0 (headWord (measuresOf s) w)) (order s) js) least-is
@@ -60,29 +61,26 @@ module _ (ws k out : List ℕ) (t : takesSheet ws k out) (one : sheetIn ws .isTw
 
   -- by the sheet's own instance and order
   laid-sheet : (work : List ℕ) → drop (workFor s) work ≡ drop (workFor s) k
-      → Made ws k out (laidFault (instanceOf s) (productOf (s .colours)) (pointsAt s (order s)))
-      (wiped (instanceOf s) (measuresOf s) (pointsAt s (order s)) work) (laidOut (instanceOf s) (measuresOf s) (pointsAt s (order s)) (order s) out)
+      → Made ws k out (faultBy (instanceOf s) (productOf (s .colours)) (pointsAt s (order s)))
+      (laidWork (arraysOf s) work) (outBy (instanceOf s) (measuresOf s) (pointsAt s (order s)) (order s) out)
   laid-sheet work e =
       by-order topWord (firstCell s)
       (λ h. let r = call-unmade ws k out t one h in
       let l : ltb (leastCost (instanceOf s) (productOf (s .colours)) (pointsAt s (order s))) topWord ≡ false = le-ltb (leastCost (instanceOf s) (productOf (s .colours)) (pointsAt s (order s))) topWord (omega (arith, least-is)) in
-      record { fault-is = rw l (sym (r .fault-is)); work-is = wiped-is work e ∙ sym (r .work-is); out-is = rw l (sym (r .out-is)) })
+      record { fault-is = rw l (sym (r .fault-is)); work-is = zeroed-is work e ∙ sym (r .work-is); out-is = rw l (sym (r .out-is)) })
       (λ h. let r = call-written ws k out t one h in
       let l : ltb (leastCost (instanceOf s) (productOf (s .colours)) (pointsAt s (order s))) topWord ≡ true = lt-ltb (leastCost (instanceOf s) (productOf (s .colours)) (pointsAt s (order s))) topWord (omega (arith, least-is)) in
-      record { fault-is = rw l (sym (r .fault-is)); work-is = wiped-is work e ∙ sym (r .work-is); out-is = rw l (written-is ∙ sym (r .out-is)) })
+      record { fault-is = rw l (sym (r .fault-is)); work-is = zeroed-is work e ∙ sym (r .work-is); out-is = rw l (written-is ∙ sym (r .out-is)) })
 
   -- THE CALL, from arrays that are the sheet's
-  pub laid-is : (q : Measures) (hs bs rs ds os xs ys cs work : List ℕ) → q ≡ measuresOf s → hs ≡ s .slots → bs ≡ boundsOf (s .colours) → rs ≡ radicesOf (s .colours)
-      → ds ≡ drawsList s → os ≡ order s → xs ≡ gathered (xsOf (s .sites)) (order s) → ys ≡ gathered (ysOf (s .sites)) (order s)
-      → cs ≡ gathered (coloursOf (s .sites)) (order s) → drop (workFor s) work ≡ drop (workFor s) k
-      → Made ws k out (laidFault (instanceBy q hs bs rs ds) (q .budgets) (pointsBy xs ys cs)) (wiped (instanceBy q hs bs rs ds) q (pointsBy xs ys cs) work)
-      (laidOut (instanceBy q hs bs rs ds) q (pointsBy xs ys cs) os out)
-  laid-is q hs bs rs ds os xs ys cs work eq eh eb er ed eo ex ey ec e =
-      let P : instanceBy q hs bs rs ds ≡ instanceOf s = (λ i. instanceBy (eq i) (eh i) (eb i) (er i) (ed i)) ∙ instance-by s in
-      let p : pointsBy xs ys cs ≡ pointsAt s (order s) = (λ i. pointsBy (ex i) (ey i) (ec i)) ∙ points-by s (order s) in
+  pub laid-is : (g : Given) (work : List ℕ) → g ≡ arraysOf s → drop (workFor s) work ≡ drop (workFor s) k → Made ws k out (laidFault g) (laidWork g work) (laidOut g out)
+  laid-is g work eg e =
+      let P : given.instanceOf (arraysOf s) ≡ instanceOf s = instance-by s in
+      let p : given.pointsOf (arraysOf s) ≡ pointsAt s (order s) = points-by s (order s) in
       let m = laid-sheet work e in
-      record {
-        fault-is = (λ i. laidFault (P i) (eq i .budgets) (p i)) ∙ m .fault-is;
-        work-is = (λ i. wiped (P i) (eq i) (p i) work) ∙ m .work-is;
-        out-is = (λ i. laidOut (P i) (eq i) (p i) (eo i) out) ∙ m .out-is;
-      }
+      subst⁻¹ (λ (z : Given). Made ws k out (laidFault z) (laidWork z work) (laidOut z out)) eg
+      (record {
+        fault-is = (λ i. faultBy (P i) (productOf (s .colours)) (p i)) ∙ m .fault-is;
+        work-is = m .work-is;
+        out-is = (λ i. outBy (P i) (measuresOf s) (p i) (order s) out) ∙ m .out-is;
+      })

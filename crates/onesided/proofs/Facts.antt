@@ -1,5 +1,5 @@
 -- The arrays of an accepted sheet are as the table and the walk ask. Assumes nothing.
-use mathlib.Core.Path.{_≡_, refl, sym, ap, ap₂, _∙_}
+use mathlib.Core.Path.{_≡_, refl, sym, ap, ap₂, _∙_, subst⁻¹}
 use mathlib.Core.Bool.{false, cond}
 use mathlib.Core.List.{List, [], _∷_, _++_}
 use Prim.Native.Nat.{ℕ, zero, suc, _+_, _-_, _*_, _≤_, _<_}
@@ -9,31 +9,31 @@ use lib.Dec.{eqb}
 use lib.ListN.{length, getD, drop, replicate}
 use borrow.Author.Tests.{ltb-true}
 use Rattle.lists.proofs.Tests.{by-test}
+use Rattle.sheet.specs.Limits.{mostSites, numberTop, unbounded}
 use Rattle.sheet.specs.Sheet.{Colour, Sheet, sheetIn, sheetFault, productOf, workFor}
 use Rattle.sheet.proofs.Accepted.{Sound, sound, lowY, colourLow}
-use Rattle.areas.proofs.Zeroed.{zeroed-front}
-use Rattle.labelling.specs.Layout.{noSite}
 use Rattle.labelling.specs.Entry.{zeroed}
+use Rattle.labelling.specs.Layout.{noSite}
 use Rattle.labelling.proofs.Members.{all-at, used-at, rise-at}
 use Rattle.labelling.proofs.Words.{height-low}
 use Rattle.optimum.specs.OneSided.{order}
 use Rattle.optimum.specs.Budgets.{radicesOf}
+use Rattle.optimum.specs.Reached.{TableOf}
 use Rattle.optimum.proofs.Full.{full-holds}
 use Rattle.optimum.proofs.optimality.Order.{ordered}
 use Rattle.optimum.proofs.optimality.OneSidedAnswer.{work-cells}
 use Rattle.arrays.specs.declared.Measures.{Measures}
-use Rattle.arrays.specs.Arrays.{measuresOf, boundsOf, drawsList, xsOf, ysOf, coloursOf, gathered, instanceBy, pointsBy}
+use Rattle.arrays.specs.Arrays.{measuresOf, boundsOf, drawsList, xsOf, ysOf, coloursOf, gathered}
+use Rattle.arrays.specs.Given.{Given, given, instanceOf, pointsOf, OfSheet}
 use Rattle.decoding.proofs.Places.{ys-at, colours-at}
 use Rattle.decoding.proofs.Fields.{bounds-long}
 use Rattle.arrays.proofs.Ordered.{gathered-long, radix-pos}
 use Rattle.rows.proofs.Folding.{size}
-use Rattle.rows.specs.Rows.{levelSize}
-use Rattle.arrays.proofs.Narrowed.{no-sites}
 use Rattle.rows.specs.Budgets.{Splits}
-use Rattle.optimum.specs.Reached.{TableOf}
+use Rattle.walk.specs.Walk.{levelWords, mostLevel}
+use Rattle.walk.specs.Laid.{FilledIn, laidWork}
 use Rattle.walk.proofs.Tying.{points-long}
-use Rattle.walk.specs.Laid.{TableFilled, wiped}
-use Rattle.onesided.specs.Ranked.{SheetFits, Ranked}
+use Rattle.onesided.specs.Laying.{RankedSites, arraysOf, LaysOut}
 
 gathered-get : (l os : List ℕ) (i : ℕ) → i < length os → getD (gathered l os) i 0 ≡ getD l (getD os i 0) 0
 unfolding gathered
@@ -44,13 +44,13 @@ gathered-get l (o ∷ os) (suc i) h = gathered-get l os i (omega arith)
 radices-positive : (ks : List Colour) (k : ℕ) → k < length (radicesOf ks) → 0 < getD (radicesOf ks) k 0
 unfolding radicesOf
 radices-positive [] k h = absurd (omega arith)
-radices-positive (c ∷ ks) zero h = by-test (eqb (c .bound) 255) (λ e. rw e (omega arith)) (λ e. rw e (omega arith))
+radices-positive (c ∷ ks) zero h = by-test (eqb (c .bound) unbounded) (λ e. rw e (omega arith)) (λ e. rw e (omega arith))
 radices-positive (c ∷ ks) (suc k) h = radices-positive ks k (omega arith)
 
 pub product-some : (ks : List Colour) → 0 < productOf ks
 unfolding productOf
 product-some [] = omega arith
-product-some (k ∷ ks) = go (cond (eqb (k .bound) 255) 1 (k .bound + 1)) (productOf ks) (radix-pos (k .bound)) (product-some ks)
+product-some (k ∷ ks) = go (cond (eqb (k .bound) unbounded) 1 (k .bound + 1)) (productOf ks) (radix-pos (k .bound)) (product-some ks)
   where
     go : (a c : ℕ) → 1 ≤ a → 0 < c → 0 < a * c
     go a c h k = let e : a ≡ suc (a - 1) = omega arith in omega (arith, ap (λ (z : ℕ). z * c) e)
@@ -68,10 +68,10 @@ module _ (ws : List ℕ) (f : sheetFault ws ≡ 0) where
   order-low : (i : ℕ) → i < length (order s) → getD (order s) i 0 < length (s .sites)
   order-low i h = ordered s o .low (getD (order s) i 0) (used-at (order s) i h) .0
 
-  ys-low : (i : ℕ) → i < length (order s) → getD (gathered (ysOf (s .sites)) (order s)) i 0 < 16384
+  ys-low : (i : ℕ) → i < length (order s) → getD (gathered (ysOf (s .sites)) (order s)) i 0 < numberTop
   ys-low i h =
       let e = gathered-get (ysOf (s .sites)) (order s) i h ∙ ys-at (s .sites) (getD (order s) i 0) in
-      let l : (getD (s .sites) (getD (order s) i 0) noSite) .y < 16384 = ltb-true _ _ (all-at lowY noSite (s .sites) (o .ys) (getD (order s) i 0) (order-low i h)) in
+      let l : (getD (s .sites) (getD (order s) i 0) noSite) .y < numberTop = ltb-true _ _ (all-at lowY noSite (s .sites) (o .ys) (getD (order s) i 0) (order-low i h)) in
       omega arith
 
   colours-low : (i : ℕ) → i < length (order s) → getD (gathered (coloursOf (s .sites)) (order s)) i 0 < length (s .colours)
@@ -80,32 +80,35 @@ module _ (ws : List ℕ) (f : sheetFault ws ≡ 0) where
       let l : (getD (s .sites) (getD (order s) i 0) noSite) .colour < length (s .colours) = ltb-true _ _ (all-at (colourLow (length (s .colours))) noSite (s .sites) (o .coloured) (getD (order s) i 0) (order-low i h)) in
       omega arith
 
-  given-sheet : (area : ℕ) → s .isTwoSided ≡ false → workFor s ≤ area
-      → SheetFits (measuresOf s) (s .slots) (boundsOf (s .colours)) (radicesOf (s .colours)) (drawsList s)
-      (gathered (xsOf (s .sites)) (order s)) (gathered (ysOf (s .sites)) (order s)) (gathered (coloursOf (s .sites)) (order s)) area
-  given-sheet area one h =
+  of-sheet : OfSheet (arraysOf s)
+  of-sheet =
       let gx = gathered-long (xsOf (s .sites)) (order s) in
-      let gy = gathered-long (ysOf (s .sites)) (order s) in
-      let gc = gathered-long (coloursOf (s .sites)) (order s) in
       record {
-        sheet = record {
-          fewSlots = o .few-slots;
-          fewColours = o .few-colours;
-          fewSites = omega (arith, gx, n-is, o .few-sites);
-          fewBudgets = o .product;
-          someBudget = product-some (s .colours);
-          narrow = o .narrow;
-          heightLow = λ k. height-low (s .slots) k (o .heights);
-          rising = λ j k p q. rise-at (s .slots) (o .rise) j k p q;
-          divides = radices-positive (s .colours);
-          full = full-holds (s .colours);
-          ysLong = gy ∙ sym gx;
-          coloursLong = gc ∙ sym gx;
-          siteIn = λ i l. record { yLow = ys-low i (omega (arith, gx)); colourLow = colours-low i (omega (arith, gx)) };
-          orderLow = λ i l. absurd (omega arith);
-        };
+        fewSlots = o .few-slots;
+        fewColours = o .few-colours;
+        fewSites = omega (arith, gx, n-is, o .few-sites);
+        fewBudgets = o .product;
+        someBudget = product-some (s .colours);
+        narrow = o .narrow;
+        heightLow = λ k. height-low (s .slots) k (o .heights);
+        rising = λ j k p q. rise-at (s .slots) (o .rise) j k p q;
+        divides = radices-positive (s .colours);
+        full = full-holds (s .colours);
+        ysLong = gathered-long (ysOf (s .sites)) (order s) ∙ sym gx;
+        coloursLong = gathered-long (coloursOf (s .sites)) (order s) ∙ sym gx;
+        siteIn = λ i l. record { yLow = ys-low i (omega (arith, gx)); colourLow = colours-low i (omega (arith, gx)) };
+        orderLow = λ i l. omega (arith, order-low i l, gx, n-is);
+      }
+
+  lays-sheet : (area : ℕ) (out : List ℕ) → s .isTwoSided ≡ false → workFor s ≤ area → length (s .sites) + 1 ≤ length out → LaysOut (arraysOf s) area out
+  lays-sheet area out one h r =
+      let gx = gathered-long (xsOf (s .sites)) (order s) in
+      record {
+        sheet = of-sheet;
         bounded = bounds-long (s .colours);
+        ranked = sym gx;
         fits = fits (length (s .slots) + 2) (length (s .colours) + 1) (productOf (s .colours)) (omega (arith, gx, n-is)) (work-cells s one);
+        answerFits = omega (arith, n-is);
       }
     where
       fits : (a b p : ℕ) → length (gathered (xsOf (s .sites)) (order s)) ≡ length (s .sites) → workFor s ≡ (length (s .sites) + 1) * (a * b * a * b * 1 * p)
@@ -116,67 +119,78 @@ module _ (ws : List ℕ) (f : sheetFault ws ≡ 0) where
           omega arith
 
   -- the same for arrays that are equal to these
-  pub given-is : (q : Measures) (hs bs rs ds xs ys cs : List ℕ) (area : ℕ) → q ≡ measuresOf s → hs ≡ s .slots → bs ≡ boundsOf (s .colours) → rs ≡ radicesOf (s .colours)
-      → ds ≡ drawsList s → xs ≡ gathered (xsOf (s .sites)) (order s) → ys ≡ gathered (ysOf (s .sites)) (order s) → cs ≡ gathered (coloursOf (s .sites)) (order s)
-      → s .isTwoSided ≡ false → workFor s ≤ area → SheetFits q hs bs rs ds xs ys cs area
-  given-is q hs bs rs ds xs ys cs area eq eh eb er ed ex ey ec one h = rw (eq, eh, eb, er, ed, ex, ey, ec) (given-sheet area one h)
+  pub lays-is : (g : Given) (area : ℕ) (out : List ℕ) → g ≡ arraysOf s → s .isTwoSided ≡ false → workFor s ≤ area → length (s .sites) + 1 ≤ length out → LaysOut g area out
+  lays-is g area out e one h r = subst⁻¹ (λ (z : Given). LaysOut z area out) e (lays-sheet area out one h r)
 
-  pub ranked-is : (q : Measures) (xs os out : List ℕ) → q ≡ measuresOf s → xs ≡ gathered (xsOf (s .sites)) (order s) → os ≡ order s → length (s .sites) + 1 ≤ length out
-      → Ranked q xs os out
-  ranked-is q xs os out eq ex eo h =
-      rw (eq, ex, eo)
-      (record {
-        long = sym (gathered-long (xsOf (s .sites)) (order s));
-        low = λ i l. omega (arith, order-low i l, n-is);
-        someBudget = product-some (s .colours);
-        answerFits = omega (arith, n-is);
-      })
+-- arrays are a sheet's by their parts
+pub arrays-are : (s : Sheet) {q : Measures} {hs bs rs ds xs ys cs os : List ℕ} → q ≡ measuresOf s → hs ≡ s .slots → bs ≡ boundsOf (s .colours) → rs ≡ radicesOf (s .colours)
+    → ds ≡ drawsList s → RankedSites s xs ys cs os → given q hs bs rs ds xs ys cs os [] [] ≡ arraysOf s
+arrays-are s eq eh eb er ed r =
+    λ i. given (eq i) (eh i) (eb i) (er i) (ed i) (r .xsIs i) (r .ysIs i) (r .coloursIs i) (r .orderIs i) [] []
 
--- what the walk asks, from what the table was given
-pub filled-is : (q : Measures) (hs bs rs ds parts counts work xs ys cs os out : List ℕ) (area : ℕ) → length work ≡ area → SheetFits q hs bs rs ds xs ys cs area → Ranked q xs os out
-    → Splits rs (q .budgets) parts counts → TableOf (instanceBy q hs bs rs ds) (q .colours) (q .budgets) (pointsBy xs ys cs) work
-    → TableFilled q hs bs rs ds parts counts work xs ys cs os out
-filled-is q hs bs rs ds parts counts work xs ys cs os out area e g r splits table =
-    record {
-      arrays = record {
-        sheet = no-sites (g .sheet);
-        bounded = g .bounded;
-        splits = splits;
-        fewSites = omega (arith, r .long, g .sheet .fewSites);
-        xsLong = sym (r .long);
-        ysLong = g .sheet .ysLong ∙ sym (r .long);
-        coloursLong = g .sheet .coloursLong ∙ sym (r .long);
-        siteIn = λ i l. g .sheet .siteIn i (omega (arith, r .long));
-        orderLow = r .low;
-        whole = omega (arith, g .fits, ap (λ (n : ℕ). (n + 1) * levelSize q hs) (r .long));
-      };
-      rising = g .sheet .rising;
-      table = table;
-      someBudget = r .someBudget;
-      answerFits = r .answerFits;
-    }
+-- with what may be taken from each budget listed
+module _ {g : Given} (o : OfSheet g) {ps ns : List ℕ} where
+  pub with-lists : OfSheet (given (g .measures) (g .heights) (g .bounds) (g .radices) (g .draws) (g .xs) (g .ys) (g .colours) (g .order) ps ns)
+  with-lists =
+      record {
+        fewSlots = o .fewSlots;
+        fewColours = o .fewColours;
+        fewSites = o .fewSites;
+        fewBudgets = o .fewBudgets;
+        someBudget = o .someBudget;
+        narrow = o .narrow;
+        heightLow = o .heightLow;
+        rising = o .rising;
+        divides = o .divides;
+        full = o .full;
+        ysLong = o .ysLong;
+        coloursLong = o .coloursLong;
+        siteIn = o .siteIn;
+        orderLow = o .orderLow;
+      }
 
--- the words of the table are wiped alike where the rest of the area is the same
-pub wiped-same : (q : Measures) (hs bs rs ds xs ys cs old new : List ℕ) (area : ℕ) → SheetFits q hs bs rs ds xs ys cs area
-    → drop ((length xs + 1) * levelSize q hs) new ≡ drop ((length xs + 1) * levelSize q hs) old
-    → wiped (instanceBy q hs bs rs ds) q (pointsBy xs ys cs) new ≡ wiped (instanceBy q hs bs rs ds) q (pointsBy xs ys cs) old
-wiped-same q hs bs rs ds xs ys cs old new area g e =
-    let n : length (pointsBy xs ys cs) ≡ length xs = points-long xs ys cs (length xs) refl (g .sheet .ysLong) (g .sheet .coloursLong) in
-    rw n (ap (λ (l : List ℕ). replicate ((length xs + 1) * levelSize q hs) 0 ++ l) e)
+module _ {g : Given} {area : ℕ} {out : List ℕ} (l : LaysOut g area out) where
+  -- the levels of all sites, counted by their places
+  all-levels : (length (g .order) + 1) * levelWords g ≡ (length (g .xs) + 1) * levelWords g
+  all-levels = ap (λ (n : ℕ). (n + 1) * levelWords g) (l .ranked)
 
--- the words of all levels, of s words each, are what is wiped
-pub record Wipes (q : Measures) (hs bs rs ds xs ys cs os : List ℕ) (area s : ℕ) : Type 0 where
-  pub small : (length os + 1) * s ≤ 427680000
-  pub fits : (length os + 1) * s ≤ area
-  pub wipes : (work : List ℕ) → zeroed 0 ((length os + 1) * s) work ≡ wiped (instanceBy q hs bs rs ds) q (pointsBy xs ys cs) work
+  points-are : length (pointsOf g) ≡ length (g .xs)
+  points-are = points-long (g .xs) (g .ys) (g .colours) (length (g .xs)) refl (l .sheet .ysLong) (l .sheet .coloursLong)
 
-pub wipes-is : (q : Measures) (hs bs rs ds xs ys cs os out : List ℕ) (area s : ℕ) → SheetFits q hs bs rs ds xs ys cs area → Ranked q xs os out → s ≡ levelSize q hs → Wipes q hs bs rs ds xs ys cs os area s
-wipes-is q hs bs rs ds xs ys cs os out area s g r e =
-    let few : length os + 1 ≤ 33 = omega (arith, r .long, g .sheet .fewSites) in
-    let within : (length os + 1) * levelSize q hs ≤ area = omega (arith, g .fits, ap (λ (n : ℕ). (n + 1) * levelSize q hs) (r .long)) in
-    let long : length (pointsBy xs ys cs) ≡ length os = points-long xs ys cs (length os) (sym (r .long)) (g .sheet .ysLong ∙ sym (r .long)) (g .sheet .coloursLong ∙ sym (r .long)) in
-    record {
-      small = rw e (mul-le-mul {n₂ = 33} {m₂ = 12960000} few (size (length hs) (q .colours) (q .budgets) (g .sheet .fewSlots) (g .sheet .fewColours) (g .sheet .fewBudgets)));
-      fits = rw e within;
-      wipes = λ work. zeroed-front ((length os + 1) * s) work ∙ rw (e, long) refl;
-    }
+  -- what the walk asks, from what the table was given
+  pub filled-is : {ps ns work : List ℕ} → length work ≡ area → Splits (g .radices) (g .measures .budgets) ps ns
+      → TableOf (instanceOf g) (g .measures .colours) (g .measures .budgets) (pointsOf g) work
+      → FilledIn (given (g .measures) (g .heights) (g .bounds) (g .radices) (g .draws) (g .xs) (g .ys) (g .colours) (g .order) ps ns) work out
+  filled-is e splits table =
+      record {
+        arrays = record {
+          sheet = with-lists (l .sheet);
+          bounded = l .bounded;
+          ranked = l .ranked;
+          splits = splits;
+          whole = omega (arith, l .fits, all-levels);
+        };
+        table = table;
+        answerFits = l .answerFits;
+      }
+
+  -- the words of the table are zeroed alike where the rest of the area is the same
+  pub zeroed-same : (old new : List ℕ) → drop ((length (g .xs) + 1) * levelWords g) new ≡ drop ((length (g .xs) + 1) * levelWords g) old → laidWork g new ≡ laidWork g old
+  zeroed-same old new e =
+      rw points-are (ap (λ (z : List ℕ). replicate ((length (g .xs) + 1) * levelWords g - 0) 0 ++ z) e)
+
+  -- the words of all levels, of n words each, are what is zeroed
+  pub record Zeros (n : ℕ) : Type 0 where
+    pub small : (length (g .order) + 1) * n ≤ (mostSites + 1) * mostLevel
+    pub within : (length (g .order) + 1) * n ≤ area
+    pub zeros : (work : List ℕ) → zeroed 0 ((length (g .order) + 1) * n) work ≡ laidWork g work
+
+  pub zeros-are : (n : ℕ) → n ≡ levelWords g → Zeros n
+  zeros-are n e =
+      let few : length (g .order) + 1 ≤ mostSites + 1 = omega (arith, l .ranked, l .sheet .fewSites) in
+      let o = l .sheet in
+      record {
+        small = rw e (mul-le-mul {n₂ = mostSites + 1} {m₂ = mostLevel} few (size (length (g .heights)) (g .measures .colours) (g .measures .budgets) (o .fewSlots) (o .fewColours) (o .fewBudgets)));
+        within = rw e (omega (arith, l .fits, all-levels));
+        zeros = λ work. rw (e, l .ranked, points-are) refl;
+      }

@@ -7,6 +7,7 @@ use lib.Dec.{eqb}
 use lib.ListN.{length, getD, take, length-take}
 use native.Mathlib.Nat.{mod-lt}
 use Rattle.lists.proofs.Tests.{by-test}
+use Rattle.sheet.specs.Limits.{mostSlots, mostColours, mostSites, mostBudgets, byteTop}
 use Rattle.sheet.specs.Sheet.{kindOf, Sheet, bodyOf, sheetIn, sheetFault}
 use Rattle.sheet.proofs.Accepted.{sound}
 use Rattle.optimum.specs.OneSided.{order}
@@ -35,51 +36,51 @@ module _ (ws : List ℕ) (f : sheetFault ws ≡ 0) where
   abbrev s : Sheet
   s = sheetIn ws
 
-  pub heights : (r : List ℕ) (k : ℕ) → r ≡ padded 48 (s .slots) → k ≡ length (s .slots) → (take k r ≡ s .slots) × (k ≡ length (take k r))
-  heights r k e h = part 48 (s .slots) r k e h
+  pub heights : (r : List ℕ) (k : ℕ) → r ≡ padded mostSlots (s .slots) → k ≡ length (s .slots) → (take k r ≡ s .slots) × (k ≡ length (take k r))
+  heights r k e h = part mostSlots (s .slots) r k e h
 
-  pub bounds : (r : List ℕ) (k : ℕ) → r ≡ padded 8 (boundsOf (s .colours)) → k ≡ length (s .colours) → (take k r ≡ boundsOf (s .colours)) × (k ≡ length (take k r))
-  bounds r k e h = part 8 (boundsOf (s .colours)) r k e (h ∙ sym (bounds-long (s .colours)))
+  pub bounds : (r : List ℕ) (k : ℕ) → r ≡ padded mostColours (boundsOf (s .colours)) → k ≡ length (s .colours) → (take k r ≡ boundsOf (s .colours)) × (k ≡ length (take k r))
+  bounds r k e h = part mostColours (boundsOf (s .colours)) r k e (h ∙ sym (bounds-long (s .colours)))
 
-  pub bounds-low : (i : ℕ) → getD (boundsOf (s .colours)) i 0 < 256
-  bounds-low i = rw (← (bounds-are (bodyOf ws))) (collected-low 3 1 256 (omega arith) (bodyOf ws) i)
+  pub bounds-low : (i : ℕ) → getD (boundsOf (s .colours)) i 0 < byteTop
+  bounds-low i = rw (← (bounds-are (bodyOf ws))) (collected-low 3 1 byteTop (omega arith) (bodyOf ws) i)
 
   -- what the budget arrays ask of the bounds
-  pub bounds-fit : (l : List ℕ) → l ≡ boundsOf (s .colours) → (length l ≤ 8) × ((i : ℕ) → getD l i 0 < 256) × (productBy l ≤ 64)
+  pub bounds-fit : (l : List ℕ) → l ≡ boundsOf (s .colours) → (length l ≤ mostColours) × ((i : ℕ) → getD l i 0 < byteTop) × (productBy l ≤ mostBudgets)
   bounds-fit l e =
       rw e (omega (arith, bounds-long (s .colours), sound ws f .few-colours), bounds-low, omega (arith, product-are (s .colours), sound ws f .product))
 
-  pub radices : (b r : List ℕ) (k : ℕ) → take k b ≡ boundsOf (s .colours) → k ≡ length (s .colours) → r ≡ padded 8 (radicesBy (take k b))
+  pub radices : (b r : List ℕ) (k : ℕ) → take k b ≡ boundsOf (s .colours) → k ≡ length (s .colours) → r ≡ padded mostColours (radicesBy (take k b))
       → (take k r ≡ radicesOf (s .colours)) × (k ≡ length (take k r))
   radices b r k e h g =
-      part 8 (radicesOf (s .colours)) r k (g ∙ ap (λ (l : List ℕ). padded 8 (radicesBy l)) e ∙ ap (padded 8) (radices-are (s .colours)))
+      part mostColours (radicesOf (s .colours)) r k (g ∙ ap (λ (l : List ℕ). padded mostColours (radicesBy l)) e ∙ ap (padded mostColours) (radices-are (s .colours)))
       (h ∙ sym (bounds-long (s .colours)) ∙ sym (radices-long (boundsOf (s .colours))) ∙ ap length (radices-are (s .colours)))
 
-  pub draws : (b r : List ℕ) (k : ℕ) → take k b ≡ boundsOf (s .colours) → k ≡ length (s .colours) → r ≡ padded 8 (drawsBy 1 (take k b))
+  pub draws : (b r : List ℕ) (k : ℕ) → take k b ≡ boundsOf (s .colours) → k ≡ length (s .colours) → r ≡ padded mostColours (drawsBy 1 (take k b))
       → (take k r ≡ drawsList s) × (k ≡ length (take k r))
   draws b r k e h g =
-      part 8 (drawsList s) r k (g ∙ ap (λ (l : List ℕ). padded 8 (drawsBy 1 l)) e ∙ ap (padded 8) (draws-are s))
+      part mostColours (drawsList s) r k (g ∙ ap (λ (l : List ℕ). padded mostColours (drawsBy 1 l)) e ∙ ap (padded mostColours) (draws-are s))
       (h ∙ sym (bounds-long (s .colours)) ∙ sym (draws-long 1 (boundsOf (s .colours))) ∙ ap length (draws-are s))
 
-  pub xs : (r : List ℕ) (k : ℕ) → r ≡ padded 32 (xsOf (s .sites)) → k ≡ length (s .sites) → (take k r ≡ xsOf (s .sites)) × (k ≡ length (take k r))
-  xs r k e h = part 32 (xsOf (s .sites)) r k e (h ∙ sym (xs-long (s .sites)))
+  pub xs : (r : List ℕ) (k : ℕ) → r ≡ padded mostSites (xsOf (s .sites)) → k ≡ length (s .sites) → (take k r ≡ xsOf (s .sites)) × (k ≡ length (take k r))
+  xs r k e h = part mostSites (xsOf (s .sites)) r k e (h ∙ sym (xs-long (s .sites)))
 
-  pub ys : (r : List ℕ) (k : ℕ) → r ≡ padded 32 (ysOf (s .sites)) → k ≡ length (s .sites) → (take k r ≡ ysOf (s .sites)) × (k ≡ length (take k r))
-  ys r k e h = part 32 (ysOf (s .sites)) r k e (h ∙ sym (ys-long (s .sites)))
+  pub ys : (r : List ℕ) (k : ℕ) → r ≡ padded mostSites (ysOf (s .sites)) → k ≡ length (s .sites) → (take k r ≡ ysOf (s .sites)) × (k ≡ length (take k r))
+  ys r k e h = part mostSites (ysOf (s .sites)) r k e (h ∙ sym (ys-long (s .sites)))
 
-  pub codes : (r : List ℕ) (k : ℕ) → r ≡ padded 32 (coloursOf (s .sites)) → k ≡ length (s .sites) → (take k r ≡ coloursOf (s .sites)) × (k ≡ length (take k r))
-  codes r k e h = part 32 (coloursOf (s .sites)) r k e (h ∙ sym (colours-long (s .sites)))
+  pub colours : (r : List ℕ) (k : ℕ) → r ≡ padded mostSites (coloursOf (s .sites)) → k ≡ length (s .sites) → (take k r ≡ coloursOf (s .sites)) × (k ≡ length (take k r))
+  colours r k e h = part mostSites (coloursOf (s .sites)) r k e (h ∙ sym (colours-long (s .sites)))
 
-  pub orders : (b r : List ℕ) (k : ℕ) → take k b ≡ xsOf (s .sites) → k ≡ length (s .sites) → r ≡ padded 32 (orderBy (take k b) (length (take k b)) 0)
+  pub orders : (b r : List ℕ) (k : ℕ) → take k b ≡ xsOf (s .sites) → k ≡ length (s .sites) → r ≡ padded mostSites (orderBy (take k b) (length (take k b)) 0)
       → (take k r ≡ order s) × (k ≡ length (take k r))
   orders b r k e h g =
-      part 32 (order s) r k (g ∙ ap (λ (l : List ℕ). padded 32 (orderBy l (length l) 0)) e ∙ ap (padded 32) (order-is s)) (h ∙ sym (ordered s (sound ws f) .long))
+      part mostSites (order s) r k (g ∙ ap (λ (l : List ℕ). padded mostSites (orderBy l (length l) 0)) e ∙ ap (padded mostSites) (order-is s)) (h ∙ sym (ordered s (sound ws f) .long))
 
   -- numbers of the sites by rank
-  pub ranked : (l b d r : List ℕ) (k : ℕ) → take k b ≡ l → take k d ≡ order s → k ≡ length (s .sites) → r ≡ padded 32 (gathered (take k b) (take k d))
+  pub ranked : (l b d r : List ℕ) (k : ℕ) → take k b ≡ l → take k d ≡ order s → k ≡ length (s .sites) → r ≡ padded mostSites (gathered (take k b) (take k d))
       → (take k r ≡ gathered l (order s)) × (k ≡ length (take k r))
   ranked l b d r k e o h g =
-      part 32 (gathered l (order s)) r k (g ∙ ap₂ (λ (x y : List ℕ). padded 32 (gathered x y)) e o)
+      part mostSites (gathered l (order s)) r k (g ∙ ap₂ (λ (x y : List ℕ). padded mostSites (gathered x y)) e o)
       (h ∙ sym (ordered s (sound ws f) .long) ∙ sym (gathered-long l (order s)))
 
 -- a part that is as long as asked stands in its array

@@ -1,13 +1,11 @@
 // The layout of a one-sided sheet: the arrays, the table, the walk, and the areas as they are left.
 ghost use mathlib.Core.Path.{_≡_};
-ghost use mathlib.Core.Bool.{false};
+ghost use mathlib.Core.List.{[]};
 ghost use lib.ListN.{length};
-ghost use Rattle.arrays.specs.Arrays.{instanceBy, pointsBy};
-ghost use Rattle.sheet.specs.Sheet.{sheetIn, productOf};
-ghost use Rattle.labelling.specs.Entry.{makeFault, makeAnswer, makeWork};
-ghost use Rattle.labelling.specs.Promise.{takesSheet};
-ghost use Rattle.walk.specs.Laid.{laidFault, laidOut, wiped};
-ghost use Rattle.onesided.specs.Ranked.{SheetFits, Ranked, RankedSites};
+ghost use Rattle.sheet.specs.Sheet.{sheetIn};
+ghost use Rattle.arrays.specs.Given.{Given, given};
+ghost use Rattle.walk.specs.Laid.{laidFault, laidWork, laidOut};
+ghost use Rattle.onesided.specs.Laying.{TakesOneSided, Made, RankedSites, LaysOut};
 use areas::zero_part;
 use arrays::Measures;
 use arrays::draws_of;
@@ -20,6 +18,8 @@ use decoding::colours_of;
 use decoding::heights_of;
 use decoding::xs_of;
 use decoding::ys_of;
+use rows::budgets::BUDGETS_LENGTH;
+use rows::budgets::SPLITS_LENGTH;
 use rows::budgets::list_splits;
 use rows::rest::level_size;
 
@@ -37,14 +37,15 @@ fn lay_ranked(
     work: &mut [u32],
     out: &mut [u32],
 ) -> u8
-    requires { ⌜ SheetFits q (now heights) (now bounds) (now radices) (now draws) (now xs) (now ys) (now colours) (length (now work)) ⌝ }
-    requires { ⌜ Ranked q (now xs) (now order) (now out) ⌝ }
-    ensures { λ r. ⌜ r ≡ laidFault (instanceBy q (now (heights .entry)) (now (bounds .entry)) (now (radices .entry)) (now (draws .entry))) (q .budgets) (pointsBy (now (xs .entry)) (now (ys .entry)) (now (colours .entry))) ⌝ }
-    ensures { λ r. ⌜ now (work .exit) ≡ wiped (instanceBy q (now (heights .entry)) (now (bounds .entry)) (now (radices .entry)) (now (draws .entry))) q (pointsBy (now (xs .entry)) (now (ys .entry)) (now (colours .entry))) (now (work .entry)) ⌝ }
-    ensures { λ r. ⌜ now (out .exit) ≡ laidOut (instanceBy q (now (heights .entry)) (now (bounds .entry)) (now (radices .entry)) (now (draws .entry))) q (pointsBy (now (xs .entry)) (now (ys .entry)) (now (colours .entry))) (now (order .entry)) (now (out .entry)) ⌝ }
+    ghost { Given }
+    requires { λ g. ⌜ given q (now heights) (now bounds) (now radices) (now draws) (now xs) (now ys) (now colours) (now order) [] [] ≡ g ⌝ }
+    requires { λ g. ⌜ LaysOut g (length (now work)) (now out) ⌝ }
+    ensures { λ g r. ⌜ r ≡ laidFault g ⌝ }
+    ensures { λ g _. ⌜ now (work .exit) ≡ laidWork g (now (work .entry)) ⌝ }
+    ensures { λ g _. ⌜ now (out .exit) ≡ laidOut g (now (out .entry)) ⌝ }
 {
-    let mut parts = [0u8; 4096];
-    let mut counts = [0u8; 64];
+    let mut parts = [0u8; SPLITS_LENGTH];
+    let mut counts = [0u8; BUDGETS_LENGTH];
     list_splits(radices, q.budgets as usize, &mut parts, &mut counts);
     let parts = &parts[..];
     let counts = &counts[..];
@@ -85,39 +86,35 @@ fn lay_ranked(
 fn lay_sites(
     sheet: &[u32],
     slots: usize,
-    colours: u32,
+    colour_count: u32,
     budgets: u32,
     xs: &[u32],
     ys: &[u32],
-    codes: &[u32],
+    colours: &[u32],
     order: &[u32],
     work: &mut [u32],
     out: &mut [u32],
 ) -> u8
-    requires { ⌜ takesSheet (now sheet) (now work) (now out) ⌝ }
-    requires { ⌜ sheetIn (now sheet) .isTwoSided ≡ false ⌝ }
-    requires { ⌜ (slots ≡ length (sheetIn (now sheet) .slots)) × (colours ≡ length (sheetIn (now sheet) .colours)) × (budgets ≡ productOf (sheetIn (now sheet) .colours)) ⌝ }
-    requires { ⌜ RankedSites (sheetIn (now sheet)) (now xs) (now ys) (now codes) (now order) ⌝ }
-    ensures { λ r. ⌜ r ≡ makeFault (now (sheet .entry)) (now (work .entry)) (now (out .entry)) ⌝ }
-    ensures { λ _. ⌜ now (work .exit) ≡ makeWork (now (sheet .entry)) (now (work .entry)) (now (out .entry)) ⌝ }
-    ensures { λ _. ⌜ now (out .exit) ≡ makeAnswer (now (sheet .entry)) (now (work .entry)) (now (out .entry)) ⌝ }
+    requires { ⌜ TakesOneSided (now sheet) (now work) (now out) slots «colour_count» (length (now order)) budgets ⌝ }
+    requires { ⌜ RankedSites (sheetIn (now sheet)) (now xs) (now ys) (now colours) (now order) ⌝ }
+    ensures { λ r. ⌜ Made (now (sheet .entry)) (now (work .entry)) (now (out .entry)) r (now (work .exit)) (now (out .exit)) ⌝ }
 {
-    let q = measures_of(sheet, colours, budgets);
+    let q = measures_of(sheet, colour_count, budgets);
     let heights = heights_of(sheet);
     let bounds = bounds_of(sheet);
-    let colour_count = colours as usize;
-    let bounds = &bounds[..colour_count];
+    let count = colour_count as usize;
+    let bounds = &bounds[..count];
     let radices = radices_of(bounds);
     let draws = draws_of(bounds);
     lay_ranked(
         q,
         &heights[..slots],
         bounds,
-        &radices[..colour_count],
-        &draws[..colour_count],
+        &radices[..count],
+        &draws[..count],
         xs,
         ys,
-        codes,
+        colours,
         order,
         work,
         out,
@@ -134,22 +131,18 @@ pub fn lay_one_sided(
     work: &mut [u32],
     out: &mut [u32],
 ) -> u8
-    requires { ⌜ takesSheet (now sheet) (now work) (now out) ⌝ }
-    requires { ⌜ sheetIn (now sheet) .isTwoSided ≡ false ⌝ }
-    requires { ⌜ (slots ≡ length (sheetIn (now sheet) .slots)) × (colours ≡ length (sheetIn (now sheet) .colours)) × (sites ≡ length (sheetIn (now sheet) .sites)) × (budgets ≡ productOf (sheetIn (now sheet) .colours)) ⌝ }
-    ensures { λ r. ⌜ r ≡ makeFault (now (sheet .entry)) (now (work .entry)) (now (out .entry)) ⌝ }
-    ensures { λ _. ⌜ now (work .exit) ≡ makeWork (now (sheet .entry)) (now (work .entry)) (now (out .entry)) ⌝ }
-    ensures { λ _. ⌜ now (out .exit) ≡ makeAnswer (now (sheet .entry)) (now (work .entry)) (now (out .entry)) ⌝ }
+    requires { ⌜ TakesOneSided (now sheet) (now work) (now out) slots colours sites budgets ⌝ }
+    ensures { λ r. ⌜ Made (now (sheet .entry)) (now (work .entry)) (now (out .entry)) r (now (work .exit)) (now (out .exit)) ⌝ }
 {
     let ranks = xs_of(sheet);
     let ys = ys_of(sheet);
-    let codes = colours_of(sheet);
+    let site_colours = colours_of(sheet);
     let ranks = &ranks[..sites];
     let order = order_of(ranks);
     let order = &order[..sites];
     let ranked_xs = gathered_of(ranks, order);
     let ranked_ys = gathered_of(&ys[..sites], order);
-    let ranked_colours = gathered_of(&codes[..sites], order);
+    let ranked_colours = gathered_of(&site_colours[..sites], order);
     lay_sites(
         sheet,
         slots,

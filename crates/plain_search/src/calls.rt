@@ -2,6 +2,7 @@
 use crate::search::Found;
 use crate::search::NONE;
 use crate::search::search;
+use crate::small_sheet::FACTOR_TOP;
 use crate::small_sheet::Sheet;
 use crate::small_sheet::at;
 use crate::small_sheet::last_of;
@@ -10,16 +11,28 @@ use crate::small_sheet::recipe::drawn;
 use crate::small_sheet::recipe::next;
 use crate::small_sheet::recipe::work_words;
 use crate::small_sheet::sum;
+use crate::small_sheet::words::KIND;
+
+// The first word of a layout with no label and no length, and a tie to slot 0.
+const LAYOUT: u32 = 8 * KIND;
+
+const TIE: u32 = 9 * KIND;
+
+// A word below this, and a number of a row, come to a word.
+const LAST: u32 = 4294967040;
+
+// A place of an area is below this.
+const AREA_TOP: usize = 65536;
 
 // What an area holds before a call.
 fn old_word(i: u32, seed: u32) -> u32 {
-    2147483648 + (i % 65536 * 7 + seed / 65536) % 65536
+    LAYOUT + (i % FACTOR_TOP * 7 + seed / FACTOR_TOP) % FACTOR_TOP
 }
 
 pub fn fill(area: &mut [u32], seed: u32) {
     let mut i: usize = 0;
     while i < area.len() {
-        area[i] = old_word((i % 65536) as u32, seed);
+        area[i] = old_word((i % AREA_TOP) as u32, seed);
         i += 1;
     }
 }
@@ -40,14 +53,14 @@ fn word_after(w: Written, i: u32) -> u32 {
     if i == 0 {
         return w.first;
     }
-    w.other % 4294967040 + at(w.slots, i - 1)
+    w.other % LAST + at(w.slots, i - 1)
 }
 
 // Does an area hold what a call leaves there?
 fn is_left(area: &[u32], w: Written) -> bool {
     let mut i: usize = 0;
     while i < area.len() {
-        if area[i] != word_after(w, (i % 65536) as u32) {
+        if area[i] != word_after(w, (i % AREA_TOP) as u32) {
             return false;
         }
         i += 1;
@@ -137,8 +150,8 @@ fn answer_written(e: Expected) -> Written {
     let best = e.best;
     Written {
         words: product((e.fault == 0) as u32, e.answer),
-        first: 2147483648 + best.size % 268435456,
-        other: 2415919104,
+        first: LAYOUT + best.size % KIND,
+        other: TIE,
         slots: best.layout,
         seed: e.seed,
     }

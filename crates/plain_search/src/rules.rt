@@ -1,4 +1,6 @@
 // The rules of a lawful layout, each as its sentence says. A layout here is a row: the slot of each site.
+use crate::small_sheet::NUMBER_TOP;
+use crate::small_sheet::ROW;
 use crate::small_sheet::Sheet;
 use crate::small_sheet::apart;
 use crate::small_sheet::at;
@@ -7,7 +9,7 @@ use crate::small_sheet::lesser;
 use crate::small_sheet::sum;
 
 // Right of every site: the left end of a slot that no site has.
-const NOWHERE: u32 = 256;
+const NOWHERE: u32 = NUMBER_TOP;
 
 // The left end of a slot's backbone: two-sided 0, else the least x among the slot's sites.
 fn left_end(sheet: Sheet, layout: u64, slot: u32) -> u32 {
@@ -42,7 +44,7 @@ pub fn slots_of(sheet: Sheet, layout: u64, colour: u32) -> u32 {
     set
 }
 
-// Rule 1: no slot has sites of two colours. Rule 2: no colour has more labels than its bound; 255, for no bound, is more than there are.
+// Rule 1: no slot has sites of two colours. Rule 2: no colour has more labels than its bound; NO_BOUND is more than there are.
 fn keeps_colours(sheet: Sheet, layout: u64) -> bool {
     let n = sheet.colours;
     let mut kept = true;
@@ -78,10 +80,10 @@ pub fn is_lawful(sheet: Sheet, layout: u64) -> bool {
     if !keeps_colours(sheet, layout) {
         return false;
     }
-    let n = sheet.sites % 8 * 8;
+    let n = sheet.sites % ROW * ROW;
     let mut i: u32 = 0;
     while i < n {
-        if !is_clear(sheet, layout, i / 8, i % 8) {
+        if !is_clear(sheet, layout, i / ROW, i % ROW) {
             return false;
         }
         i += 1;
@@ -90,14 +92,14 @@ pub fn is_lawful(sheet: Sheet, layout: u64) -> bool {
 }
 
 // A label's part of a size, which is as in the answer's first word.
-const LABEL: u32 = 2097152;
+pub const LABEL: u32 = 2097152;
 
 // Rule 6: the number of labels, and the length of backbones and drops; a slot that is not used counts nothing.
 pub fn layout_size(sheet: Sheet, layout: u64) -> u32 {
     let n = sheet.sites;
     let mut size: u32 = 0;
     let mut i: u32 = 0;
-    while i < 8 {
+    while i < ROW {
         let place = i;
         i += 1;
         let end = left_end(sheet, layout, place);

@@ -1,6 +1,9 @@
 // The best lawful layout of a sheet: all layouts are tried, in the order in which equals come.
+use crate::rules::LABEL;
 use crate::rules::is_lawful;
 use crate::rules::layout_size;
+use crate::small_sheet::FACTOR_TOP;
+use crate::small_sheet::NUMBER_TOP;
 use crate::small_sheet::Sheet;
 use crate::small_sheet::at;
 use crate::small_sheet::last_of;
@@ -43,7 +46,7 @@ fn layout_at(sheet: Sheet, number: u32) -> u64 {
     let mut i: u32 = 0;
     while i < n {
         let right = last_of(ways(sheet, at(sheet.xs, i) + 1));
-        let slot = number / (right % 65536 + 1) % (last % 256 + 1);
+        let slot = number / (right % FACTOR_TOP + 1) % (last % NUMBER_TOP + 1);
         layout = with(layout, i, slot);
         i += 1;
     }
@@ -53,7 +56,7 @@ fn layout_at(sheet: Sheet, number: u32) -> u64 {
 // A size in the order of the aim: the number of labels first, or the length.
 fn rank_of(sheet: Sheet, size: u32) -> u32 {
     if sheet.flags % 2 == 1 {
-        return size % 2097152 * 256 + size / 2097152 % 256;
+        return size % LABEL * NUMBER_TOP + size / LABEL % NUMBER_TOP;
     }
     size
 }

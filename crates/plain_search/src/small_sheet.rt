@@ -5,6 +5,26 @@ ghost use Prim.Native.Nat.{_≤_};
 pub mod recipe;
 pub mod words;
 
+// So many numbers in a row, of so many bits, each below this.
+pub const ROW: u32 = 8;
+
+const BITS: u32 = 8;
+
+pub const NUMBER_TOP: u32 = 256;
+
+// The bound of a colour that has none.
+pub const NO_BOUND: u32 = 255;
+
+// Sums here stay far below the first, and factors below the second (2^24, 2^16); a word is below the third (2^32).
+const SUM_TOP: u32 = 16777216;
+
+pub const FACTOR_TOP: u32 = 65536;
+
+pub const WORD_TOP: u64 = 4294967296;
+
+// A set has so many numbers.
+pub const SET: u32 = 32;
+
 pub struct Sheet {
     // the last number drawn, from which the next is
     pub seed: u32,
@@ -26,17 +46,17 @@ pub struct Sheet {
 pub fn at(row: u64, i: u32) -> u32
     ensures { λ r. ⌜ r ≤ 255 ⌝ }
 {
-    ((row >> ((i % 8 * 8) as u64)) % 256) as u32
+    ((row >> ((i % ROW * BITS) as u64)) % (NUMBER_TOP as u64)) as u32
 }
 
 // The row with another number at a place.
 pub fn with(row: u64, i: u32, value: u32) -> u64 {
-    row ^ ((at(row, i) as u64 ^ (value % 256) as u64) << ((i % 8 * 8) as u64))
+    row ^ ((at(row, i) as u64 ^ (value % NUMBER_TOP) as u64) << ((i % ROW * BITS) as u64))
 }
 
 // The numbers of a set have their bits.
 pub fn joined(set: u32, number: u32) -> u32 {
-    set | (1u32 << (number % 32))
+    set | (1u32 << (number % SET))
 }
 
 // The set of the first n numbers of a row.
@@ -50,15 +70,14 @@ pub fn set_of(row: u64, n: u32) -> u32 {
     set
 }
 
-// Numbers here stay far below 2^24 and 2^16.
 pub fn sum(a: u32, b: u32) -> u32 {
-    a % 16777216 + b % 16777216
+    a % SUM_TOP + b % SUM_TOP
 }
 
 pub fn product(a: u32, b: u32) -> u32 {
-    let x = (a % 65536) as u64;
-    let y = (b % 16777216) as u64;
-    (x * y % 4294967296) as u32
+    let x = (a % FACTOR_TOP) as u64;
+    let y = (b % SUM_TOP) as u64;
+    (x * y % WORD_TOP) as u32
 }
 
 pub fn apart(a: u32, b: u32) -> u32 {

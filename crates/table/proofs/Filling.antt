@@ -4,13 +4,14 @@ use mathlib.Core.List.{List}
 use Prim.Native.Nat.{ℕ, _+_, _*_, _-_, _<_, _≤_}
 use native.Mathlib.Nat.{mul-le-mul, le-refl}
 use native.Mathlib.Omega.{arith}
-use lib.ListN.{length, getD, set}
-use lib.Seq.{getD-set-same, getD-set-other}
+use lib.ListN.{length, getD}
 use Rattle.lists.proofs.Tests.{by-order}
 use Rattle.optimum.specs.Strips.{Point, Strip}
 use Rattle.arrays.specs.declared.Measures.{Measures}
 use Rattle.rows.specs.Budgets.{Others}
-use Rattle.table.specs.Entries.{entryBy}
+use Rattle.labelling.specs.Entry.{zeroed}
+use Rattle.areas.proofs.Zeroed.{zeroed-before, zeroed-inside, zeroed-after}
+use Rattle.table.specs.Entries.{RowIs, entryBy}
 use Rattle.rows.specs.Rows.{rowOf, rowIn, levelSize, Lies, endPlace, endWords}
 use Rattle.table.proofs.entries.Places.{same-rows}
 use Rattle.rows.proofs.Places.{row-fits}
@@ -160,23 +161,13 @@ start-end C a m h = slot-low C (a + 1) (m + 2) 0 (omega arith)
 
 -- ---- zeros
 
-pub record Zeroed (old new : List ℕ) (base count : ℕ) : Type 0 where
-  pub others : Others old new base count
-  pub zeros : (i : ℕ) → i < count → getD new (base + i) 0 ≡ 0
-
-pub zero-none : (old : List ℕ) (base : ℕ) → Zeroed old old base 0
-zero-none old base = record { others = record { before = λ i h. refl; after = λ i h. refl }; zeros = λ i h. absurd (omega arith) }
-
-pub zero-more : (old new : List ℕ) (base i : ℕ) → base + i < length new → Zeroed old new base i → Zeroed old (set new (base + i) 0) base (i + 1)
-zero-more old new base i h z = record {
-  others = record {
-    before = λ k l. getD-set-other new (base + i) k 0 0 (λ (e : k ≡ base + i). omega arith) ∙ z .others .before k l;
-    after = λ k l. getD-set-other new (base + i) k 0 0 (λ (e : k ≡ base + i). omega arith) ∙ z .others .after k (omega arith);
-  };
-  zeros = λ k l. by-order i k
-      (λ u. let e : k ≡ i = omega arith in rw e (getD-set-same new (base + i) 0 0 h))
-      (λ u. getD-set-other new (base + i) (base + k) 0 0 (λ (e : base + k ≡ base + i). omega arith) ∙ z .zeros k u);
-}
+-- a level that is zeroed
+pub zero-row : (base size : ℕ) (w : List ℕ) → base + size ≤ length w → RowIs base size (λ i. 0) w (zeroed base (base + size) w)
+zero-row base size w l =
+    let h : base ≤ base + size = omega arith in (
+      record { before = zeroed-before base (base + size) w h l; after = zeroed-after base (base + size) w h l },
+      λ v k. zeroed-inside base (base + size) w h l v (omega arith),
+    )
 
 pub others-of : (old new : List ℕ) (base n m : ℕ) → n ≡ m → Others old new base m → Others old new base n
 others-of old new base n m e o = record { before = o .before; after = λ i h. o .after i (omega (arith, e)) }

@@ -11,6 +11,7 @@ ghost use Rattle.rows.specs.Rows.{pointOf};
 ghost use Rattle.table.specs.Marks.{Level, level, EndIn, LevelAt};
 ghost use Rattle.table.specs.Entries.{onRows, RowIs};
 ghost use Rattle.table.specs.Levels.{LevelReady, EndFilled, LevelFilled, TableReady, SiteFilled, TableRight};
+use areas::zero_part;
 use arrays::Measures;
 use rows::End;
 use rows::Site;
@@ -99,11 +100,7 @@ fn zero_level(work: &mut [u32], base: usize, size: usize)
     requires { ⌜ base + size ≤ length (now work) ⌝ }
     ensures { λ _. ⌜ RowIs base size (λ i. 0) (now (work .entry)) (now (work .exit)) ⌝ }
 {
-    let mut i: usize = 0;
-    while i < size {
-        work[base + i] = 0;
-        i += 1;
-    }
+    zero_part(work, base, base + size);
 }
 
 // Fills level j, where the site of rank j comes next, from level j + 1.

@@ -15,14 +15,17 @@ use Rattle.search.specs.Cost.{plus, first}
 use Rattle.search.proofs.Cost.{first-is}
 use Rattle.search.specs.Walk.{chooseBy, walkBy}
 use Rattle.arrays.specs.declared.Measures.{Measures}
-use Rattle.arrays.specs.Arrays.{instanceBy, pointsBy}
+use Rattle.sheet.specs.Limits.{mostSites}
+use Rattle.arrays.specs.Arrays.{pointsBy}
+use Rattle.arrays.specs.Given.{Given, instanceOf, pointsOf, SiteIn}
 use Rattle.optimum.specs.Strips.{Point, Strip, Instance, State, hold, price, next, labels}
+use Rattle.labelling.specs.Layout.{tieWord}
 use Rattle.optimum.specs.OneSided.{topWord, writeTies}
 use Rattle.optimum.specs.Reached.{noPoint}
-use Rattle.rows.specs.Rest.{LevelIn, levelSize, restRows}
-use Rattle.choice.specs.Choice.{labelled, keepsCost}
+use Rattle.rows.specs.Rest.{LevelIn, restRows}
+use Rattle.choice.specs.Choice.{labelled, keepsCost, withTie}
 use Rattle.strips.specs.Steps.{priceIn, budgetLeft}
-use Rattle.walk.specs.Walk.{Found, valueIn, WalkArrays, Standing, tiedFrom}
+use Rattle.walk.specs.Walk.{Found, valueIn, worthIn, levelWords, mostLevel, WalkIn, Standing, tiedFrom}
 use Rattle.rows.proofs.Folding.{size}
 use Rattle.walk.proofs.Value.{first-under, next-is}
 
@@ -46,54 +49,72 @@ point-by (x ∷ xs) (y ∷ ys) (d ∷ cs) zero i a b c l = absurd (omega arith)
 point-by (x ∷ xs) (y ∷ ys) (d ∷ cs) (suc n) zero a b c l = refl
 point-by (x ∷ xs) (y ∷ ys) (d ∷ cs) (suc n) (suc i) a b c l = point-by xs ys cs n i (omega arith) (omega arith) (omega arith) (omega arith)
 
-module _ (q : Measures) (hs bs rs ds parts counts work xs ys cs order : List ℕ) (a : WalkArrays q hs bs rs ds parts counts work xs ys cs order) where
+module _ {g : Given} {work : List ℕ} (a : WalkIn g work) where
+  abbrev q : Measures
+  q = g .measures
+
+  abbrev hs : List ℕ
+  hs = g .heights
+
+  abbrev order : List ℕ
+  order = g .order
+
   abbrev P : Instance
-  P = instanceBy q hs bs rs ds
+  P = instanceOf g
 
   abbrev points : List Point
-  points = pointsBy xs ys cs
+  points = pointsOf g
 
   abbrev site : ℕ → Point
-  site j = record { x = getD xs j 0; y = getD ys j 0; c = getD cs j 0 }
+  site j = record { x = getD (g .xs) j 0; y = getD (g .ys) j 0; c = getD (g .colours) j 0 }
 
   abbrev inWords : State P → List Point → ℕ
-  inWords = valueIn P parts counts work (q .colours) (q .budgets) (length points)
+  inWords = worthIn g work
 
   abbrev none : List ℕ
   none = replicate (suc (length hs)) 0
 
+  ys-long : length (g .ys) ≡ length order
+  ys-long = a .sheet .ysLong ∙ sym (a .ranked)
+
+  colours-long : length (g .colours) ≡ length order
+  colours-long = a .sheet .coloursLong ∙ sym (a .ranked)
+
   pub long : length points ≡ length order
-  long = points-long xs ys cs (length order) (a .xsLong) (a .ysLong) (a .coloursLong)
+  long = points-long (g .xs) (g .ys) (g .colours) (length order) (sym (a .ranked)) ys-long colours-long
+
+  pub site-in : (j : ℕ) → j < length order → SiteIn q (site j)
+  site-in j l = a .sheet .siteIn j (omega (arith, a .ranked))
 
   pub sites-left : (j : ℕ) → j < length order → drop j points ≡ site j ∷ drop (suc j) points
   sites-left j l =
       drop-cons points j noPoint (omega (arith, long))
-      ∙ ap (λ (s : Point). s ∷ drop (suc j) points) (point-by xs ys cs (length order) j (a .xsLong) (a .ysLong) (a .coloursLong) l)
+      ∙ ap (λ (s : Point). s ∷ drop (suc j) points) (point-by (g .xs) (g .ys) (g .colours) (length order) j (sym (a .ranked)) ys-long colours-long l)
 
   -- the level of the sites after the first j
-  pub level-of : (j : ℕ) (L out : List ℕ) (v here : ℕ) → j < length order → Standing P q parts counts work points L out j v here
-      → LevelIn parts counts work ((j + 1) * levelSize (length hs) (q .colours) (q .budgets)) (q .colours) (q .budgets) L
+  pub level-of : (j : ℕ) (L out : List ℕ) (v here : ℕ) → j < length order → Standing g work L out j v here
+      → LevelIn (g .parts) (g .counts) work ((j + 1) * levelWords g) (q .colours) (q .budgets) L
   level-of j L out v here l w =
       record {
         fewSlots = rw (w .labelsLong) (a .sheet .fewSlots);
         fewColours = a .sheet .fewColours;
         splits = a .splits .within;
-        within = rw (w .labelsLong) (let m = mul-le-mul-right (levelSize (length hs) (q .colours) (q .budgets)) later in omega (arith, m, a .whole));
+        within = rw (w .labelsLong) (let m = mul-le-mul-right (levelWords g) later in omega (arith, m, a .whole));
         coloured = w .coloured;
       }
     where
       later : j + 1 + 1 ≤ length order + 1
       later = omega arith
 
-  pub base-low : (j : ℕ) → j < length order → (j + 1) * levelSize (length hs) (q .colours) (q .budgets) ≤ 414720000
+  pub base-low : (j : ℕ) → j < length order → (j + 1) * levelWords g ≤ mostSites * mostLevel
   base-low j l =
-      let h : j + 1 ≤ 32 = omega (arith, a .fewSites) in
-      mul-le-mul {n₂ = 32} {m₂ = 12960000} h (size (length hs) (q .colours) (q .budgets) (a .sheet .fewSlots) (a .sheet .fewColours) (a .splits .within .few))
+      let h : j + 1 ≤ mostSites = omega (arith, a .sheet .fewSites, a .ranked) in
+      mul-le-mul {n₂ = mostSites} {m₂ = mostLevel} h (size (length hs) (q .colours) (q .budgets) (a .sheet .fewSlots) (a .sheet .fewColours) (a .splits .within .few))
 
   -- one step, to the slot that the loop finds
-  module _ (j : ℕ) (L out : List ℕ) (v here k : ℕ) (l : j < length order) (w : Standing P q parts counts work points L out j v here)
-      (p : Strip) (held : p ≡ hold P L none (getD ys j 0))
-      (tried : k ≡ first (length hs) (keepsCost P parts counts work ((j + 1) * levelSize (length hs) (q .colours) (q .budgets)) (q .colours) (q .budgets) p (site j) L v here)) where
+  module _ (j : ℕ) (L out : List ℕ) (v here k : ℕ) (l : j < length order) (w : Standing g work L out j v here)
+      (p : Strip) (held : p ≡ hold P L none (getD (g .ys) j 0))
+      (tried : k ≡ first (length hs) (keepsCost g work ((j + 1) * levelWords g) p (site j) L v here)) where
     abbrev s : Point
     s = site j
 
@@ -107,7 +128,7 @@ module _ (q : Measures) (hs bs rs ds parts counts work xs ys cs order : List ℕ
     after i = (labelled L s i, budgetLeft P p s v i, none)
 
     next-after : (i : ℕ) → next P x s i ≡ after i
-    next-after i = next-is q hs bs rs ds L v s i ∙ ap (λ (r : Strip). (labelled L s i, budgetLeft P r s v i, none)) (sym held)
+    next-after i = next-is q hs (g .bounds) (g .radices) (g .draws) L v s i ∙ ap (λ (r : Strip). (labelled L s i, budgetLeft P r s v i, none)) (sym held)
 
     price-here : (i : ℕ) → price P x s i ≡ priceIn P p s v i
     unfolding price
@@ -116,14 +137,14 @@ module _ (q : Measures) (hs bs rs ds parts counts work xs ys cs order : List ℕ
     left-long : length points - length ss ≡ j + 1
     left-long = omega (arith, length-drop (suc j) points, long)
 
-    rest-here : (i : ℕ) → inWords (after i) ss ≡ restRows parts counts work ((j + 1) * levelSize (length hs) (q .colours) (q .budgets)) (length hs) (q .colours) (q .budgets) (labelled L s i) (budgetLeft P p s v i)
+    rest-here : (i : ℕ) → inWords (after i) ss ≡ restRows (g .parts) (g .counts) work ((j + 1) * levelWords g) (length hs) (q .colours) (q .budgets) (labelled L s i) (budgetLeft P p s v i)
     unfolding valueIn
-    rest-here i = ap (λ (n : ℕ). restRows parts counts work (n * levelSize (length hs) (q .colours) (q .budgets)) (length hs) (q .colours) (q .budgets) (labelled L s i) (budgetLeft P p s v i)) left-long
+    rest-here i = ap (λ (n : ℕ). restRows (g .parts) (g .counts) work (n * levelWords g) (length hs) (q .colours) (q .budgets) (labelled L s i) (budgetLeft P p s v i)) left-long
 
     worth-here : here ≡ inWords x (s ∷ ss)
     worth-here = w .worth ∙ ap (inWords x) (sites-left j l)
 
-    same-test : (i : ℕ) → keepsCost P parts counts work ((j + 1) * levelSize (length hs) (q .colours) (q .budgets)) (q .colours) (q .budgets) p s L v here i
+    same-test : (i : ℕ) → keepsCost g work ((j + 1) * levelWords g) p s L v here i
         ≡ eqb (plus topWord (price P x s i) (inWords (next P x s i) ss)) (inWords x (s ∷ ss))
     same-test i = ap₂ eqb (ap₂ (plus topWord) (sym (price-here i)) (sym (ap (λ (y : State P). inWords y ss) (next-after i) ∙ rest-here i))) worth-here
 
@@ -143,7 +164,7 @@ module _ (q : Measures) (hs bs rs ds parts counts work xs ys cs order : List ℕ
 
     sum-here : plus topWord (priceIn P p s v k) (inWords (after k) ss) ≡ here
     sum-here =
-        let t = keepsCost P parts counts work ((j + 1) * levelSize (length hs) (q .colours) (q .budgets)) (q .colours) (q .budgets) p s L v here in
+        let t = keepsCost g work ((j + 1) * levelWords g) p s L v here in
         let e : t k ≡ true = subst⁻¹ (λ (i : ℕ). t i ≡ true) tried (first-is (length hs) t (rw tried at slot-low)) in
         ap (plus topWord (priceIn P p s v k)) (rest-here k) ∙ eqb-true _ _ e
 
@@ -151,45 +172,45 @@ module _ (q : Measures) (hs bs rs ds parts counts work xs ys cs order : List ℕ
     unfolding plus
     less-price c r e = omega (arith, w .low)
 
-    pub standing : Standing P q parts counts work points (set L k (getD cs j 0 + 1)) (set out (getD order j 0 + 1) (2415919104 + k)) (j + 1) (budgetLeft P p s v k) (here - priceIn P p s v k)
+    pub standing : Standing g work (set L k (getD (g .colours) j 0 + 1)) (withTie order out j k) (j + 1) (budgetLeft P p s v k) (here - priceIn P p s v k)
     standing =
         record {
           tied = omega (arith, long);
-          answerFits = rw (length-set out (getD order j 0 + 1) (2415919104 + k)) (w .answerFits);
-          labelsLong = length-set L k (getD cs j 0 + 1) ∙ w .labelsLong;
+          answerFits = rw (length-set out (getD order j 0 + 1) (tieWord k)) (w .answerFits);
+          labelsLong = length-set L k (getD (g .colours) j 0 + 1) ∙ w .labelsLong;
           coloured = λ i. by-equal i k
-              (λ e. rw (e, getD-set-same L k (getD cs j 0 + 1) 0 (rw (w .labelsLong) slot-low)) (omega (arith, a .siteIn j l .colourLow)))
-              (λ e. rw (getD-set-other L k i (getD cs j 0 + 1) 0 e) (w .coloured i));
+              (λ e. rw (e, getD-set-same L k (getD (g .colours) j 0 + 1) 0 (rw (w .labelsLong) slot-low)) (omega (arith, site-in j l .colourLow)))
+              (λ e. rw (getD-set-other L k i (getD (g .colours) j 0 + 1) 0 e) (w .coloured i));
           budget = omega (arith, w .budget);
           low = omega (arith, w .low);
-          worth = less-price (priceIn P p s v k) (inWords (after k) ss) sum-here ∙ rw (add-one j, add-one (getD cs j 0));
-          found = rw (add-one j, add-one (getD cs j 0)) found-next;
+          worth = less-price (priceIn P p s v k) (inWords (after k) ss) sum-here ∙ rw (add-one j, add-one (getD (g .colours) j 0));
+          found = rw (add-one j, add-one (getD (g .colours) j 0)) found-next;
         }
 
     pub written : writeTies out (drop j order) (walkBy (labels P) inWords x (drop j points))
-        ≡ writeTies (set out (getD order j 0 + 1) (2415919104 + k)) (drop (j + 1) order) (walkBy (labels P) inWords (set L k (getD cs j 0 + 1), budgetLeft P p s v k, none) (drop (j + 1) points))
+        ≡ writeTies (withTie order out j k) (drop (j + 1) order) (walkBy (labels P) inWords (set L k (getD (g .colours) j 0 + 1), budgetLeft P p s v k, none) (drop (j + 1) points))
     unfolding writeTies walkBy
     written =
-        rw (add-one j, add-one (getD cs j 0), add-one (getD order j 0), drop-cons order j 0 l, sites-left j l, ← chosen, next-after k) refl
+        rw (add-one j, add-one (getD (g .colours) j 0), add-one (getD order j 0), drop-cons order j 0 l, sites-left j l, ← chosen, next-after k) refl
 
   -- THE STEP, as the code makes it
   pub record Tied (j : ℕ) (L out : List ℕ) (v here : ℕ) (t : Point) (p : Strip) (k : ℕ) : Type 0 where
     pub slotLow : k < length hs
-    pub stands : Standing P q parts counts work points (set L k (t .c + 1)) (set out (getD order j 0 + 1) (2415919104 + k)) (j + 1) (budgetLeft P p t v k) (here - priceIn P p t v k)
-    pub ties : tiedFrom P q parts counts work points order L out j v ≡ tiedFrom P q parts counts work points order (set L k (t .c + 1)) (set out (getD order j 0 + 1) (2415919104 + k)) (j + 1) (budgetLeft P p t v k)
+    pub stands : Standing g work (set L k (t .c + 1)) (withTie order out j k) (j + 1) (budgetLeft P p t v k) (here - priceIn P p t v k)
+    pub ties : tiedFrom g work L out j v ≡ tiedFrom g work (set L k (t .c + 1)) (withTie order out j k) (j + 1) (budgetLeft P p t v k)
 
-  pub tied : (j : ℕ) (L out : List ℕ) (v here k : ℕ) → j < length order → Standing P q parts counts work points L out j v here
+  pub tied : (j : ℕ) (L out : List ℕ) (v here k : ℕ) → j < length order → Standing g work L out j v here
       → (t : Point) → t ≡ site j → (p : Strip) → p ≡ hold P L none (t .y)
-      → (base : ℕ) → base ≡ (j + 1) * levelSize (length hs) (q .colours) (q .budgets)
-      → k ≡ first (length hs) (keepsCost P parts counts work base (q .colours) (q .budgets) p t L v here)
+      → (base : ℕ) → base ≡ (j + 1) * levelWords g
+      → k ≡ first (length hs) (keepsCost g work base p t L v here)
       → Tied j L out v here t p k
   tied j L out v here k l w t e p held base eb tried =
-      subst⁻¹ (λ (z : Point). p ≡ hold P L none (z .y) → k ≡ first (length hs) (keepsCost P parts counts work base (q .colours) (q .budgets) p z L v here) → Tied j L out v here z p k) e
-      (λ h f. let g = subst (λ (b : ℕ). k ≡ first (length hs) (keepsCost P parts counts work b (q .colours) (q .budgets) p (site j) L v here)) eb f in
+      subst⁻¹ (λ (z : Point). p ≡ hold P L none (z .y) → k ≡ first (length hs) (keepsCost g work base p z L v here) → Tied j L out v here z p k) e
+      (λ h f. let g = subst (λ (b : ℕ). k ≡ first (length hs) (keepsCost g work b p (site j) L v here)) eb f in
       record { slotLow = slot-low j L out v here k l w p h g; stands = standing j L out v here k l w p h g; ties = written j L out v here k l w p h g })
       held tried
 
   -- with all sites tied nothing is written
-  pub ended : (j : ℕ) (L out : List ℕ) (v : ℕ) → j ≡ length order → out ≡ tiedFrom P q parts counts work points order L out j v
+  pub ended : (j : ℕ) (L out : List ℕ) (v : ℕ) → j ≡ length order → out ≡ tiedFrom g work L out j v
   unfolding writeTies
   ended j L out v e = rw (drop-of-length-le order {i = j} (omega arith))

@@ -1,7 +1,7 @@
 // From a filled table to the answer: the least cost, and the layout's words.
 ghost use mathlib.Core.Path.{_≡_};
-ghost use Rattle.arrays.specs.Arrays.{instanceBy, pointsBy};
-ghost use Rattle.walk.specs.Laid.{laidFault, laidOut, TableFilled};
+ghost use Rattle.arrays.specs.Given.{Given, given};
+ghost use Rattle.walk.specs.Laid.{laidFault, laidOut, FilledIn};
 use arrays::Measures;
 use choice::Left;
 use costs::head_word;
@@ -23,13 +23,15 @@ pub fn lay_least(
     work: &[u32],
     out: &mut [u32],
 ) -> u8
-    requires { ⌜ TableFilled q (now heights) (now bounds) (now radices) (now draws) (now parts) (now counts) (now work) (now xs) (now ys) (now colours) (now order) (now out) ⌝ }
-    ensures { λ r. ⌜ r ≡ laidFault (instanceBy q (now (heights .entry)) (now (bounds .entry)) (now (radices .entry)) (now (draws .entry))) (q .budgets) (pointsBy (now (xs .entry)) (now (ys .entry)) (now (colours .entry))) ⌝ }
-    ensures { λ r. ⌜ now (out .exit) ≡ laidOut (instanceBy q (now (heights .entry)) (now (bounds .entry)) (now (radices .entry)) (now (draws .entry))) q (pointsBy (now (xs .entry)) (now (ys .entry)) (now (colours .entry))) (now (order .entry)) (now (out .entry)) ⌝ }
+    ghost { Given }
+    requires { λ g. ⌜ given q (now heights) (now bounds) (now radices) (now draws) (now xs) (now ys) (now colours) (now order) (now parts) (now counts) ≡ g ⌝ }
+    requires { λ g. ⌜ FilledIn g (now work) (now out) ⌝ }
+    ensures { λ g r. ⌜ r ≡ laidFault g ⌝ }
+    ensures { λ g _. ⌜ now (out .exit) ≡ laidOut g (now (out .entry)) ⌝ }
 {
     let v = q.budgets - 1;
     let m = heights.len();
-    let mut labels = [0u32; 48];
+    let mut labels = [0u32; words::MOST_SLOTS];
     let least = rest_of(parts, counts, work, 0, q, &labels[..m], v);
     if least == words::NONE {
         return 10;

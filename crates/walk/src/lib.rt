@@ -4,8 +4,8 @@ pub mod answer;
 ghost use mathlib.Core.Path.{_≡_};
 ghost use Prim.Native.Nat.{_+_, _<_};
 ghost use lib.ListN.{length};
-ghost use Rattle.arrays.specs.Arrays.{instanceBy, pointsBy};
-ghost use Rattle.walk.specs.Walk.{WalkArrays, Standing, tiedFrom};
+ghost use Rattle.arrays.specs.Given.{Given, given};
+ghost use Rattle.walk.specs.Walk.{WalkIn, Standing, tiedFrom};
 use arrays::Measures;
 use choice::Left;
 use choice::choose_slot;
@@ -30,11 +30,12 @@ fn tie_site(
     j: usize,
     left: Left,
 ) -> Left
-    requires { ⌜ WalkArrays q (now heights) (now bounds) (now radices) (now draws) (now parts) (now counts) (now work) (now xs) (now ys) (now colours) (now order) ⌝ }
-    requires { ⌜ Standing (instanceBy q (now heights) (now bounds) (now radices) (now draws)) q (now parts) (now counts) (now work) (pointsBy (now xs) (now ys) (now colours)) (now labels) (now out) j (left .budget) (left .cost) ⌝ }
-    requires { ⌜ j < length (now order) ⌝ }
-    ensures { λ r. ⌜ Standing (instanceBy q (now (heights .entry)) (now (bounds .entry)) (now (radices .entry)) (now (draws .entry))) q (now (parts .entry)) (now (counts .entry)) (now (work .entry)) (pointsBy (now (xs .entry)) (now (ys .entry)) (now (colours .entry))) (now (labels .exit)) (now (out .exit)) (j + 1) (r .budget) (r .cost) ⌝ }
-    ensures { λ r. ⌜ tiedFrom (instanceBy q (now (heights .entry)) (now (bounds .entry)) (now (radices .entry)) (now (draws .entry))) q (now (parts .entry)) (now (counts .entry)) (now (work .entry)) (pointsBy (now (xs .entry)) (now (ys .entry)) (now (colours .entry))) (now (order .entry)) (now (labels .entry)) (now (out .entry)) j (left .budget) ≡ tiedFrom (instanceBy q (now (heights .entry)) (now (bounds .entry)) (now (radices .entry)) (now (draws .entry))) q (now (parts .entry)) (now (counts .entry)) (now (work .entry)) (pointsBy (now (xs .entry)) (now (ys .entry)) (now (colours .entry))) (now (order .entry)) (now (labels .exit)) (now (out .exit)) (j + 1) (r .budget) ⌝ }
+    ghost { Given }
+    requires { λ g. ⌜ given q (now heights) (now bounds) (now radices) (now draws) (now xs) (now ys) (now colours) (now order) (now parts) (now counts) ≡ g ⌝ }
+    requires { λ g. ⌜ WalkIn g (now work) ⌝ }
+    requires { λ g. ⌜ Standing g (now work) (now labels) (now out) j (left .budget) (left .cost) × (j < length (now order)) ⌝ }
+    ensures { λ g r. ⌜ Standing g (now (work .entry)) (now (labels .exit)) (now (out .exit)) (j + 1) (r .budget) (r .cost) ⌝ }
+    ensures { λ g r. ⌜ tiedFrom g (now (work .entry)) (now (labels .entry)) (now (out .entry)) j (left .budget) ≡ tiedFrom g (now (work .entry)) (now (labels .exit)) (now (out .exit)) (j + 1) (r .budget) ⌝ }
 {
     let s = rows::site_at(xs, ys, colours, j);
     let p = rows::hold_of(heights, labels, s.y);
@@ -85,9 +86,10 @@ pub fn walk(
     j: usize,
     left: Left,
 )
-    requires { ⌜ WalkArrays q (now heights) (now bounds) (now radices) (now draws) (now parts) (now counts) (now work) (now xs) (now ys) (now colours) (now order) ⌝ }
-    requires { ⌜ Standing (instanceBy q (now heights) (now bounds) (now radices) (now draws)) q (now parts) (now counts) (now work) (pointsBy (now xs) (now ys) (now colours)) (now labels) (now out) j (left .budget) (left .cost) ⌝ }
-    ensures { λ _. ⌜ now (out .exit) ≡ tiedFrom (instanceBy q (now (heights .entry)) (now (bounds .entry)) (now (radices .entry)) (now (draws .entry))) q (now (parts .entry)) (now (counts .entry)) (now (work .entry)) (pointsBy (now (xs .entry)) (now (ys .entry)) (now (colours .entry))) (now (order .entry)) (now (labels .entry)) (now (out .entry)) j (left .budget) ⌝ }
+    ghost { Given }
+    requires { λ g. ⌜ given q (now heights) (now bounds) (now radices) (now draws) (now xs) (now ys) (now colours) (now order) (now parts) (now counts) ≡ g ⌝ }
+    requires { λ g. ⌜ WalkIn g (now work) × Standing g (now work) (now labels) (now out) j (left .budget) (left .cost) ⌝ }
+    ensures { λ g _. ⌜ now (out .exit) ≡ tiedFrom g (now (work .entry)) (now (labels .entry)) (now (out .entry)) j (left .budget) ⌝ }
 {
     if j == order.len() {
         return;

@@ -83,7 +83,7 @@ zero-part-requires c κs =
     let p = begin m .pre in
     let e = m .before .before .before .binding-only .ensures (few-words (a .sheet .now) (p .0 .1)) in
     needs-less (a .sheet .now) (a .work .now) (a .out .now) _ e (p .0) (a .sizes) (p .1) _ _ (m .before .body-of .ensures) (m .product .ensures)
-    _ _ (c .before .before .before .before .before .before .before .before .before .before .before .before .before .before .before .is-two-sided .ensures) (c .before .before .before .before .before .before .before .before .before .work-for .ensures) _ (c .before .before .before .before .before .before .lay-side .ensures .1 .0)
+    _ _ (c .before .before .before .before .before .before .before .before .before .before .before .before .before .before .before .is-two-sided .ensures) (c .before .before .before .before .before .before .before .before .before .work-for .ensures) _ (c .before .before .before .before .before .before .lay-side .ensures .work-is)
 
 same-length : tie.Need-same-length
 same-length c = search needs
@@ -99,7 +99,7 @@ returns c =
     let e = m .before .before .before .binding-only .ensures (few-words (a .sheet .now) (p .0 .1)) in
     let f = c .before .before .before .before .before .before .before .before .before .lay-side .ensures in
     laid (a .sheet .now) (a .work .now) (a .out .now) _ e (p .0) (a .sizes) (p .1) _ _ (m .before .body-of .ensures) (m .product .ensures)
-    _ _ (c .before .before .before .before .before .before .before .before .before .before .before .before .before .before .before .before .before .before .is-two-sided .ensures) (c .before .before .before .before .before .before .before .before .before .before .before .before .work-for .ensures) _ _ _ _ (f .0) (f .1 .0) (f .1 .1) (c .before .before .zero-part .ensures)
+    _ _ (c .before .before .before .before .before .before .before .before .before .before .before .before .before .before .before .before .before .before .is-two-sided .ensures) (c .before .before .before .before .before .before .before .before .before .before .before .before .work-for .ensures) _ _ _ _ (f .fault-is) (f .work-is) (f .out-is) (c .before .before .zero-part .ensures)
 
 pub lay-binding-spec : {M : Type 1} → statement M
 lay-binding-spec =

@@ -16,12 +16,14 @@ same-length-2 : tie.Need-same-length-2
 same-length-2 c = search needs
 
 returns : tie.Need-returns
-returns c = c .before .before .before .before .lay-two-sided .ensures
+returns c =
+    let f = c .before .before .before .before .lay-two-sided .ensures in
+    record { fault-is = f .0; work-is = f .1 .0; out-is = f .1 .1 }
 
 lay-one-sided-requires : tie.Need-lay-one-sided-requires
 lay-one-sided-requires c κs =
     let p = c .before .before .before .before .before .before .pre in
-    (p .0, (sym (p .1 .0) ∙ c .before .before .if1 .left, p .1 .1))
+    record { takes = p .0; oneSided = sym (p .1 .0) ∙ c .before .before .if1 .left; sizes = p .1 .1 }
 
 same-length-3 : tie.Need-same-length-3
 same-length-3 c = search needs

@@ -40,7 +40,7 @@ same-length-2 c = search needs
 
 returns-2 : tie.Need-returns-2
 returns-2 c =
-    let f = c .before .before .before .before .lay-binding .ensures in (f .0, (f .1 .0, f .1 .1))
+    let f = c .before .before .before .before .lay-binding .ensures in (f .fault-is, (f .work-is, f .out-is))
 
 pub make-layout-spec : {M : Type 1} → statement M
 make-layout-spec =

@@ -1,9 +1,10 @@
+use Rattle.sheet.specs.Limits.{mostSites}
 use Rattle.sheet.specs.Sheet.{sheetIn}
 use Rattle.sheet.proofs.Accepted.{sound}
 use Rattle.arrays.specs.Arrays.{xsOf, ysOf, coloursOf, gathered}
 use Rattle.optimum.specs.OneSided.{order}
-use Rattle.onesided.proofs.Parts.{xs, ys, codes, orders, ranked, stands}
-use mathlib.Core.Path.{_≡_}
+use Rattle.onesided.proofs.Parts.{xs, ys, colours, orders, ranked, stands}
+use mathlib.Core.Path.{_≡_, sym, _∙_}
 use Prim.Native.Nat.{_-_, _≤_}
 use native.Mathlib.Omega.{arith}
 use lib.ListN.{length, take}
@@ -13,37 +14,37 @@ use Rattle.onesided.proofs.lay_one_sided.Tie as tie
 
 -- the arrays are those of the sheet's sites
 xs-are : (c : tie.After-xs-of) → (take (c .before .before .before .before .args .sites) (c .xs-of .result) ≡ xsOf (sheetIn (c .before .before .before .before .args .sheet .now) .sites)) × (c .before .before .before .before .args .sites ≡ length (take (c .before .before .before .before .args .sites) (c .xs-of .result)))
-xs-are c = xs (c .before .before .before .before .args .sheet .now) (c .before .before .before .before .pre .0 .1) (c .xs-of .result) (c .before .before .before .before .args .sites) (c .xs-of .ensures) (c .before .before .before .before .pre .1 .1 .2)
+xs-are c = xs (c .before .before .before .before .args .sheet .now) (c .before .before .before .before .pre .takes .1) (c .xs-of .result) (c .before .before .before .before .args .sites) (c .xs-of .ensures) (c .before .before .before .before .pre .sizes .2)
 
 ys-are : (c : tie.After-ys-of) → (take (c .before .before .before .before .before .args .sites) (c .ys-of .result) ≡ ysOf (sheetIn (c .before .before .before .before .before .args .sheet .now) .sites)) × (c .before .before .before .before .before .args .sites ≡ length (take (c .before .before .before .before .before .args .sites) (c .ys-of .result)))
-ys-are c = ys (c .before .before .before .before .before .args .sheet .now) (c .before .before .before .before .before .pre .0 .1) (c .ys-of .result) (c .before .before .before .before .before .args .sites) (c .ys-of .ensures) (c .before .before .before .before .before .pre .1 .1 .2)
+ys-are c = ys (c .before .before .before .before .before .args .sheet .now) (c .before .before .before .before .before .pre .takes .1) (c .ys-of .result) (c .before .before .before .before .before .args .sites) (c .ys-of .ensures) (c .before .before .before .before .before .pre .sizes .2)
 
-codes-are : (c : tie.After-colours-of) → (take (c .before .before .before .before .before .before .args .sites) (c .colours-of .result) ≡ coloursOf (sheetIn (c .before .before .before .before .before .before .args .sheet .now) .sites)) × (c .before .before .before .before .before .before .args .sites ≡ length (take (c .before .before .before .before .before .before .args .sites) (c .colours-of .result)))
-codes-are c = codes (c .before .before .before .before .before .before .args .sheet .now) (c .before .before .before .before .before .before .pre .0 .1) (c .colours-of .result) (c .before .before .before .before .before .before .args .sites) (c .colours-of .ensures) (c .before .before .before .before .before .before .pre .1 .1 .2)
+site-colours-are : (c : tie.After-colours-of) → (take (c .before .before .before .before .before .before .args .sites) (c .colours-of .result) ≡ coloursOf (sheetIn (c .before .before .before .before .before .before .args .sheet .now) .sites)) × (c .before .before .before .before .before .before .args .sites ≡ length (take (c .before .before .before .before .before .before .args .sites) (c .colours-of .result)))
+site-colours-are c = colours (c .before .before .before .before .before .before .args .sheet .now) (c .before .before .before .before .before .before .pre .takes .1) (c .colours-of .result) (c .before .before .before .before .before .before .args .sites) (c .colours-of .ensures) (c .before .before .before .before .before .before .pre .sizes .2)
 
 order-is : (c : tie.After-order-of) → (take (c .before .before .before .before .before .before .before .before .args .sites) (c .order-of .result) ≡ order (sheetIn (c .before .before .before .before .before .before .before .before .args .sheet .now))) × (c .before .before .before .before .before .before .before .before .args .sites ≡ length (take (c .before .before .before .before .before .before .before .before .args .sites) (c .order-of .result)))
-order-is c = orders (c .before .before .before .before .before .before .before .before .args .sheet .now) (c .before .before .before .before .before .before .before .before .pre .0 .1) (c .before .before .before .before .xs-of .result) (c .order-of .result) (c .before .before .before .before .before .before .before .before .args .sites) (xs-are (c .before .before .before .before) .0) (c .before .before .before .before .before .before .before .before .pre .1 .1 .2) (c .order-of .ensures)
+order-is c = orders (c .before .before .before .before .before .before .before .before .args .sheet .now) (c .before .before .before .before .before .before .before .before .pre .takes .1) (c .before .before .before .before .xs-of .result) (c .order-of .result) (c .before .before .before .before .before .before .before .before .args .sites) (xs-are (c .before .before .before .before) .0) (c .before .before .before .before .before .before .before .before .pre .sizes .2) (c .order-of .ensures)
 
-few : (c : tie.After-order-of) → length (take (c .before .before .before .before .before .before .before .before .args .sites) (c .order-of .result)) ≤ 32
-few c = omega (arith, order-is c .1, c .before .before .before .before .before .before .before .before .pre .1 .1 .2, sound (c .before .before .before .before .before .before .before .before .args .sheet .now) (c .before .before .before .before .before .before .before .before .pre .0 .1) .few-sites)
+few : (c : tie.After-order-of) → length (take (c .before .before .before .before .before .before .before .before .args .sites) (c .order-of .result)) ≤ mostSites
+few c = omega (arith, order-is c .1, c .before .before .before .before .before .before .before .before .pre .sizes .2, sound (c .before .before .before .before .before .before .before .before .args .sheet .now) (c .before .before .before .before .before .before .before .before .pre .takes .1) .few-sites)
 
 ranked-xs-are : (c : tie.After-gathered-of) → (take (c .before .before .before .before .before .before .before .before .before .before .args .sites) (c .gathered-of .result) ≡ gathered (xsOf (sheetIn (c .before .before .before .before .before .before .before .before .before .before .args .sheet .now) .sites)) (order (sheetIn (c .before .before .before .before .before .before .before .before .before .before .args .sheet .now)))) × (c .before .before .before .before .before .before .before .before .before .before .args .sites ≡ length (take (c .before .before .before .before .before .before .before .before .before .before .args .sites) (c .gathered-of .result)))
-ranked-xs-are c = ranked (c .before .before .before .before .before .before .before .before .before .before .args .sheet .now) (c .before .before .before .before .before .before .before .before .before .before .pre .0 .1) _ (c .before .before .before .before .before .before .xs-of .result) (c .before .before .order-of .result) (c .gathered-of .result) (c .before .before .before .before .before .before .before .before .before .before .args .sites) (xs-are (c .before .before .before .before .before .before) .0) (order-is (c .before .before) .0) (c .before .before .before .before .before .before .before .before .before .before .pre .1 .1 .2) (c .gathered-of .ensures)
+ranked-xs-are c = ranked (c .before .before .before .before .before .before .before .before .before .before .args .sheet .now) (c .before .before .before .before .before .before .before .before .before .before .pre .takes .1) _ (c .before .before .before .before .before .before .xs-of .result) (c .before .before .order-of .result) (c .gathered-of .result) (c .before .before .before .before .before .before .before .before .before .before .args .sites) (xs-are (c .before .before .before .before .before .before) .0) (order-is (c .before .before) .0) (c .before .before .before .before .before .before .before .before .before .before .pre .sizes .2) (c .gathered-of .ensures)
 
 ranked-ys-are : (c : tie.After-gathered-of2) → (take (c .before .before .before .before .before .before .before .before .before .before .before .before .args .sites) (c .gathered-of2 .result) ≡ gathered (ysOf (sheetIn (c .before .before .before .before .before .before .before .before .before .before .before .before .args .sheet .now) .sites)) (order (sheetIn (c .before .before .before .before .before .before .before .before .before .before .before .before .args .sheet .now)))) × (c .before .before .before .before .before .before .before .before .before .before .before .before .args .sites ≡ length (take (c .before .before .before .before .before .before .before .before .before .before .before .before .args .sites) (c .gathered-of2 .result)))
-ranked-ys-are c = ranked (c .before .before .before .before .before .before .before .before .before .before .before .before .args .sheet .now) (c .before .before .before .before .before .before .before .before .before .before .before .before .pre .0 .1) _ (c .before .before .before .before .before .before .before .ys-of .result) (c .before .before .before .before .order-of .result) (c .gathered-of2 .result) (c .before .before .before .before .before .before .before .before .before .before .before .before .args .sites) (ys-are (c .before .before .before .before .before .before .before) .0) (order-is (c .before .before .before .before) .0) (c .before .before .before .before .before .before .before .before .before .before .before .before .pre .1 .1 .2) (c .gathered-of2 .ensures)
+ranked-ys-are c = ranked (c .before .before .before .before .before .before .before .before .before .before .before .before .args .sheet .now) (c .before .before .before .before .before .before .before .before .before .before .before .before .pre .takes .1) _ (c .before .before .before .before .before .before .before .ys-of .result) (c .before .before .before .before .order-of .result) (c .gathered-of2 .result) (c .before .before .before .before .before .before .before .before .before .before .before .before .args .sites) (ys-are (c .before .before .before .before .before .before .before) .0) (order-is (c .before .before .before .before) .0) (c .before .before .before .before .before .before .before .before .before .before .before .before .pre .sizes .2) (c .gathered-of2 .ensures)
 
-ranked-codes-are : (c : tie.After-gathered-of3) → (take (c .before .before .before .before .before .before .before .before .before .before .before .before .before .before .args .sites) (c .gathered-of3 .result) ≡ gathered (coloursOf (sheetIn (c .before .before .before .before .before .before .before .before .before .before .before .before .before .before .args .sheet .now) .sites)) (order (sheetIn (c .before .before .before .before .before .before .before .before .before .before .before .before .before .before .args .sheet .now)))) × (c .before .before .before .before .before .before .before .before .before .before .before .before .before .before .args .sites ≡ length (take (c .before .before .before .before .before .before .before .before .before .before .before .before .before .before .args .sites) (c .gathered-of3 .result)))
-ranked-codes-are c = ranked (c .before .before .before .before .before .before .before .before .before .before .before .before .before .before .args .sheet .now) (c .before .before .before .before .before .before .before .before .before .before .before .before .before .before .pre .0 .1) _ (c .before .before .before .before .before .before .before .before .colours-of .result) (c .before .before .before .before .before .before .order-of .result) (c .gathered-of3 .result) (c .before .before .before .before .before .before .before .before .before .before .before .before .before .before .args .sites) (codes-are (c .before .before .before .before .before .before .before .before) .0) (order-is (c .before .before .before .before .before .before) .0) (c .before .before .before .before .before .before .before .before .before .before .before .before .before .before .pre .1 .1 .2) (c .gathered-of3 .ensures)
+ranked-colours-are : (c : tie.After-gathered-of3) → (take (c .before .before .before .before .before .before .before .before .before .before .before .before .before .before .args .sites) (c .gathered-of3 .result) ≡ gathered (coloursOf (sheetIn (c .before .before .before .before .before .before .before .before .before .before .before .before .before .before .args .sheet .now) .sites)) (order (sheetIn (c .before .before .before .before .before .before .before .before .before .before .before .before .before .before .args .sheet .now)))) × (c .before .before .before .before .before .before .before .before .before .before .before .before .before .before .args .sites ≡ length (take (c .before .before .before .before .before .before .before .before .before .before .before .before .before .before .args .sites) (c .gathered-of3 .result)))
+ranked-colours-are c = ranked (c .before .before .before .before .before .before .before .before .before .before .before .before .before .before .args .sheet .now) (c .before .before .before .before .before .before .before .before .before .before .before .before .before .before .pre .takes .1) _ (c .before .before .before .before .before .before .before .before .colours-of .result) (c .before .before .before .before .before .before .order-of .result) (c .gathered-of3 .result) (c .before .before .before .before .before .before .before .before .before .before .before .before .before .before .args .sites) (site-colours-are (c .before .before .before .before .before .before .before .before) .0) (order-is (c .before .before .before .before .before .before) .0) (c .before .before .before .before .before .before .before .before .before .before .before .before .before .before .pre .sizes .2) (c .gathered-of3 .ensures)
 
 xs-of-requires : tie.Need-xs-of-requires
-xs-of-requires c κs = c .before .before .before .pre .0 .1
+xs-of-requires c κs = c .before .before .before .pre .takes .1
 
 ys-of-requires : tie.Need-ys-of-requires
-ys-of-requires c κs = c .before .before .before .before .pre .0 .1
+ys-of-requires c κs = c .before .before .before .before .pre .takes .1
 
 colours-of-requires : tie.Need-colours-of-requires
-colours-of-requires c κs = c .before .before .before .before .before .pre .0 .1
+colours-of-requires c κs = c .before .before .before .before .before .pre .takes .1
 
 array-share-prefix-ranks : tie.Need-array-share-prefix-ranks
 array-share-prefix-ranks c = stands _ _ (xs-are (c .before .before) .1)
@@ -63,11 +64,11 @@ array-share-prefix-ys c = stands _ _ (ys-are (c .before .before .before .before 
 slice-aggregate-gathered-of : tie.Need-slice-aggregate-gathered-of
 slice-aggregate-gathered-of c = ys-are (c .before .before .before .before .before .before) .1
 
-array-share-prefix-codes : tie.Need-array-share-prefix-codes
-array-share-prefix-codes c = stands _ _ (codes-are (c .before .before .before .before .before .before) .1)
+array-share-prefix-site-colours : tie.Need-array-share-prefix-site-colours
+array-share-prefix-site-colours c = stands _ _ (site-colours-are (c .before .before .before .before .before .before) .1)
 
 slice-aggregate-gathered-of-2 : tie.Need-slice-aggregate-gathered-of-2
-slice-aggregate-gathered-of-2 c = codes-are (c .before .before .before .before .before .before .before) .1
+slice-aggregate-gathered-of-2 c = site-colours-are (c .before .before .before .before .before .before .before) .1
 
 array-share-prefix-ranked-xs : tie.Need-array-share-prefix-ranked-xs
 array-share-prefix-ranked-xs c = stands _ _ (ranked-xs-are (c .before .before .before .before) .1)
@@ -82,13 +83,13 @@ slice-aggregate-lay-sites-2 : tie.Need-slice-aggregate-lay-sites-2
 slice-aggregate-lay-sites-2 c = ranked-ys-are (c .before .before .before .before) .1
 
 array-share-prefix-ranked-colours : tie.Need-array-share-prefix-ranked-colours
-array-share-prefix-ranked-colours c = stands _ _ (ranked-codes-are (c .before .before) .1)
+array-share-prefix-ranked-colours c = stands _ _ (ranked-colours-are (c .before .before) .1)
 
 slice-aggregate-lay-sites-3 : tie.Need-slice-aggregate-lay-sites-3
-slice-aggregate-lay-sites-3 c = ranked-codes-are (c .before .before .before) .1
+slice-aggregate-lay-sites-3 c = ranked-colours-are (c .before .before .before) .1
 
 order-of-requires : tie.Need-order-of-requires
-order-of-requires c κs = omega (arith, xs-are (c .before .before .before) .1, c .before .before .before .before .before .before .before .pre .1 .1 .2, sound (c .before .before .before .before .before .before .before .args .sheet .now) (c .before .before .before .before .before .before .before .pre .0 .1) .few-sites)
+order-of-requires c κs = omega (arith, xs-are (c .before .before .before) .1, c .before .before .before .before .before .before .before .pre .sizes .2, sound (c .before .before .before .before .before .before .before .args .sheet .now) (c .before .before .before .before .before .before .before .pre .takes .1) .few-sites)
 
 gathered-of-requires : tie.Need-gathered-of-requires
 gathered-of-requires c κs = few (c .before)
@@ -102,20 +103,15 @@ gathered-of-requires-3 c κs = few (c .before .before .before .before .before)
 lay-sites-requires : tie.Need-lay-sites-requires
 lay-sites-requires c κs =
     let p = c .before .before .before .before .before .before .before .before .before .before .before .before .before .before .before .before .before .before .before .pre in
-    let s = p .1 .1 in (
-      p .0,
-      (
-        p .1 .0,
-        (
-          (s .0, s .1, s .3),
-          record {
-            orderIs = order-is (c .before .before .before .before .before .before .before .before .before .before .before) .0;
-            xsIs = ranked-xs-are (c .before .before .before .before .before .before .before .before .before) .0;
-            ysIs = ranked-ys-are (c .before .before .before .before .before .before .before) .0;
-            csIs = ranked-codes-are (c .before .before .before .before .before) .0;
-          },
-        ),
-      ),
+    let s = p .sizes in
+    let o = order-is (c .before .before .before .before .before .before .before .before .before .before .before) in (
+      record { takes = p .takes; oneSided = p .oneSided; sizes = (s .0, s .1, sym (o .1) ∙ s .2, s .3) },
+      record {
+        xsIs = ranked-xs-are (c .before .before .before .before .before .before .before .before .before) .0;
+        ysIs = ranked-ys-are (c .before .before .before .before .before .before .before) .0;
+        coloursIs = ranked-colours-are (c .before .before .before .before .before) .0;
+        orderIs = o .0;
+      },
     )
 
 returns : tie.Need-returns
@@ -143,7 +139,7 @@ lay-one-sided-spec =
     array-share-prefix-ys
     slice-aggregate-gathered-of
     gathered-of-requires-2
-    array-share-prefix-codes
+    array-share-prefix-site-colours
     slice-aggregate-gathered-of-2
     gathered-of-requires-3
     array-share-prefix-ranked-xs

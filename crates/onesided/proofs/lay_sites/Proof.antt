@@ -2,9 +2,12 @@ use Rattle.sheet.specs.Sheet.{sheetIn}
 use Rattle.arrays.specs.Arrays.{measuresOf, boundsOf, drawsList}
 use Rattle.optimum.specs.Budgets.{radicesOf}
 use Rattle.onesided.proofs.Parts.{heights, bounds, bounds-fit, radices, draws, stands}
-use Rattle.onesided.proofs.Facts.{given-is, ranked-is}
+use Rattle.onesided.proofs.Facts.{arrays-are, lays-is}
 use Rattle.onesided.proofs.Called.{laid-is}
 use mathlib.Core.Path.{_≡_, refl, _∙_}
+use mathlib.Core.List.{[]}
+use Rattle.arrays.specs.Given.{given}
+use Rattle.onesided.specs.Laying.{arraysOf}
 use Prim.Native.Nat.{_-_}
 use lib.ListN.{length, take}
 use borrow.Author.Needs.{needs}
@@ -13,25 +16,34 @@ use Rattle.onesided.proofs.lay_sites.Tie as tie
 
 -- the arrays are the sheet's
 heights-are : (c : tie.After-heights-of) → (take (c .before .before .before .before .before .before .before .before .before .args .slots) (c .heights-of .result) ≡ sheetIn (c .before .before .before .before .before .before .before .before .before .args .sheet .now) .slots) × (c .before .before .before .before .before .before .before .before .before .args .slots ≡ length (take (c .before .before .before .before .before .before .before .before .before .args .slots) (c .heights-of .result)))
-heights-are c = heights (c .before .before .before .before .before .before .before .before .before .args .sheet .now) (c .before .before .before .before .before .before .before .before .before .pre .0 .1) (c .heights-of .result) (c .before .before .before .before .before .before .before .before .before .args .slots) (c .heights-of .ensures) (c .before .before .before .before .before .before .before .before .before .pre .1 .1 .0 .0)
+heights-are c = heights (c .before .before .before .before .before .before .before .before .before .args .sheet .now) (c .before .before .before .before .before .before .before .before .before .pre .0 .takes .1) (c .heights-of .result) (c .before .before .before .before .before .before .before .before .before .args .slots) (c .heights-of .ensures) (c .before .before .before .before .before .before .before .before .before .pre .0 .sizes .0)
 
-bounds-are : (c : tie.After-bounds-of) → (take (c .before .before .before .before .before .before .before .before .before .before .args .colours) (c .bounds-of .result) ≡ boundsOf (sheetIn (c .before .before .before .before .before .before .before .before .before .before .args .sheet .now) .colours)) × (c .before .before .before .before .before .before .before .before .before .before .args .colours ≡ length (take (c .before .before .before .before .before .before .before .before .before .before .args .colours) (c .bounds-of .result)))
-bounds-are c = bounds (c .before .before .before .before .before .before .before .before .before .before .args .sheet .now) (c .before .before .before .before .before .before .before .before .before .before .pre .0 .1) (c .bounds-of .result) (c .before .before .before .before .before .before .before .before .before .before .args .colours) (c .bounds-of .ensures) (c .before .before .before .before .before .before .before .before .before .before .pre .1 .1 .0 .1)
+bounds-are : (c : tie.After-bounds-of) → (take (c .before .before .before .before .before .before .before .before .before .before .args .colour-count) (c .bounds-of .result) ≡ boundsOf (sheetIn (c .before .before .before .before .before .before .before .before .before .before .args .sheet .now) .colours)) × (c .before .before .before .before .before .before .before .before .before .before .args .colour-count ≡ length (take (c .before .before .before .before .before .before .before .before .before .before .args .colour-count) (c .bounds-of .result)))
+bounds-are c = bounds (c .before .before .before .before .before .before .before .before .before .before .args .sheet .now) (c .before .before .before .before .before .before .before .before .before .before .pre .0 .takes .1) (c .bounds-of .result) (c .before .before .before .before .before .before .before .before .before .before .args .colour-count) (c .bounds-of .ensures) (c .before .before .before .before .before .before .before .before .before .before .pre .0 .sizes .1)
 
-radices-are : (c : tie.After-radices-of) → (take (c .before .before .before .before .before .before .before .before .before .before .before .before .args .colours) (c .radices-of .result) ≡ radicesOf (sheetIn (c .before .before .before .before .before .before .before .before .before .before .before .before .args .sheet .now) .colours)) × (c .before .before .before .before .before .before .before .before .before .before .before .before .args .colours ≡ length (take (c .before .before .before .before .before .before .before .before .before .before .before .before .args .colours) (c .radices-of .result)))
-radices-are c = radices (c .before .before .before .before .before .before .before .before .before .before .before .before .args .sheet .now) (c .before .before .before .before .before .before .before .before .before .before .before .before .pre .0 .1) (c .before .before .bounds-of .result) (c .radices-of .result) (c .before .before .before .before .before .before .before .before .before .before .before .before .args .colours) (bounds-are (c .before .before) .0) (c .before .before .before .before .before .before .before .before .before .before .before .before .pre .1 .1 .0 .1) (c .radices-of .ensures)
+radices-are : (c : tie.After-radices-of) → (take (c .before .before .before .before .before .before .before .before .before .before .before .before .args .colour-count) (c .radices-of .result) ≡ radicesOf (sheetIn (c .before .before .before .before .before .before .before .before .before .before .before .before .args .sheet .now) .colours)) × (c .before .before .before .before .before .before .before .before .before .before .before .before .args .colour-count ≡ length (take (c .before .before .before .before .before .before .before .before .before .before .before .before .args .colour-count) (c .radices-of .result)))
+radices-are c = radices (c .before .before .before .before .before .before .before .before .before .before .before .before .args .sheet .now) (c .before .before .before .before .before .before .before .before .before .before .before .before .pre .0 .takes .1) (c .before .before .bounds-of .result) (c .radices-of .result) (c .before .before .before .before .before .before .before .before .before .before .before .before .args .colour-count) (bounds-are (c .before .before) .0) (c .before .before .before .before .before .before .before .before .before .before .before .before .pre .0 .sizes .1) (c .radices-of .ensures)
 
-draws-are : (c : tie.After-draws-of) → (take (c .before .before .before .before .before .before .before .before .before .before .before .before .before .args .colours) (c .draws-of .result) ≡ drawsList (sheetIn (c .before .before .before .before .before .before .before .before .before .before .before .before .before .args .sheet .now))) × (c .before .before .before .before .before .before .before .before .before .before .before .before .before .args .colours ≡ length (take (c .before .before .before .before .before .before .before .before .before .before .before .before .before .args .colours) (c .draws-of .result)))
-draws-are c = draws (c .before .before .before .before .before .before .before .before .before .before .before .before .before .args .sheet .now) (c .before .before .before .before .before .before .before .before .before .before .before .before .before .pre .0 .1) (c .before .before .before .bounds-of .result) (c .draws-of .result) (c .before .before .before .before .before .before .before .before .before .before .before .before .before .args .colours) (bounds-are (c .before .before .before) .0) (c .before .before .before .before .before .before .before .before .before .before .before .before .before .pre .1 .1 .0 .1) (c .draws-of .ensures)
+draws-are : (c : tie.After-draws-of) → (take (c .before .before .before .before .before .before .before .before .before .before .before .before .before .args .colour-count) (c .draws-of .result) ≡ drawsList (sheetIn (c .before .before .before .before .before .before .before .before .before .before .before .before .before .args .sheet .now))) × (c .before .before .before .before .before .before .before .before .before .before .before .before .before .args .colour-count ≡ length (take (c .before .before .before .before .before .before .before .before .before .before .before .before .before .args .colour-count) (c .draws-of .result)))
+draws-are c = draws (c .before .before .before .before .before .before .before .before .before .before .before .before .before .args .sheet .now) (c .before .before .before .before .before .before .before .before .before .before .before .before .before .pre .0 .takes .1) (c .before .before .before .bounds-of .result) (c .draws-of .result) (c .before .before .before .before .before .before .before .before .before .before .before .before .before .args .colour-count) (bounds-are (c .before .before .before) .0) (c .before .before .before .before .before .before .before .before .before .before .before .before .before .pre .0 .sizes .1) (c .draws-of .ensures)
 
 measures-are : (c : tie.After-measures-of) → c .measures-of .result ≡ measuresOf (sheetIn (c .before .before .before .before .before .before .before .before .args .sheet .now))
-measures-are c = c .measures-of .ensures ∙ rw (c .before .before .before .before .before .before .before .before .pre .1 .1 .0 .1, c .before .before .before .before .before .before .before .before .pre .1 .1 .0 .2)
+measures-are c = c .measures-of .ensures ∙ rw (c .before .before .before .before .before .before .before .before .pre .0 .sizes .1, c .before .before .before .before .before .before .before .before .pre .0 .sizes .3)
+
+-- where the function starts, seen from the call of `lay_ranked`; the arrays there are the sheet's
+abbrev begin : tie.After-lay-ranked-arg2 → tie.Start
+begin c = c .before .before .before .before .before .before .before .before .before .before .before .before .before .before .before .before .before .before
+
+sheet-is : (c : tie.After-lay-ranked-arg2) → (let a = begin c .args in given (c .before .before .before .before .before .before .before .before .before .before .measures-of .result) (take (a .slots) (c .before .before .before .before .before .before .before .before .before .heights-of .result)) (take (a .colour-count) (c .before .before .before .before .before .before .before .before .bounds-of .result))
+    (take (a .colour-count) (c .before .before .before .before .before .before .radices-of .result)) (take (a .colour-count) (c .before .before .before .before .before .draws-of .result)) (a .xs .now) (a .ys .now) (a .colours .now) (a .order .now) [] [] ≡ arraysOf (sheetIn (a .sheet .now)))
+sheet-is c =
+    arrays-are _ (measures-are (c .before .before .before .before .before .before .before .before .before .before)) (heights-are (c .before .before .before .before .before .before .before .before .before) .0) (bounds-are (c .before .before .before .before .before .before .before .before) .0) (radices-are (c .before .before .before .before .before .before) .0) (draws-are (c .before .before .before .before .before) .0) (begin c .pre .1)
 
 heights-of-requires : tie.Need-heights-of-requires
-heights-of-requires c κs = c .before .before .before .before .before .before .before .before .pre .0 .1
+heights-of-requires c κs = c .before .before .before .before .before .before .before .before .pre .0 .takes .1
 
 bounds-of-requires : tie.Need-bounds-of-requires
-bounds-of-requires c κs = c .before .before .before .before .before .before .before .before .before .pre .0 .1
+bounds-of-requires c κs = c .before .before .before .before .before .before .before .before .before .pre .0 .takes .1
 
 array-share-prefix-bounds : tie.Need-array-share-prefix-bounds
 array-share-prefix-bounds c = stands _ _ (bounds-are c .1)
@@ -41,12 +53,12 @@ slice-aggregate-bounds c = bounds-are (c .before) .1
 
 radices-of-requires : tie.Need-radices-of-requires
 radices-of-requires c κs =
-    let b = bounds-fit (c .before .before .before .before .before .before .before .before .before .before .before .args .sheet .now) (c .before .before .before .before .before .before .before .before .before .before .before .pre .0 .1) _ (bounds-are (c .before) .0) in
+    let b = bounds-fit (c .before .before .before .before .before .before .before .before .before .before .before .args .sheet .now) (c .before .before .before .before .before .before .before .before .before .before .before .pre .0 .takes .1) _ (bounds-are (c .before) .0) in
     (b .0, b .1)
 
 draws-of-requires : tie.Need-draws-of-requires
 draws-of-requires c κs =
-    let b = bounds-fit (c .before .before .before .before .before .before .before .before .before .before .before .before .args .sheet .now) (c .before .before .before .before .before .before .before .before .before .before .before .before .pre .0 .1) _ (bounds-are (c .before .before) .0) in
+    let b = bounds-fit (c .before .before .before .before .before .before .before .before .before .before .before .before .args .sheet .now) (c .before .before .before .before .before .before .before .before .before .before .before .before .pre .0 .takes .1) _ (bounds-are (c .before .before) .0) in
     (b .0, (b .1, b .2))
 
 array-share-prefix-heights : tie.Need-array-share-prefix-heights
@@ -69,19 +81,16 @@ slice-aggregate-lay-ranked-3 c = draws-are (c .before .before .before) .1
 
 lay-ranked-requires : tie.Need-lay-ranked-requires
 lay-ranked-requires c κs =
-    let p = c .before .before .before .before .before .before .before .before .before .before .before .before .before .before .before .before .before .before .pre in
-    let s = p .1 .1 .1 in
-    let eq = measures-are (c .before .before .before .before .before .before .before .before .before .before) in
-    (given-is (c .before .before .before .before .before .before .before .before .before .before .before .before .before .before .before .before .before .before .args .sheet .now) (p .0 .1) _ _ _ _ _ _ _ _ _ eq (heights-are (c .before .before .before .before .before .before .before .before .before) .0) (bounds-are (c .before .before .before .before .before .before .before .before) .0) (radices-are (c .before .before .before .before .before .before) .0) (draws-are (c .before .before .before .before .before) .0) (s .xsIs) (s .ysIs) (s .csIs) (p .1 .0) (p .0 .2), ranked-is (c .before .before .before .before .before .before .before .before .before .before .before .before .before .before .before .before .before .before .args .sheet .now) (p .0 .1) _ _ _ _ eq (s .xsIs) (s .orderIs) (p .0 .3))
+    let p = begin c .pre .0 in
+    lays-is (begin c .args .sheet .now) (p .takes .1) _ _ _ (sheet-is c) (p .oneSided) (p .takes .2) (p .takes .3)
 
 returns : tie.Need-returns
 returns c =
-    let p = c .before .before .before .before .before .before .before .before .before .before .before .before .before .before .before .before .before .before .before .before .before .before .before .pre in
-    let a = c .before .before .before .before .before .before .before .before .before .before .before .before .before .before .before .before .before .before .before .before .before .before .before .args in
-    let s = p .1 .1 .1 in
-    let m = laid-is (a .sheet .now) (a .work .now) (a .out .now) (p .0) (p .1 .0) (c .before .before .before .before .before .before .before .before .before .before .before .before .before .before .before .measures-of .result) (take (a .slots) (c .before .before .before .before .before .before .before .before .before .before .before .before .before .before .heights-of .result)) (take (a .colours) (c .before .before .before .before .before .before .before .before .before .before .before .before .before .bounds-of .result)) (take (a .colours) (c .before .before .before .before .before .before .before .before .before .before .before .radices-of .result)) (take (a .colours) (c .before .before .before .before .before .before .before .before .before .before .draws-of .result)) (a .order .now) (a .xs .now) (a .ys .now) (a .codes .now) (a .work .now) (measures-are (c .before .before .before .before .before .before .before .before .before .before .before .before .before .before .before)) (heights-are (c .before .before .before .before .before .before .before .before .before .before .before .before .before .before) .0) (bounds-are (c .before .before .before .before .before .before .before .before .before .before .before .before .before) .0) (radices-are (c .before .before .before .before .before .before .before .before .before .before .before) .0) (draws-are (c .before .before .before .before .before .before .before .before .before .before) .0) (s .orderIs) (s .xsIs) (s .ysIs) (s .csIs) refl in
+    let a = begin (c .before .before .before .before .before) .args in
+    let p = begin (c .before .before .before .before .before) .pre .0 in
+    let m = laid-is (a .sheet .now) (a .work .now) (a .out .now) (p .takes) (p .oneSided) _ _ (sheet-is (c .before .before .before .before .before)) refl in
     let e = c .before .before .before .before .lay-ranked .ensures in
-    (e .0 ∙ m .fault-is, (e .1 .0 ∙ m .work-is, e .1 .1 ∙ m .out-is))
+    record { fault-is = e .0 ∙ m .fault-is; work-is = e .1 .0 ∙ m .work-is; out-is = e .1 .1 ∙ m .out-is }
 
 measures-of-requires : tie.Need-measures-of-requires
 measures-of-requires c κs = search needs

@@ -1,6 +1,12 @@
 // Small sheets from a fixed arithmetic recipe: numbers drawn from a seed.
 ghost use Prim.Native.Nat.{_≤_};
+use crate::small_sheet::FACTOR_TOP;
+use crate::small_sheet::NO_BOUND;
+use crate::small_sheet::NUMBER_TOP;
+use crate::small_sheet::ROW;
+use crate::small_sheet::SET;
 use crate::small_sheet::Sheet;
+use crate::small_sheet::WORD_TOP;
 use crate::small_sheet::at;
 use crate::small_sheet::last_of;
 use crate::small_sheet::lesser;
@@ -13,14 +19,14 @@ use crate::small_sheet::with;
 const WORK: u32 = 8192;
 
 pub fn next(seed: u32) -> u32 {
-    ((seed as u64 * 1664525 + 1013904223) % 4294967296) as u32
+    ((seed as u64 * 1664525 + 1013904223) % WORD_TOP) as u32
 }
 
 // The number from 0 to `most` that a seed gives.
 pub fn drawn(seed: u32, most: u32) -> u32
     ensures { λ r. ⌜ r ≤ most ⌝ }
 {
-    seed / 65536 % (most % 65536 + 1)
+    seed / FACTOR_TOP % (most % FACTOR_TOP + 1)
 }
 
 // Above `few`, not above it one time in eight.
@@ -81,6 +87,9 @@ const BOUNDS: u64 = 0x02_0201_01FF;
 
 const SECOND_BOUNDS: u64 = 0x0303_0303_0303_0300;
 
+// A row of bounds that are none.
+const NO_BOUNDS: u64 = 0xFFFF_FFFF_FFFF_FFFF;
+
 fn with_bounds(sheet: Sheet) -> Sheet {
     let mut made = sheet;
     let n = sheet.colours;
@@ -105,9 +114,9 @@ fn with_bounds(sheet: Sheet) -> Sheet {
 fn free_column(taken: u32, from: u32, width: u32) -> u32 {
     let mut place = from;
     let mut i: u32 = 0;
-    while i < 8 {
-        let is_taken = (taken >> (place % 32)) % 2;
-        place = sum(place, is_taken) % (width % 256 + 1);
+    while i < ROW {
+        let is_taken = (taken >> (place % SET)) % 2;
+        place = sum(place, is_taken) % (width % NUMBER_TOP + 1);
         i += 1;
     }
     place
@@ -143,7 +152,7 @@ pub fn work_words(sheet: Sheet) -> u32 {
     while i < n {
         let most = at(sheet.bounds, i);
         i += 1;
-        if most == 255 {
+        if most == NO_BOUND {
             continue;
         }
         words = product(words, most + 1);
@@ -159,14 +168,14 @@ pub fn make_sheet(before: Sheet) -> Sheet {
     let mut sheet = with_bounds(with_heights(make_head(before)));
     sheet.seed = next(sheet.seed);
     sheet.site_colours = with(0, 0, drawn(sheet.seed, 7) / 7);
-    let n = sheet.sites % 8;
+    let n = sheet.sites % ROW;
     let mut i: u32 = 0;
     while i < n {
         sheet = with_site(sheet, i);
         i += 1;
     }
     if WORK < work_words(sheet) {
-        sheet.bounds = 18446744073709551615;
+        sheet.bounds = NO_BOUNDS;
     }
     sheet
 }

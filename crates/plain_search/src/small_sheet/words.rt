@@ -4,34 +4,50 @@ use crate::small_sheet::apart;
 use crate::small_sheet::at;
 use crate::small_sheet::sum;
 
+// The kind stands above 28 bits: words of a head, a slot, a colour and a site.
+pub const KIND: u32 = 268435456;
+
+const SLOT: u32 = 2 * KIND;
+
+const COLOUR: u32 = 3 * KIND;
+
+const SITE: u32 = 4 * KIND;
+
+// Side and aim stand above 26 bits, gap and x above 14; the gap has 12.
+const FLAGS: u32 = 67108864;
+
+const FIELD: u32 = 16384;
+
+const GAP_TOP: u32 = 4096;
+
+// No small sheet has more words.
+const WORDS: usize = 32;
+
 // The word at a place with so many colours before it.
 fn word_at(sheet: Sheet, place: u32, colours: u32) -> u32 {
     if place == 0 {
-        return 268435456
-            + sheet.flags % 4 * 67108864
-            + sheet.gap % 4096 * 16384
-            + sheet.width % 16384;
+        return KIND + sheet.flags % 4 * FLAGS + sheet.gap % GAP_TOP * FIELD + sheet.width % FIELD;
     }
     if place <= sheet.slots {
-        return 536870912 + at(sheet.heights, place - 1);
+        return SLOT + at(sheet.heights, place - 1);
     }
-    let colour = 805306368 + at(sheet.bounds, colours);
+    let colour = COLOUR + at(sheet.bounds, colours);
     let site = apart(place, sum(sum(sheet.slots, 1), colours));
     if (sheet.sites <= site) | (colours <= at(sheet.site_colours, site)) {
         return colour;
     }
-    1073741824 + at(sheet.xs, site) * 16384 + at(sheet.ys, site)
+    SITE + at(sheet.xs, site) * FIELD + at(sheet.ys, site)
 }
 
 // The sheet's words in front; what comes after them belongs to no sheet.
-pub fn sheet_words(sheet: Sheet) -> [u32; 32] {
-    let mut words = [0u32; 32];
+pub fn sheet_words(sheet: Sheet) -> [u32; WORDS] {
+    let mut words = [0u32; WORDS];
     let mut colours: u32 = 0;
     let mut i: usize = 0;
-    while i < 32 {
+    while i < WORDS {
         let word = word_at(sheet, i as u32, colours);
         words[i] = word;
-        colours = sum(colours, (word / 268435456 == 3) as u32);
+        colours = sum(colours, (word / KIND == 3) as u32);
         i += 1;
     }
     words

@@ -21,6 +21,20 @@ walk-at t = and 13 walk-kinds.ps (is 13 walk-kinds.ps μ-walk t) walk.Pre
 abbrev walk-below : ℕ → In 13 walk-kinds.ps
 walk-below t = and 13 walk-kinds.ps (falls 13 walk-kinds.ps _<_ μ-walk t) walk.Pre
 
+-- where the function starts, seen from after its slices are known
+abbrev begin : (t : ℕ) → walk-lts.After-slice-known2 (
+  tie-site-reads.Asked,
+  tie-site-reads.Learnt,
+  walk-below t,
+  walk.Post,
+) (walk-at t) walk.Post → walk-lts.Start (
+  tie-site-reads.Asked,
+  tie-site-reads.Learnt,
+  walk-below t,
+  walk.Post,
+) (walk-at t) walk.Post
+begin t c = c .before .before .before .before .before .before .before .before .before .before .before .before .before
+
 walk-returns : (t : ℕ) → walk-lts.Need-returns (
   tie-site-reads.Asked,
   tie-site-reads.Learnt,
@@ -28,8 +42,8 @@ walk-returns : (t : ℕ) → walk-lts.Need-returns (
   walk.Post,
 ) (walk-at t) walk.Post
 walk-returns t c =
-    let a = c .before .before .before .before .before .before .before .before .before .before .before .before .before .before .args in
-    ended (a .q) (a .heights .now) (a .bounds .now) (a .radices .now) (a .draws .now) (a .parts .now) (a .counts .now) (a .work .now) (a .xs .now) (a .ys .now) (a .colours .now) (a .order .now) (c .before .before .before .before .before .before .before .before .before .before .before .before .before .before .pre .1 .0) (a .j) (a .labels .now) (a .out .now) (a .left .budget) (c .if1 .taken)
+    let a = begin t (c .before) .args in
+    ended (begin t (c .before) .pre .1 .0) (a .j) (a .labels .now) (a .out .now) (a .left .budget) (c .if1 .taken)
 
 walk-tie-site-requires : (t : ℕ) → walk-lts.Need-tie-site-requires (
   tie-site-reads.Asked,
@@ -38,8 +52,8 @@ walk-tie-site-requires : (t : ℕ) → walk-lts.Need-tie-site-requires (
   walk.Post,
 ) (walk-at t) walk.Post
 walk-tie-site-requires t c κs =
-    let p = c .before .before .before .before .before .before .before .before .before .before .before .before .before .before .before .before .pre .1 in let a = c .before .before .before .before .before .before .before .before .before .before .before .before .before .before .before .before .args in
-    (p .0, (p .1, omega (arith, p .1 .tied, long (a .q) (a .heights .now) (a .bounds .now) (a .radices .now) (a .draws .now) (a .parts .now) (a .counts .now) (a .work .now) (a .xs .now) (a .ys .now) (a .colours .now) (a .order .now) (p .0), c .before .before .if1 .left)))
+    let p = begin t (c .before .before .before) .pre .1 in let a = begin t (c .before .before .before) .args in
+    (p .0, (p .1, omega (arith, p .1 .tied, long (p .0), c .before .before .if1 .left)))
 
 walk-add-walk : (t : ℕ) → walk-lts.Need-add-walk (
   tie-site-reads.Asked,
@@ -48,8 +62,8 @@ walk-add-walk : (t : ℕ) → walk-lts.Need-add-walk (
   walk.Post,
 ) (walk-at t) walk.Post
 walk-add-walk t c =
-    let p = c .before .before .before .before .before .before .before .before .before .before .before .before .before .before .before .before .before .before .before .before .before .before .before .pre .1 in let a = c .before .before .before .before .before .before .before .before .before .before .before .before .before .before .before .before .before .before .before .before .before .before .before .args in
-    omega (arith, p .1 .tied, long (a .q) (a .heights .now) (a .bounds .now) (a .radices .now) (a .draws .now) (a .parts .now) (a .counts .now) (a .work .now) (a .xs .now) (a .ys .now) (a .colours .now) (a .order .now) (p .0), p .0 .fewSites)
+    let p = begin t (c .before .before .before .before .before .before .before .before .before .before) .pre .1 in let a = begin t (c .before .before .before .before .before .before .before .before .before .before) .args in
+    omega (arith, p .1 .tied, long (p .0), p .0 .sheet .fewSites, p .0 .ranked)
 
 walk-walk-requires : (t : ℕ) → walk-lts.Need-walk-requires (
   tie-site-reads.Asked,
@@ -58,8 +72,8 @@ walk-walk-requires : (t : ℕ) → walk-lts.Need-walk-requires (
   walk.Post,
 ) (walk-at t) walk.Post
 walk-walk-requires t c κs =
-    let p = c .before .before .before .before .before .before .before .before .before .before .before .before .before .before .before .before .before .before .before .before .before .before .before .pre .1 in let a = c .before .before .before .before .before .before .before .before .before .before .before .before .before .before .before .before .before .before .before .before .before .before .before .args in
-    (omega (arith, c .before .before .before .before .before .before .before .before .before .before .before .before .before .before .before .before .before .before .before .before .before .before .before .pre .0, p .1 .tied, long (a .q) (a .heights .now) (a .bounds .now) (a .radices .now) (a .draws .now) (a .parts .now) (a .counts .now) (a .work .now) (a .xs .now) (a .ys .now) (a .colours .now) (a .order .now) (p .0), c .before .before .before .before .before .before .before .before .before .if1 .left), (p .0, c .before .before .before .before .before .before .tie-site .ensures .0))
+    let p = begin t (c .before .before .before .before .before .before .before .before .before .before) .pre .1 in let a = begin t (c .before .before .before .before .before .before .before .before .before .before) .args in
+    (omega (arith, begin t (c .before .before .before .before .before .before .before .before .before .before) .pre .0, p .1 .tied, long (p .0), c .before .before .before .before .before .before .before .before .before .if1 .left), (p .0, c .before .before .before .before .before .before .tie-site .ensures .0))
 
 walk-same-length : (t : ℕ) → walk-lts.Need-same-length (
   tie-site-reads.Asked,

@@ -1,6 +1,7 @@
-use Rattle.walk.proofs.Tying.{base-low, long, level-of, Tied, tied}
+use Rattle.walk.proofs.Tying.{base-low, long, site-in, level-of, Tied, tied}
 use mathlib.Core.Path.{subst⁻¹}
 use Rattle.arrays.specs.Given.{SiteIn}
+use Rattle.arrays.proofs.Narrowed.{no-sites}
 use Rattle.rows.specs.Rows.{stripOf, pointOf}
 use mathlib.Core.Path.{ap, _∙_}
 use Prim.Native.Nat.{ℕ, _+_, _-_, _*_}
@@ -19,78 +20,93 @@ use Rattle.choice.proofs.ties.write_tie.Reads as write-tie-reads
 use Rattle.rows.proofs.site_at.Reads as site-at-reads
 use Rattle.words.proofs.monus.Reads as monus-reads
 
+-- where the function starts, seen from after its slices are known, and from after the slot is chosen
+abbrev begin : tie.After-slice-known2 → tie.Start
+begin c = c .before .before .before .before .before .before .before .before .before .before .before .before .before
+
+abbrev begin₂ : tie.After-slice-known3 → tie.Start
+begin₂ c = begin (c .before .before .before .before .before .before .before .before)
+
 -- the step's facts, on plain values
-mid : (c : tie.After-slice-known3) → (let a = c .before .before .before .before .before .before .before .before .before .before .before .before .before .before .before .before .before .before .before .before .before .args in Tied (a .q) (a .heights .now) (a .bounds .now) (a .radices .now) (a .draws .now) (a .parts .now) (a .counts .now) (a .work .now) (a .xs .now) (a .ys .now) (a .colours .now) (a .order .now) (c .before .before .before .before .before .before .before .before .before .before .before .before .before .before .before .before .before .before .before .before .before .pre .0) (a .j) (a .labels .now) (a .out .now) (a .left .budget) (a .left .cost)
+mid : (c : tie.After-slice-known3) → (let a = begin₂ c .args in Tied (begin₂ c .pre .0) (a .j) (a .labels .now) (a .out .now) (a .left .budget) (a .left .cost)
     (pointOf (c .before .before .before .before .before .before .before .site-at .result)) (stripOf (c .before .before .before .before .before .hold-of .result)) (c .before .before .choose-slot .result))
 mid c =
-    let a = c .before .before .before .before .before .before .before .before .before .before .before .before .before .before .before .before .before .before .before .before .before .args in
-    let p = c .before .before .before .before .before .before .before .before .before .before .before .before .before .before .before .before .before .before .before .before .before .pre in
-    tied (a .q) (a .heights .now) (a .bounds .now) (a .radices .now) (a .draws .now) (a .parts .now) (a .counts .now) (a .work .now) (a .xs .now) (a .ys .now) (a .colours .now) (a .order .now) (p .0) (a .j) (a .labels .now) (a .out .now) (a .left .budget) (a .left .cost) _ (p .1 .1) (p .1 .0)
+    let a = begin₂ c .args in
+    let p = begin₂ c .pre in
+    tied (p .0) (a .j) (a .labels .now) (a .out .now) (a .left .budget) (a .left .cost) _ (p .1 .1) (p .1 .0)
     (pointOf (c .before .before .before .before .before .before .before .site-at .result)) (c .before .before .before .before .before .before .before .site-at .ensures) (stripOf (c .before .before .before .before .before .hold-of .result)) (c .before .before .before .before .before .hold-of .ensures (a .q) (a .bounds .now) (a .radices .now) (a .draws .now))
     _ (ap (λ (z : ℕ). (a .j + 1) * z) (c .before .before .before .before .level-size .ensures)) (c .before .before .choose-slot .ensures .0)
 
 site-at-requires : tie.Need-site-at-requires
 site-at-requires c κs =
-    let p = c .before .before .before .before .before .before .before .before .before .before .before .before .before .pre in
-    (omega (arith, p .0 .xsLong, p .1 .1), omega (arith, p .0 .ysLong, p .1 .1), omega (arith, p .0 .coloursLong, p .1 .1))
+    let p = begin c .pre in
+    let o = p .0 .sheet in
+    (omega (arith, p .0 .ranked, p .1 .1), omega (arith, p .0 .ranked, o .ysLong, p .1 .1), omega (arith, p .0 .ranked, o .coloursLong, p .1 .1))
 
 hold-of-requires : tie.Need-hold-of-requires
 hold-of-requires c κs =
-    let p = c .before .before .before .before .before .before .before .before .before .before .before .before .before .before .before .pre in
+    let p = begin (c .before .before) .pre in
     (p .1 .0 .labelsLong, p .0 .sheet .fewSlots)
 
 level-size-requires : tie.Need-level-size-requires
 level-size-requires c κs =
-    let p = c .before .before .before .before .before .before .before .before .before .before .before .before .before .before .before .before .pre in
+    let p = begin (c .before .before .before) .pre in
     (p .0 .sheet .fewSlots, p .0 .sheet .fewColours, p .0 .splits .within .few)
 
 add-base : tie.Need-add-base
 add-base c =
-    let p = c .before .before .before .before .before .before .before .before .before .before .before .before .before .before .before .before .before .pre in omega (arith, p .0 .fewSites, p .1 .1)
+    let p = begin (c .before .before .before .before) .pre in omega (arith, p .0 .sheet .fewSites, p .0 .ranked, p .1 .1)
 
 mul-base : tie.Need-mul-base
 mul-base c =
-    let p = c .before .before .before .before .before .before .before .before .before .before .before .before .before .before .before .before .before .pre in let a = c .before .before .before .before .before .before .before .before .before .before .before .before .before .before .before .before .before .args in
-    let h = base-low (a .q) (a .heights .now) (a .bounds .now) (a .radices .now) (a .draws .now) (a .parts .now) (a .counts .now) (a .work .now) (a .xs .now) (a .ys .now) (a .colours .now) (a .order .now) (p .0) (a .j) (p .1 .1) in
+    let p = begin (c .before .before .before .before) .pre in let a = begin (c .before .before .before .before) .args in
+    let h = base-low (p .0) (a .j) (p .1 .1) in
     rw (c .level-size .ensures) (omega (arith, h))
 
 choose-slot-requires : tie.Need-choose-slot-requires
 choose-slot-requires c κs =
-    let p = c .before .before .before .before .before .before .before .before .before .before .before .before .before .before .before .before .before .before .pre in let a = c .before .before .before .before .before .before .before .before .before .before .before .before .before .before .before .before .before .before .args in (
-      (p .0 .sheet, p .0 .bounded),
-      (
-        rw (c .before .level-size .ensures) (level-of (a .q) (a .heights .now) (a .bounds .now) (a .radices .now) (a .draws .now) (a .parts .now) (a .counts .now) (a .work .now) (a .xs .now) (a .ys .now) (a .colours .now) (a .order .now) (p .0) (a .j) _ _ _ _ (p .1 .1) (p .1 .0)),
-        (subst⁻¹ (SiteIn (a .q)) (c .before .before .before .before .site-at .ensures) (p .0 .siteIn (a .j) (p .1 .1)), p .1 .0 .budget, p .1 .0 .low, p .1 .0 .labelsLong),
-      ),
-    )
+    let p = begin (c .before .before .before .before .before) .pre in let a = begin (c .before .before .before .before .before) .args in
+    record {
+      sheet = no-sites (p .0 .sheet);
+      bounded = p .0 .bounded;
+      level = rw (c .before .level-size .ensures) (level-of (p .0) (a .j) _ _ _ _ (p .1 .1) (p .1 .0));
+      site = subst⁻¹ (SiteIn (a .q)) (c .before .before .before .before .site-at .ensures) (site-in (p .0) (a .j) (p .1 .1));
+      labelsLong = p .1 .0 .labelsLong;
+      budget = p .1 .0 .budget;
+      low = p .1 .0 .low;
+    }
 
 step-of-requires : tie.Need-step-of-requires
 step-of-requires c κs =
-    let p = c .before .before .before .before .before .before .before .before .before .before .before .before .before .before .before .before .before .before .before .before .before .pre in let a = c .before .before .before .before .before .before .before .before .before .before .before .before .before .before .before .before .before .before .before .before .before .args in
-    (p .0 .sheet, p .0 .bounded, subst⁻¹ (SiteIn (a .q)) (c .before .before .before .before .before .before .before .site-at .ensures) (p .0 .siteIn (a .j) (p .1 .1)), omega (arith, mid c .slotLow, p .0 .sheet .fewSlots))
+    let p = begin₂ c .pre in let a = begin₂ c .args in
+    (no-sites (p .0 .sheet), p .0 .bounded, subst⁻¹ (SiteIn (a .q)) (c .before .before .before .before .before .before .before .site-at .ensures) (site-in (p .0) (a .j) (p .1 .1)), omega (arith, mid c .slotLow, p .0 .sheet .fewSlots))
 
 write-tie-requires : tie.Need-write-tie-requires
 write-tie-requires c κs =
-    let p = c .before .before .before .before .before .before .before .before .before .before .before .before .before .before .before .before .before .before .before .before .before .before .before .pre in let a = c .before .before .before .before .before .before .before .before .before .before .before .before .before .before .before .before .before .before .before .before .before .before .before .args in
-    (p .1 .1, omega (arith, p .0 .orderLow _ (p .1 .1), p .1 .0 .answerFits, long (a .q) (a .heights .now) (a .bounds .now) (a .radices .now) (a .draws .now) (a .parts .now) (a .counts .now) (a .work .now) (a .xs .now) (a .ys .now) (a .colours .now) (a .order .now) (p .0)), omega (arith, mid (c .before .before) .slotLow, p .0 .sheet .fewSlots))
+    let p = begin₂ (c .before .before) .pre in let a = begin₂ (c .before .before) .args in
+    record {
+      ranked = p .1 .1;
+      within = omega (arith, p .0 .sheet .orderLow _ (p .1 .1), p .0 .ranked, p .1 .0 .answerFits, long (p .0));
+      slotLow = omega (arith, mid (c .before .before) .slotLow, p .0 .sheet .fewSlots);
+    }
 
 cast-slot : tie.Need-cast-slot
 cast-slot c =
-    omega (arith, mid (c .before .before .before .before .before) .slotLow, c .before .before .before .before .before .before .before .before .before .before .before .before .before .before .before .before .before .before .before .before .before .before .before .before .before .before .pre .0 .sheet .fewSlots)
+    omega (arith, mid (c .before .before .before .before .before) .slotLow, begin₂ (c .before .before .before .before .before) .pre .0 .sheet .fewSlots)
 
 add-labels : tie.Need-add-labels
 add-labels c =
-    let p = c .before .before .before .before .before .before .before .before .before .before .before .before .before .before .before .before .before .before .before .before .before .before .before .before .before .before .before .pre in let a = c .before .before .before .before .before .before .before .before .before .before .before .before .before .before .before .before .before .before .before .before .before .before .before .before .before .before .before .args in
-    let i = subst⁻¹ (SiteIn (a .q)) (c .before .before .before .before .before .before .before .before .before .before .before .before .before .site-at .ensures) (p .0 .siteIn (a .j) (p .1 .1)) in
+    let p = begin₂ (c .before .before .before .before .before .before) .pre in let a = begin₂ (c .before .before .before .before .before .before) .args in
+    let i = subst⁻¹ (SiteIn (a .q)) (c .before .before .before .before .before .before .before .before .before .before .before .before .before .site-at .ensures) (site-in (p .0) (a .j) (p .1 .1)) in
     omega (arith, i .colourLow, p .0 .sheet .fewColours)
 
 mul-labels : tie.Need-mul-labels
 mul-labels c =
-    omega (arith, mid (c .before .before .before .before .before .before) .slotLow, c .before .before .before .before .before .before .before .before .before .before .before .before .before .before .before .before .before .before .before .before .before .before .before .before .before .before .before .pre .0 .sheet .fewSlots)
+    omega (arith, mid (c .before .before .before .before .before .before) .slotLow, begin₂ (c .before .before .before .before .before .before) .pre .0 .sheet .fewSlots)
 
 slice-write-labels : tie.Need-slice-write-labels
 slice-write-labels c =
-    let p = c .before .before .before .before .before .before .before .before .before .before .before .before .before .before .before .before .before .before .before .before .before .before .before .before .before .before .before .pre in
+    let p = begin₂ (c .before .before .before .before .before .before) .pre in
     omega (arith, mid (c .before .before .before .before .before .before) .slotLow, p .1 .0 .labelsLong, ap length (c .before .before .before .before .before .before .before .before .choose-slot .ensures .1))
 
 monus-requires : tie.Need-monus-requires
@@ -102,7 +118,7 @@ same-length c =
 
 same-length-2 : tie.Need-same-length-2
 same-length-2 c =
-    ap length (c .before .before .before .before .write-tie .ensures) ∙ length-set (c .before .before .before .before .before .before .before .before .before .before .before .before .before .before .before .before .before .before .before .before .before .before .before .before .before .before .before .before .args .out .now) _ _
+    ap length (c .before .before .before .before .write-tie .ensures) ∙ length-set (begin₂ (c .before .before .before .before .before .before .before) .args .out .now) _ _
 
 returns : tie.Need-returns
 returns c =

@@ -2,7 +2,6 @@ use lib.Seq.{set-set, set-getD}
 use Rattle.choice.proofs.kept.Keeping.{level-set, keeps-by, never-keeps}
 use mathlib.Core.Path.{refl, sym, _∙_}
 use Prim.Native.Nat.{_-_}
-use lib.ListN.{length-set}
 use borrow.Author.Needs.{needs}
 use Rattle.choice.proofs.kept.keeps_cost.Statement.{statement}
 use Rattle.choice.proofs.kept.keeps_cost.Tie as tie
@@ -14,7 +13,7 @@ use Rattle.words.proofs.same.Reads as same-reads
 
 returns : tie.Need-returns
 returns c =
-    (sym (never-keeps _ _ _ (c .if1 .taken) (c .before .before .before .before .before .pre .1 .3)), refl)
+    (sym (never-keeps _ _ _ (c .if1 .taken) (c .before .before .before .before .before .pre .low)), refl)
 
 mul-old : tie.Need-mul-old
 mul-old c = search needs
@@ -31,7 +30,7 @@ slice-write-labels c = search needs
 rest-of-requires : tie.Need-rest-of-requires
 rest-of-requires c κs =
     let p = c .before .before .before .before .before .before .before .pre in
-    (level-set _ _ _ _ _ _ _ _ _ (p .0) (p .1 .0) (p .1 .1), p .1 .2)
+    (level-set _ _ _ _ _ _ _ _ _ (p .level) (p .slotLow) (p .colourLow), p .budget)
 
 mul-labels-2 : tie.Need-mul-labels-2
 mul-labels-2 c = search needs
@@ -51,7 +50,7 @@ same-length c = search needs
 returns-2 : tie.Need-returns-2
 returns-2 c =
     let a = c .before .before .before .before .before .before .before .before .before .before .args in
-    (keeps-by _ _ _ _ _ _ (c .same .ensures) (c .before .plus-of .ensures) (rw (length-set (a .labels .now) (a .k) (a .c)) at (c .before .before .rest-of .ensures)), set-set (a .labels .now) (a .k) _ _ ∙ set-getD (a .labels .now) (a .k) 0)
+    (keeps-by _ _ _ _ _ _ (c .same .ensures) (c .before .plus-of .ensures) (c .before .before .rest-of .ensures), set-set (a .labels .now) (a .k) _ _ ∙ set-getD (a .labels .now) (a .k) 0)
 
 pub keeps-cost-spec : {M : Type 1} → statement M
 keeps-cost-spec =

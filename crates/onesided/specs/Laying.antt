@@ -1,0 +1,52 @@
+-- What is asked where a one-sided sheet is laid out, and what is left of a call. Definitions.
+use mathlib.Core.Path.{_≡_}
+use mathlib.Core.Bool.{false}
+use mathlib.Core.List.{List, []}
+use Prim.Native.Nat.{ℕ, _<_}
+use lib.ListN.{length}
+use Rattle.sheet.specs.Sheet.{Sheet, sheetIn, productOf}
+use Rattle.labelling.specs.Entry.{makeFault, makeWork, makeAnswer}
+use Rattle.labelling.specs.Promise.{takesSheet}
+use Rattle.optimum.specs.OneSided.{order}
+use Rattle.optimum.specs.Budgets.{radicesOf}
+use Rattle.arrays.specs.Arrays.{measuresOf, boundsOf, drawsList, xsOf, ysOf, coloursOf, gathered}
+use Rattle.arrays.specs.Given.{Given, given, OfSheet, Bounded, Ranked}
+use Rattle.table.specs.Marks.{TableFits}
+
+-- the sizes of a sheet: m, C, n and P
+abbrev pub SizesOf : Sheet → (slots colours sites budgets : ℕ) → Type 0
+SizesOf s m c n p =
+    (m ≡ length (s .slots)) × (c ≡ length (s .colours)) × (n ≡ length (s .sites)) × (p ≡ productOf (s .colours))
+
+-- an accepted one-sided sheet of these sizes, its areas long enough
+pub record TakesOneSided (ws work out : List ℕ) (slots colours sites budgets : ℕ) : Type 0 where
+  pub takes : takesSheet ws work out
+  pub oneSided : sheetIn ws .isTwoSided ≡ false
+  pub sizes : SizesOf (sheetIn ws) slots colours sites budgets
+
+-- THE CALL: what it returns, and both areas after it, by what they were before
+pub record Made (ws work out : List ℕ) (fault : ℕ) (workAfter outAfter : List ℕ) : Type 0 where
+  pub fault-is : fault ≡ makeFault ws work out
+  pub work-is : workAfter ≡ makeWork ws work out
+  pub out-is : outAfter ≡ makeAnswer ws work out
+
+-- the arrays are those of the sheet's sites, by rising rank
+pub record RankedSites (s : Sheet) (xs ys colours os : List ℕ) : Type 0 where
+  pub xsIs : xs ≡ gathered (xsOf (s .sites)) (order s)
+  pub ysIs : ys ≡ gathered (ysOf (s .sites)) (order s)
+  pub coloursIs : colours ≡ gathered (coloursOf (s .sites)) (order s)
+  pub orderIs : os ≡ order s
+
+-- ALL ARRAYS of a sheet; what may be taken from each budget is not listed yet
+abbrev pub arraysOf : Sheet → Given
+arraysOf s =
+    given (measuresOf s) (s .slots) (boundsOf (s .colours)) (radicesOf (s .colours)) (drawsList s)
+    (gathered (xsOf (s .sites)) (order s)) (gathered (ysOf (s .sites)) (order s)) (gathered (coloursOf (s .sites)) (order s)) (order s) [] []
+
+-- what is asked of the arrays where they are laid out: a table fits the work area, and the layout the answer area
+pub record LaysOut (g : Given) (area : ℕ) (out : List ℕ) : Type 0 where
+  pub sheet : OfSheet g
+  pub bounded : Bounded g
+  pub ranked : Ranked g
+  pub fits : TableFits g area
+  pub answerFits : length (g .order) < length out
