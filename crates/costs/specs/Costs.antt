@@ -1,19 +1,25 @@
 -- A cost in one word: definitions.
 use mathlib.Core.Bool.{cond}
 use Prim.Native.Nat.{ℕ, _+_, _*_, _/_, _%_}
+use Rattle.sheet.specs.Limits.{kindTop, lengthTop}
+use Rattle.optimum.specs.CostWord.{countLimit, lengthLimit}
 use Rattle.arrays.specs.declared.Measures.{Measures}
+
+-- above every length that a step adds: at most a width and a height, each below 2^14
+abbrev pub stepTop : ℕ
+stepTop = 65536
 
 -- count and length in one word, by the aim
 abbrev pub wordBy : Measures → (count size : ℕ) → ℕ
-wordBy q c l = cond (q .shortest) (l * 64 + c) (c * 33554432 + l)
+wordBy q c l = cond (q .shortest) (l * countLimit + c) (c * lengthLimit + l)
 
 -- count and length in a cost
 abbrev pub countBy : Measures → (cost : ℕ) → ℕ
-countBy q w = cond (q .shortest) (w % 64) (w / 33554432)
+countBy q w = cond (q .shortest) (w % countLimit) (w / lengthLimit)
 
 abbrev pub lengthBy : Measures → (cost : ℕ) → ℕ
-lengthBy q w = cond (q .shortest) (w / 64) (w % 33554432)
+lengthBy q w = cond (q .shortest) (w / countLimit) (w % lengthLimit)
 
--- a layout's first word
+-- a layout's first word: kind 8, the count above the length
 abbrev pub headWord : Measures → (cost : ℕ) → ℕ
-headWord q w = 8 * 268435456 + countBy q w * 2097152 + lengthBy q w
+headWord q w = 8 * kindTop + countBy q w * lengthTop + lengthBy q w

@@ -3,18 +3,27 @@ pub mod masks;
 
 ghost use mathlib.Core.Path.{_≡_};
 ghost use Prim.Native.Nat.{_<_};
-ghost use Rattle.costs.specs.Costs.{wordBy, headWord};
+ghost use Rattle.costs.specs.Costs.{wordBy, headWord, stepTop};
 use arrays::Measures;
+use words::LENGTH_TOP;
+
+// Above every count of labels, and above every length: optimum/specs/CostWord has both for definitions.
+const COUNT_LIMIT: u32 = 64;
+
+const LENGTH_LIMIT: u32 = 33554432;
+
+// Kind 8 in a word's top four bits.
+const LAYOUT_KIND: u32 = 2147483648;
 
 // Count and length in one word, by the aim.
 pub fn cost_word(q: Measures, count: u32, length: u32) -> u32
-    requires { ⌜ (count < 2) × (length < 65536) ⌝ }
+    requires { ⌜ (count < 2) × (length < stepTop) ⌝ }
     ensures { λ r. ⌜ r ≡ wordBy q count length ⌝ }
 {
     if q.shortest {
-        return length * 64 + count;
+        return length * COUNT_LIMIT + count;
     }
-    count * 33554432 + length
+    count * LENGTH_LIMIT + length
 }
 
 // A layout's first word from its cost.
@@ -22,7 +31,7 @@ pub fn head_word(q: Measures, cost: u32) -> u32
     ensures { λ r. ⌜ r ≡ headWord q cost ⌝ }
 {
     if q.shortest {
-        return 2147483648 + cost % 64 * 2097152 + cost / 64;
+        return LAYOUT_KIND + cost % COUNT_LIMIT * LENGTH_TOP + cost / COUNT_LIMIT;
     }
-    2147483648 + cost / 33554432 * 2097152 + cost % 33554432
+    LAYOUT_KIND + cost / LENGTH_LIMIT * LENGTH_TOP + cost % LENGTH_LIMIT
 }

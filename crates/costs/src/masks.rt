@@ -2,6 +2,7 @@
 ghost use mathlib.Core.Path.{_≡_};
 ghost use mathlib.Core.Bool.{cond};
 ghost use Prim.Native.Nat.{_<_};
+ghost use Rattle.sheet.specs.Limits.{mostBudgets};
 ghost use Rattle.search.specs.Radix.{below, maskOf};
 ghost use Rattle.costs.specs.Masks.{Divides};
 
@@ -37,7 +38,7 @@ fn bit_of(t: bool) -> u64
 // The budgets that may be taken from v, as bits.
 pub fn mask_below(radices: &[u32], v: u32) -> u64
     requires { ⌜ Divides (now radices) ⌝ }
-    requires { ⌜ v < 64 ⌝ }
+    requires { ⌜ v < mostBudgets ⌝ }
     ensures { λ r. ⌜ r ≡ maskOf (now (radices .entry)) v ⌝ }
 {
     let mut mask: u64 = 0;
