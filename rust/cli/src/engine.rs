@@ -9,8 +9,11 @@ use std::io::Write;
 use std::process::{Child, Command, Output, Stdio};
 
 /// The option for the form in which an engine reads sheets.
-pub const FORM: Setting =
-    Setting { name: "--engine-form", value: "FORM", about: "how the engine reads sheets: text, words, bin or json" };
+pub const FORM: Setting = Setting {
+    name: "--engine-form",
+    value: "FORM",
+    about: "how the engine reads sheets: text (where it is not given), words, bin or json",
+};
 
 /// A command with the form that it reads.
 pub struct Engine {

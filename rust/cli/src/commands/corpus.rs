@@ -3,6 +3,7 @@
 use crate::arguments::{Arguments, Setting};
 use crate::corpus::{find, manifest, Entry, Wanted, MOST_TRIES};
 use crate::exit::{Exit, Failure};
+use crate::maker::Maker;
 use crate::output::{message, write_file, Output};
 use crate::progress::Progress;
 use crate::shard::{self, Shard};
@@ -120,12 +121,12 @@ impl Plan {
 
     /// Writes the sheets of one depth, whose first has this place in the corpus; false where some were not found.
     fn write_depth(&self, depth: u32, first: u64, lines: &mut String, progress: &Progress) -> Result<bool, Failure> {
+        let mut maker = Maker::default();
         for number in (0..self.count).filter(|number| self.shard.has(first + number)) {
             // The aims take turns, and each counts its own sheets.
             let shortest = self.shortest.unwrap_or(number % 2 == 0);
             let wanted = Wanted { depth, shortest, rounding: self.rounding };
-            let entry = find(wanted, self.seed, number).map_err(|refusal| Failure::Unable(refusal.to_string()))?;
-            let Some(entry) = entry else {
+            let Some(entry) = find(wanted, self.seed, number, &mut maker)? else {
                 message(&self.not_found(wanted, number));
                 return Ok(false);
             };

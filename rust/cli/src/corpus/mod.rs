@@ -2,6 +2,8 @@
 
 pub mod manifest;
 
+use crate::exit::Failure;
+use crate::maker::Maker;
 use backbone::{Layout, Refusal};
 use model::depth::depth;
 use model::nested;
@@ -15,6 +17,16 @@ use model::sheet::Sheet;
 const MOST_SEARCH_STEPS: u64 = 1_000_000;
 /// A sheet is given up after so many tries.
 pub const MOST_TRIES: u32 = 200_000;
+
+/// After a sheet on which the rival errs by its choice among equals, so many more are tried for one on which it errs
+/// whichever of them it takes. In tenths of a point such sheets are too rare for that.
+fn tries_for_sure(rounding: Rounding) -> u32 {
+    if rounding == Rounding::TenthPoint {
+        0
+    } else {
+        150
+    }
+}
 
 /// What a sheet of a corpus has to be like.
 #[derive(Clone, Copy, Debug, PartialEq, Eq)]
@@ -44,37 +56,48 @@ pub struct Rival {
     pub sum_of_best: u64,
 }
 
-/// The sheet of this number in the corpus of this seed; none if it was not found in [`MOST_TRIES`]. It depends on
-/// nothing else, so that shares of a corpus can be made apart.
-pub fn find(wanted: Wanted, seed: u64, number: u64) -> Result<Option<Entry>, Refusal> {
-    let mut random = Random::of(&[seed, u64::from(wanted.depth), u64::from(wanted.shortest), number]);
-    for _ in 0..MOST_TRIES {
-        let sheet = nested::sheet(wanted.depth, wanted.shortest, &mut random);
-        let entry = entry(sheet, wanted)?;
-        if entry.is_some() {
-            return Ok(entry);
-        }
+impl Rival {
+    /// Whether it errs whichever of its equals it takes.
+    fn is_sure(&self) -> bool {
+        self.own_sum < self.sum_of_best
     }
-    Ok(None)
 }
 
-/// The entry of a sheet, if the sheet is as it is wanted.
-fn entry(sheet: Sheet, wanted: Wanted) -> Result<Option<Entry>, Refusal> {
-    let best = match backbone::lay_out(&sheet.words()) {
+/// The sheet of this number in the corpus of this seed; none if it was not found in [`MOST_TRIES`]. It depends on
+/// nothing else, so that shares of a corpus can be made apart.
+pub fn find(wanted: Wanted, seed: u64, number: u64, maker: &mut Maker) -> Result<Option<Entry>, Failure> {
+    let mut random = Random::of(&[seed, u64::from(wanted.depth), u64::from(wanted.shortest), number]);
+    let mut found: Option<Entry> = None;
+    let mut tries_left = MOST_TRIES;
+    while tries_left > 0 {
+        tries_left -= 1;
+        let sheet = nested::sheet(wanted.depth, wanted.shortest, &mut random);
+        let Some(entry) = entry(sheet, wanted, maker)? else { continue };
+        if entry.rival.as_ref().is_none_or(Rival::is_sure) {
+            found = Some(entry);
+            break;
+        }
+        if found.is_none() {
+            tries_left = tries_left.min(tries_for_sure(wanted.rounding));
+            found = Some(entry);
+        }
+    }
+    Ok(found.map(|entry| Entry { ranked: rank(&entry.sheet, MOST_SEARCH_STEPS).flatten(), ..entry }))
+}
+
+/// The entry of a sheet, if the sheet is as it is wanted; not searched yet.
+fn entry(sheet: Sheet, wanted: Wanted, maker: &mut Maker) -> Result<Option<Entry>, Failure> {
+    let best = match maker.lay_out(&sheet)? {
         Ok(best) => best,
         Err(Refusal::NoLayout) => return Ok(None),
-        Err(refusal) => return Err(refusal),
+        Err(refusal) => return Err(Failure::Unable(format!("a sheet that was drawn is refused: {refusal}"))),
     };
-    let slot_of = slots_of(&best);
-    if depth(&sheet, &slot_of) != wanted.depth {
+    if depth(&sheet, &slots_of(&best)) != wanted.depth {
         return Ok(None);
     }
     let rival = rival(&sheet, &best, wanted.rounding);
-    if wanted.rounding != Rounding::None && rival.is_none() {
-        return Ok(None);
-    }
-    let ranked = rank(&sheet, MOST_SEARCH_STEPS).flatten();
-    Ok(Some(Entry { sheet, depth: wanted.depth, best, ranked, rival }))
+    let is_wanted = wanted.rounding == Rounding::None || rival.is_some();
+    Ok(is_wanted.then_some(Entry { sheet, depth: wanted.depth, best, ranked: None, rival }))
 }
 
 /// The rival's layout, if it is worse than the best.

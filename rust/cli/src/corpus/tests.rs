@@ -1,6 +1,7 @@
 //! The rival that rounds beside the proved maker, by depth.
 
 use super::{find, slots_of, Wanted};
+use crate::maker::Maker;
 use model::ranked::Numbers;
 use model::rounding::{lay_out, Rounding};
 use model::rules::{layout_words, Ties};
@@ -19,10 +20,10 @@ fn cost(sheet: &Sheet, (labels, length): Numbers) -> (u32, u32) {
 
 /// On how many sheets of a depth the rival takes a worse layout. Its layouts are lawful, and never better.
 fn worse(depth: u32, rounding: Rounding) -> u32 {
-    let mut worse = 0;
+    let (mut worse, mut maker) = (0, Maker::default());
     for number in 0..SHEETS {
         let wanted = Wanted { depth, shortest: number % 2 == 0, rounding: Rounding::None };
-        let entry = find(wanted, 17, number).expect("no refusal").expect("it is found");
+        let entry = find(wanted, 17, number, &mut maker).expect("no failure").expect("it is found");
         let slot_of = lay_out(&entry.sheet, rounding).expect("there is a layout");
         let stored = [entry.sheet.words(), layout_words(&entry.sheet, &slot_of)].concat();
         assert_eq!(backbone::judge(&stored), Ok(None), "{:?}", entry.sheet);
@@ -46,11 +47,11 @@ fn the_rival_errs_by_rounding_alone_and_more_often_in_deep_sheets() {
 /// The search finds the maker's layout, and as many labels and as much length.
 #[test]
 fn the_maker_agrees_with_the_search_where_that_ends() {
-    let mut ended = 0;
+    let (mut ended, mut maker) = (0, Maker::default());
     for depth in 1..=8 {
         for number in 0..20 {
             let wanted = Wanted { depth, shortest: number % 2 == 0, rounding: Rounding::None };
-            let entry = find(wanted, 18, number).expect("no refusal").expect("it is found");
+            let entry = find(wanted, 18, number, &mut maker).expect("no failure").expect("it is found");
             if let Some(ranked) = entry.ranked {
                 assert_eq!(
                     (ranked.slot_of, ranked.best),

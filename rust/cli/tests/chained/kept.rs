@@ -55,5 +55,6 @@ fn the_kept_reason_is_the_one_that_is_given() {
     let run = backbone(&["why", &examples("why/sheet.txt"), "-o", &picture]).ends(1);
     let kept = |name: &str| std::fs::read_to_string(examples(name)).expect("it is kept");
     assert_eq!(run.out, kept("why/answer.txt"));
-    assert!(std::fs::read_to_string(picture).expect("a picture") == kept("why/picture.svg"), "run: backbone why -o");
+    let is_kept = std::fs::read_to_string(picture).expect("a picture") == kept("why/picture.svg");
+    assert!(is_kept, "run: ./backbone why examples/why/sheet.txt -o examples/why/picture.svg");
 }
