@@ -30,8 +30,8 @@ With --round 0.1mm or 0.1pt only sheets are kept on which an engine that rounds 
 layout; that layout stands in FOLDER/rounded under the same name. Where the manifest's sum_of_rounded is below
 sum_of_best, every such engine errs; where they are equal, one that takes the lowest slots of its equals.
 
-One seed gives one corpus, and each of its sheets depends on the seed, the depth, the aim and its number alone: shares
-made with --shard are together the corpus made without.",
+One seed gives one corpus, and each of its sheets depends on the seed, the depth, the aim, the step and its number alone:
+shares made with --shard are together the corpus made without.",
     settings: &[
         Setting { name: "--depth", value: "A..B", about: "the depths, from 1 to 12; one number for one depth" },
         Setting { name: "--count", value: "N", about: "sheets of each depth; 100 where it is not given" },
