@@ -7,6 +7,7 @@ use native.Mathlib.Omega.{arith}
 use lib.Dec.{eqb}
 use lib.ListN.{length, getD}
 use Rattle.lists.proofs.Tests.{by-order}
+use Rattle.sheet.specs.Limits.{unbounded}
 use Rattle.sheet.specs.Sheet.{Colour, Sheet}
 use Rattle.search.proofs.Sums.{listing-first, listing-past}
 use Rattle.labelling.specs.Layout.{noColour, siteShare}
@@ -15,7 +16,7 @@ use Rattle.optimum.specs.OneSided.{leadOf, mayOpen, tipClear, turnOf, heldOf, r
 use Rattle.decoding.proofs.Places.{bounds-at, xs-at, ys-at, colours-at}
 use Rattle.arrays.specs.Arrays.{measuresOf, boundsOf, drawsList, xsOf, ysOf, coloursOf, gathered, instanceBy, pointsBy}
 
-past : (ks : List Colour) (c : ℕ) → length ks ≤ c → (getD ks c noColour) .bound ≡ 255
+past : (ks : List Colour) (c : ℕ) → length ks ≤ c → (getD ks c noColour) .bound ≡ unbounded
 past [] c h = refl
 past (k ∷ ks) zero h = absurd (omega arith)
 past (k ∷ ks) (suc c) h = past ks c (omega arith)

@@ -4,11 +4,12 @@ use mathlib.Core.List.{List, [], _∷_, _++_}
 use Prim.Native.Nat.{ℕ, zero, suc, _-_, _≤_}
 use native.Mathlib.Omega.{arith}
 use lib.ListN.{length, getD, replicate, length-append}
+use Rattle.sheet.specs.Limits.{unbounded}
 use Rattle.sheet.specs.Sheet.{Site, Colour, Sheet}
 use Rattle.labelling.specs.Layout.{noSite, noColour}
 use Rattle.decoding.specs.Decoding.{Decoded, padded, boundsOf, xsOf, ysOf, coloursOf}
 
-pub bounds-at : (ks : List Colour) (c : ℕ) → getD (boundsOf ks) c 255 ≡ (getD ks c noColour) .bound
+pub bounds-at : (ks : List Colour) (c : ℕ) → getD (boundsOf ks) c unbounded ≡ (getD ks c noColour) .bound
 unfolding boundsOf
 bounds-at [] c = refl
 bounds-at (k ∷ ks) zero = refl

@@ -9,6 +9,7 @@ use lib.Dec.{eqb}
 use borrow.Author.Tests.{eqb-true}
 use lib.ListN.{getD}
 use Rattle.lists.proofs.Tests.{clash, and-l, and-r, and-i, is-false}
+use Rattle.sheet.specs.Limits.{mostNumber}
 use Rattle.sheet.specs.Sheet.{bits, Sheet}
 use Rattle.labelling.specs.Layout.{tiesIn, siteShare}
 use Rattle.labelling.specs.Counted.{allBefore, sumBefore, isTaken, isFirst}
@@ -106,7 +107,7 @@ module _ (h : Head) (hs xs ys cs js : List ℕ) (n i : ℕ) {k a r : ℕ} (ek : 
   share-is : r ≡ shareBy h (getD hs (getD js i 0) 0) (getD ys i 0)
   share-is = share-by h a (getD ys i 0) r es ∙ ap (λ (z : ℕ). shareBy h z (getD ys i 0)) (ea ∙ ap (λ (z : ℕ). getD hs z 0) ek)
 
-  pub share-low : Low h hs ys → r ≤ 16383
+  pub share-low : Low h hs ys → r ≤ mostNumber
   share-low l = omega (arith, share-is, l .heights (getD js i 0), l .ys i)
 
   module _ {b : Bool} (eb : b ≡ isFirst (amongBy All cs) js i) where

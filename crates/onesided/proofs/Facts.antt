@@ -30,7 +30,8 @@ use Rattle.decoding.proofs.Fields.{bounds-long}
 use Rattle.arrays.proofs.Ordered.{gathered-long, radix-pos}
 use Rattle.rows.proofs.Folding.{size}
 use Rattle.rows.specs.Budgets.{Splits}
-use Rattle.walk.specs.Walk.{levelWords, mostLevel}
+use Rattle.rows.specs.Rows.{mostLevel}
+use Rattle.walk.specs.Walk.{levelWords}
 use Rattle.walk.specs.Laid.{FilledIn, laidWork}
 use Rattle.walk.proofs.Tying.{points-long}
 use Rattle.onesided.specs.Laying.{RankedSites, arraysOf, LaysOut}

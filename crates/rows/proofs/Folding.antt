@@ -17,10 +17,11 @@ use Rattle.search.specs.Split.{just}
 use Rattle.search.specs.Sums.{listing}
 use Rattle.search.proofs.Sums.{listing-first, length-listing}
 use native.Mathlib.Nat.{mul-le-mul}
-use Rattle.rows.specs.Rows.{Lies}
+use Rattle.rows.specs.Rows.{Lies, mostLevel}
 use Rattle.rows.proofs.Places.{row-fits, rows-few}
 use Rattle.rows.specs.Budgets.{Within, partAt, splitBy}
 use Rattle.rows.specs.Rest.{splitRow, rowStart, levelSize, StripIn, LevelIn, joinRow, foldRows}
+use Rattle.sheet.specs.Limits.{mostSlots, mostColours, mostBudgets}
 
 -- ---- a row joined from the highest budget down
 
@@ -73,7 +74,7 @@ pub row-inside : (m C R a ca b cb : ℕ) → StripIn m C R a ca b cb → rowStar
 row-inside m C R a ca b cb i = row-fits m C R _ (lies m C R a ca b cb i)
 
 -- a level has few words
-pub size : (m C R : ℕ) → m ≤ 48 → C ≤ 8 → R ≤ 64 → levelSize m C R ≤ 12960000
+pub size : (m C R : ℕ) → m ≤ mostSlots → C ≤ mostColours → R ≤ mostBudgets → levelSize m C R ≤ mostLevel
 size m C R a b c = mul-le-mul {n₂ = 202500} {m₂ = 64} (rows-few m C a b) c
 
 -- ---- the fold over the open labels

@@ -25,7 +25,8 @@ use Rattle.optimum.specs.Reached.{noPoint}
 use Rattle.rows.specs.Rest.{LevelIn, restRows}
 use Rattle.choice.specs.Choice.{labelled, keepsCost, withTie}
 use Rattle.strips.specs.Steps.{priceIn, budgetLeft}
-use Rattle.walk.specs.Walk.{Found, valueIn, worthIn, levelWords, mostLevel, WalkIn, Standing, tiedFrom}
+use Rattle.rows.specs.Rows.{mostLevel}
+use Rattle.walk.specs.Walk.{Found, valueIn, worthIn, levelWords, WalkIn, Standing, tiedFrom}
 use Rattle.rows.proofs.Folding.{size}
 use Rattle.walk.proofs.Value.{first-under, next-is}
 

@@ -26,10 +26,6 @@ worthIn g work = valueIn (instanceOf g) (g .parts) (g .counts) work (g .measures
 abbrev pub levelWords : Given → ℕ
 levelWords g = levelSize (length (g .heights)) (g .measures .colours) (g .measures .budgets)
 
--- a level has at most (48 + 2)² × (8 + 1)² × 64 words
-abbrev pub mostLevel : ℕ
-mostLevel = 12960000
-
 -- ---- what is asked: the arrays are a sheet's, lists say what may be taken from each budget, a table fits the work area
 pub record WalkIn (g : Given) (work : List ℕ) : Type 0 where
   pub sheet : OfSheet g

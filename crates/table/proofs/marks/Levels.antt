@@ -25,7 +25,7 @@ module _ {g : Given} (o : OfSheet g) where
   level-small = mul-le-mul {n₂ = mostRows} {m₂ = mostBudgets} (rows-few (length (g .heights)) (g .measures .colours) (o .fewSlots) (o .fewColours)) (o .fewBudgets)
 
   pub place-small : (j size : ℕ) → j ≤ mostSites + 1 → size ≡ levelSize (g .measures) (g .heights) → j * size ≤ mostTable
-  place-small j size h e = mul-le-mul {n₂ = 33} {m₂ = mostLevel} h (omega (arith, level-small))
+  place-small j size h e = mul-le-mul {n₂ = mostSites + 1} {m₂ = mostLevel} h (omega (arith, level-small))
 
   -- rows of a level may be marked
   pub level-fits : {low area : ℕ} → low + levelSize (g .measures) (g .heights) ≤ area → LevelFits (g .measures) (length (g .heights)) low area

@@ -8,6 +8,7 @@ use Rattle.table.proofs.entries.opened.Tie as tie
 use Rattle.table.proofs.entries.opened.Reads as reads
 use Rattle.table.proofs.entries.opened.Lts as lts
 use Rattle.rows.proofs.budgets.least_split.Reads as least-split-reads
+use Rattle.sheet.specs.Limits.{topWord}
 
 returns : tie.Need-returns
 returns c =
@@ -28,14 +29,14 @@ cast-result c = search needs
 returns-2 : tie.Need-returns-2
 returns-2 c =
     let a = c .before .before .before .before .before .before .args in
-    let o : a .old ≤ 4294967295 = omega (arith, c .before .before .before .before .before .before .fits .old) in
+    let o : a .old ≤ topWord = omega (arith, c .before .before .before .before .before .before .fits .old) in
     let r : a .cost + c .before .least-split .result ≡ min (a .old) (a .cost + c .before .least-split .result) = omega arith in
     r ∙ rw (c .before .least-split .ensures) (opened-by (a .old) (a .u) (a .n) (a .cost) _ o (c .before .before .if1 .left))
 
 returns-3 : tie.Need-returns-3
 returns-3 c =
     let a = c .before .before .before .before .before .before .args in
-    let o : a .old ≤ 4294967295 = omega (arith, c .before .before .before .before .before .before .fits .old) in
+    let o : a .old ≤ topWord = omega (arith, c .before .before .before .before .before .before .fits .old) in
     let r : a .old ≡ min (a .old) (a .cost + c .before .least-split .result) = omega arith in
     r ∙ rw (c .before .least-split .ensures) (opened-by (a .old) (a .u) (a .n) (a .cost) _ o (c .before .before .if1 .left))
 
