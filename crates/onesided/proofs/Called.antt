@@ -26,7 +26,7 @@ use Rattle.arrays.specs.Arrays.{measuresOf}
 use Rattle.arrays.specs.Given as given
 use Rattle.arrays.specs.Given.{Given}
 use Rattle.arrays.proofs.Instances.{instance-by, points-by}
-use Rattle.rows.specs.Rest.{levelSize}
+use Rattle.rows.specs.Rows.{levelSize}
 use Rattle.costs.specs.Costs.{headWord}
 use Rattle.walk.specs.Walk.{levelWords}
 use Rattle.walk.specs.Laid.{leastCost, faultBy, writtenBy, outBy, laidFault, laidOut, laidWork}

@@ -17,10 +17,10 @@ use Rattle.search.specs.Split.{just}
 use Rattle.search.specs.Sums.{listing}
 use Rattle.search.proofs.Sums.{listing-first, length-listing}
 use native.Mathlib.Nat.{mul-le-mul}
-use Rattle.rows.specs.Rows.{Lies, mostLevel}
+use Rattle.rows.specs.Rows.{Lies, mostLevel, levelSize}
 use Rattle.rows.proofs.Places.{row-fits, rows-few}
 use Rattle.rows.specs.Budgets.{Within, partAt, splitBy}
-use Rattle.rows.specs.Rest.{splitRow, rowStart, levelSize, StripIn, LevelIn, joinRow, foldRows}
+use Rattle.rows.specs.Rest.{splitRow, rowStart, StripIn, LevelIn, joinRow, foldRows}
 use Rattle.sheet.specs.Limits.{mostSlots, mostColours, mostBudgets}
 
 -- ---- a row joined from the highest budget down

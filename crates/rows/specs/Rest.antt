@@ -11,15 +11,11 @@ use Rattle.search.specs.Sums.{listing}
 use Rattle.optimum.specs.OneSided.{topWord}
 use Rattle.rows.specs.Budgets.{Within, splitBy}
 use Rattle.rows.specs.Rows as rows
-use Rattle.rows.specs.Rows.{rowsOf}
+use Rattle.rows.specs.Rows.{levelSize}
 
 -- where the entries of a strip begin in its level: m slots, C colours, R budgets
 abbrev pub rowStart : (m C R a ca b cb : ℕ) → ℕ
 rowStart m C R a ca b cb = rows.rowOf m C (record { a = a; ca = ca; b = b; cb = cb; d = 0 }) * R
-
--- the words of a level
-abbrev pub levelSize : (m C R : ℕ) → ℕ
-levelSize m C R = rowsOf m C * R
 
 -- the numbers are a sheet's, and a strip's ends and colours are in range
 pub record StripIn (m C R a ca b cb : ℕ) : Type 0 where

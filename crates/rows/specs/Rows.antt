@@ -37,9 +37,12 @@ mostLevel = 12960000
 abbrev pub mostTable : ℕ
 mostTable = 427680000
 
--- the words of a level
-abbrev pub levelSize : Measures → (heights : List ℕ) → ℕ
-levelSize q hs = rowsOf (length hs) (q .colours) * q .budgets
+-- the words of a level: of m slots, C colours and R budgets; of a sheet's heights
+abbrev pub levelSize : (m C R : ℕ) → ℕ
+levelSize m C R = rowsOf m C * R
+
+abbrev pub levelOf : Measures → (heights : List ℕ) → ℕ
+levelOf q hs = levelSize (length hs) (q .colours) (q .budgets)
 
 -- a place of an area is a number of 64 bits
 abbrev pub mostPlace : ℕ

@@ -12,7 +12,7 @@ use Rattle.rows.specs.Budgets.{Others}
 use Rattle.labelling.specs.Entry.{zeroed}
 use Rattle.areas.proofs.Zeroed.{zeroed-before, zeroed-inside, zeroed-after}
 use Rattle.table.specs.Entries.{RowIs, entryBy}
-use Rattle.rows.specs.Rows.{rowOf, rowIn, levelSize, Lies, endPlace, endWords}
+use Rattle.rows.specs.Rows.{rowOf, rowIn, levelOf, Lies, endPlace, endWords}
 use Rattle.table.proofs.entries.Places.{same-rows}
 use Rattle.rows.proofs.Places.{row-fits}
 use Rattle.table.specs.Marks.{Shaped}
@@ -35,7 +35,7 @@ module _ (q : Measures) (hs bs parts counts left : List ℕ) (base low : ℕ) (s
       split u l c e n = omega arith
 
   -- a level, by its upper ends
-  size-is : levelSize q hs ≡ endPlace C (length hs + 2) 0 * endWords q hs
+  size-is : levelOf q hs ≡ endPlace C (length hs + 2) 0 * endWords q hs
   size-is = split (length hs + 2) (C + 1) (q .budgets)
     where
       split : (l c n : ℕ) → l * c * l * c * n ≡ (l * c + 0) * ((l * c + 0) * n)
@@ -55,7 +55,7 @@ module _ (q : Measures) (hs bs parts counts left : List ℕ) (base low : ℕ) (s
         absurd (omega (arith, h .falls, x .0, z));
   }
 
-  pub filled-more : (old new last : List ℕ) (r : Strip) (place at : ℕ) → base + levelSize q hs ≤ low → Lies (length hs) C r → place ≡ endPlace C (r .b) (r .cb)
+  pub filled-more : (old new last : List ℕ) (r : Strip) (place at : ℕ) → base + levelOf q hs ≤ low → Lies (length hs) C r → place ≡ endPlace C (r .b) (r .cb)
       → at ≡ base + row r → Filled old new (endPlace C (r .a) (r .ca)) place → Others new last at (q .budgets)
       → (getD new at 0 ≡ 1 → (v : ℕ) → v < q .budgets → getD last (at + v) 0 ≡ entryBy q hs bs parts counts left (rowIn new low (length hs) C (q .budgets)) r s v)
       → Filled old last (endPlace C (r .a) (r .ca)) (place + 1)
@@ -105,7 +105,7 @@ module _ (q : Measures) (hs bs parts counts left : List ℕ) (base low : ℕ) (s
   pub passed-none : (old : List ℕ) (place : ℕ) → place ≡ 0 → Passed old old place
   passed-none old place e = record { others = record { before = λ i h. refl; after = λ i h. refl }; rows = λ p t l. absurd (omega (arith, e, l)) }
 
-  pub passed-more : (old new last : List ℕ) (slot colour : ℕ) → base + levelSize q hs ≤ low → slot ≤ length hs → colour ≤ C → Passed old new (endPlace C slot colour)
+  pub passed-more : (old new last : List ℕ) (slot colour : ℕ) → base + levelOf q hs ≤ low → slot ≤ length hs → colour ≤ C → Passed old new (endPlace C slot colour)
       → Others new last (base + endPlace C slot colour * endWords q hs) (endWords q hs)
       → ((p : Strip) → Shaped (length hs) C p → endPlace C (p .a) (p .ca) ≡ endPlace C slot colour → RowFilled q hs bs parts counts left new last base low s p)
       → Passed old last (endPlace C slot colour + 1)
@@ -133,7 +133,7 @@ module _ (q : Measures) (hs bs parts counts left : List ℕ) (base low : ℕ) (s
           omega (arith, row-at p, x, y)
 
   pub passed-all : (old new : List ℕ) (c d : ℕ) → length hs + 1 ≤ c → endPlace C c d ≤ endPlace C (length hs + 1) 0 → Passed old new (endPlace C c d)
-      → Others old new base (levelSize q hs) × ((p : Strip) → Shaped (length hs) C p → RowFilled q hs bs parts counts left old new base low s p)
+      → Others old new base (levelOf q hs) × ((p : Strip) → Shaped (length hs) C p → RowFilled q hs bs parts counts left old new base low s p)
   passed-all old new c d h k f = (
     record { before = f .others .before; after = λ i u. f .others .after i (omega (arith, u, within)) },
     λ p t. f .rows p t (later-end C (p .a) (p .ca) c d (omega (arith, t .lies .caLow)) (omega (arith, t .lies .bLow, t .falls))),
@@ -142,11 +142,11 @@ module _ (q : Measures) (hs bs parts counts left : List ℕ) (base low : ℕ) (s
       few : endPlace C c d ≤ endPlace C (length hs + 2) 0
       few = omega (arith, k)
 
-      within : endPlace C c d * endWords q hs ≤ levelSize q hs
+      within : endPlace C c d * endWords q hs ≤ levelOf q hs
       within = omega (arith, mul-le-mul {n₂ = endPlace C (length hs + 2) 0} {m₂ = endWords q hs} few (le-refl (endWords q hs)), size-is)
 
   -- a row of the level
-  pub row-low : (p : Strip) (at : ℕ) → base + levelSize q hs ≤ low → Lies (length hs) C p → at ≡ base + row p → at + q .budgets ≤ low
+  pub row-low : (p : Strip) (at : ℕ) → base + levelOf q hs ≤ low → Lies (length hs) C p → at ≡ base + row p → at + q .budgets ≤ low
   row-low p at h l e = omega (arith, e, h, row-fits (length hs) C (q .budgets) p l)
 
   -- the same upper end, by an equation

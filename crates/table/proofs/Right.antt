@@ -23,7 +23,7 @@ use Rattle.arrays.specs.declared.Measures.{Measures}
 use Rattle.arrays.specs.Given.{Given, instanceOf, pointsOf, OfSheet, SiteIn}
 use Rattle.strips.specs.Strips.{instanceOn}
 use Rattle.rows.specs.Budgets.{Others, Splits, leftBy}
-use Rattle.rows.specs.Rows.{rowOf, rowsOf, rowIn, levelSize, upperPart, lowerPart}
+use Rattle.rows.specs.Rows.{rowOf, rowsOf, rowIn, levelOf, upperPart, lowerPart}
 use Rattle.rows.proofs.Places.{row-low, row-fits}
 use Rattle.table.proofs.entries.Entries.{Falls, cell-row, entry-by}
 use Rattle.table.specs.Marks.{Shaped, ReachMarked}
@@ -70,7 +70,7 @@ module _ {g : Given} (o : OfSheet g) where
   shape j h p r = reached-shape o j h p (reached-on q hs bs rs ds ss j p r)
 
   -- past the last site nothing is left: the level of zeros
-  pub last-right : (work : List ℕ) (base : ℕ) → ((i : ℕ) → i < levelSize q hs → getD work (base + i) 0 ≡ 0) → LevelRight P q ss (length xs) work base
+  pub last-right : (work : List ℕ) (base : ℕ) → ((i : ℕ) → i < levelOf q hs → getD work (base + i) 0 ≡ 0) → LevelRight P q ss (length xs) work base
   last-right work base z p v r u =
       let l = shape (length xs) (omega arith) p r .lies in
       z _ (row-inside (rowOf (length hs) (q .colours) p) (rowsOf (length hs) (q .colours)) (q .budgets) v (row-low (length hs) (q .colours) p l) u)
@@ -124,12 +124,12 @@ module _ {g : Given} (o : OfSheet g) where
   site-stands j s e h = subst (SiteIn q) (sym e) (o .siteIn j h)
 
   -- THE TABLE, from its levels
-  pub table-right : (work : List ℕ) → ((j : ℕ) → j ≤ length xs → LevelRight P q ss j work (j * levelSize q hs)) → TableOf P (q .colours) (q .budgets) ss work
+  pub table-right : (work : List ℕ) → ((j : ℕ) → j ≤ length xs → LevelRight P q ss j work (j * levelOf q hs)) → TableOf P (q .colours) (q .budgets) ss work
   unfolding TableOf
   table-right work levels j p v l r u =
       let h : j ≤ length xs = omega (arith, sites-many) in
       let e = cell-row P (q .colours) (q .budgets) p v refl (shape j h p r .lies .dLow) in
-      let z : cells P (q .colours) (q .budgets) ≡ levelSize q hs = size (length hs + 2) (q .colours + 1) (q .budgets) in
+      let z : cells P (q .colours) (q .budgets) ≡ levelOf q hs = size (length hs + 2) (q .colours + 1) (q .budgets) in
       ap₂ (λ (a b : ℕ). getD work (j * a + b) 0) z e ∙ levels j h p v r u
     where
       size : (a b n : ℕ) → a * b * a * b * 1 * n ≡ a * b * a * b * n
@@ -143,13 +143,13 @@ module _ {g : Given} (o : OfSheet g) where
     pub past : (i : ℕ) → (length xs + 1) * size ≤ i → getD new i 0 ≡ getD old i 0
 
   -- a row of a level stands before a later level
-  before-level : (p : Strip) (i k size : ℕ) → size ≡ levelSize q hs → i < k → i ≤ length xs → Reached P ss i p → i * size + rowOf (length hs) (q .colours) p * q .budgets < k * size
+  before-level : (p : Strip) (i k size : ℕ) → size ≡ levelOf q hs → i < k → i ≤ length xs → Reached P ss i p → i * size + rowOf (length hs) (q .colours) p * q .budgets < k * size
   before-level p i k size e h l r =
       let f = row-fits (length hs) (q .colours) (q .budgets) p (shape i l p r .lies) in
       let n : k ≡ suc i + (k - suc i) = omega arith in
       omega (arith, e, f, o .someBudget, ap (λ (z : ℕ). z * size) n)
 
-  pub done-last : (old new : List ℕ) (size : ℕ) → size ≡ levelSize q hs → ReachMarked (instanceOn q hs bs) q ss old (levelSize q hs) (length xs + 1)
+  pub done-last : (old new : List ℕ) (size : ℕ) → size ≡ levelOf q hs → ReachMarked (instanceOn q hs bs) q ss old (levelOf q hs) (length xs + 1)
       → Others old new (length xs * size) size → ((i : ℕ) → i < size → getD new (length xs * size + i) 0 ≡ 0) → Done new new size (length xs)
   done-last old new size e m d z = record {
     long = refl;
@@ -158,7 +158,7 @@ module _ {g : Given} (o : OfSheet g) where
     past = λ i h. refl;
   }
 
-  pub done-more : (old new last : List ℕ) (size j k : ℕ) → size ≡ levelSize q hs → j ≡ k + 1 → j ≤ length xs → length last ≡ length new → Others new last (k * size) size
+  pub done-more : (old new last : List ℕ) (size j k : ℕ) → size ≡ levelOf q hs → j ≡ k + 1 → j ≤ length xs → length last ≡ length new → Others new last (k * size) size
       → (LevelMarked P q ss k new (k * size) → LevelRight P q ss (k + 1) new ((k + 1) * size) → LevelRight P q ss k last (k * size))
       → Done old new size j → Done old last size k
   done-more old new last size j k e n lj l c f d = record {
@@ -174,16 +174,16 @@ module _ {g : Given} (o : OfSheet g) where
       later i x h = let n : i ≡ suc k + (i - suc k) = omega arith in omega (arith, ap (λ (z : ℕ). z * size) n)
 
   -- all levels: the table is right, and what lies past it is as it was
-  pub done-all : (first mid old new : List ℕ) (size : ℕ) → size ≡ levelSize q hs → length old ≡ length first
-      → ((i : ℕ) → (length xs + 1) * levelSize q hs ≤ i → getD mid i 0 ≡ getD first i 0) → Others mid old (length xs * size) size → Done old new size 0
-      → TableOf P (q .colours) (q .budgets) ss new × (drop ((length xs + 1) * levelSize q hs) new ≡ drop ((length xs + 1) * levelSize q hs) first)
+  pub done-all : (first mid old new : List ℕ) (size : ℕ) → size ≡ levelOf q hs → length old ≡ length first
+      → ((i : ℕ) → (length xs + 1) * levelOf q hs ≤ i → getD mid i 0 ≡ getD first i 0) → Others mid old (length xs * size) size → Done old new size 0
+      → TableOf P (q .colours) (q .budgets) ss new × (drop ((length xs + 1) * levelOf q hs) new ≡ drop ((length xs + 1) * levelOf q hs) first)
   done-all first mid old new size e l m c d = (
     table-right new (λ j l. rw e at (d .levels j (omega arith) l)),
-    ext-getD 0 _ _ (length-drop _ new ∙ ap (λ (n : ℕ). n - (length xs + 1) * levelSize q hs) (d .long ∙ l) ∙ sym (length-drop _ first))
+    ext-getD 0 _ _ (length-drop _ new ∙ ap (λ (n : ℕ). n - (length xs + 1) * levelOf q hs) (d .long ∙ l) ∙ sym (length-drop _ first))
         (λ i h. at-drop new _ i ∙ past i ∙ sym (at-drop first _ i)),
   )
     where
-      past : (i : ℕ) → getD new ((length xs + 1) * levelSize q hs + i) 0 ≡ getD first ((length xs + 1) * levelSize q hs + i) 0
+      past : (i : ℕ) → getD new ((length xs + 1) * levelOf q hs + i) 0 ≡ getD first ((length xs + 1) * levelOf q hs + i) 0
       past i =
           let s = ap (λ (z : ℕ). (length xs + 1) * z) e in
           d .past _ (omega arith) ∙ c .after _ (omega (arith, next-level (length xs) size)) ∙ m _ (omega arith)

@@ -1,4 +1,4 @@
--- The one-sided table, level by level: level j, where the first j sites are tied, stands from word j * levelSize on. Definitions.
+-- The one-sided table, level by level: level j, where the first j sites are tied, stands from word j * levelOf on. Definitions.
 use mathlib.Core.Path.{_≡_}
 use mathlib.Core.List.{List}
 use Prim.Native.Nat.{ℕ, _+_, _*_, _<_, _≤_}
@@ -10,7 +10,7 @@ use Rattle.arrays.specs.declared.Measures.{Measures}
 use Rattle.arrays.specs.Given.{Given, instanceOf, pointsOf, OfSheet, Bounded}
 use Rattle.rows.specs.declared.End.{End}
 use Rattle.rows.specs.Budgets.{Others, Splits}
-use Rattle.rows.specs.Rows.{rowOf, levelSize, rowIn, endPlace, endWords}
+use Rattle.rows.specs.Rows.{rowOf, levelOf, rowIn, endPlace, endWords}
 use Rattle.rows.specs.Parts.{Marked}
 use Rattle.table.specs.Marks.{Shaped, Level, slotsIn, coloursIn, wordsIn, Ready, HasEnd, TableFits}
 use Rattle.table.specs.Entries.{BudgetsListed, entryBy}
@@ -74,4 +74,4 @@ SiteFilled g size j old new = Others old new (j * size) size × (MarkedAt g size
 abbrev pub TableRight : Given → (old new : List ℕ) → Type 0
 TableRight g old new =
     TableOf (instanceOf g) (g .measures .colours) (g .measures .budgets) (pointsOf g) new
-    × (drop ((length (g .xs) + 1) * levelSize (g .measures) (g .heights)) new ≡ drop ((length (g .xs) + 1) * levelSize (g .measures) (g .heights)) old)
+    × (drop ((length (g .xs) + 1) * levelOf (g .measures) (g .heights)) new ≡ drop ((length (g .xs) + 1) * levelOf (g .measures) (g .heights)) old)

@@ -12,7 +12,7 @@ use Rattle.strips.specs.Strips.{instanceOn}
 use Rattle.strips.specs.declared.Window.{Window}
 use Rattle.rows.specs.declared.End.{End}
 use Rattle.rows.specs.Parts.{Marked, Marking, PartsMarked, LevelFits}
-use Rattle.rows.specs.Rows.{upperEnd, rowsOf, levelSize, Lies, endPlace}
+use Rattle.rows.specs.Rows.{upperEnd, rowsOf, levelOf, Lies, endPlace}
 
 -- what the whole sheet leads to has this shape: its upper end stands above its lower end
 pub record Shaped (m C : ℕ) (p : Strip) : Type 0 where
@@ -44,7 +44,7 @@ abbrev pub budgetsIn : Level → ℕ
 budgetsIn l = l .arrays .measures .budgets
 
 abbrev pub wordsIn : Level → ℕ
-wordsIn l = levelSize (l .arrays .measures) (l .arrays .heights)
+wordsIn l = levelOf (l .arrays .measures) (l .arrays .heights)
 
 abbrev pub stripsIn : Level → Instance
 stripsIn l = instanceOn (l .arrays .measures) (l .arrays .heights) (l .arrays .bounds)
@@ -122,11 +122,11 @@ onSites q hs bs xs ys cs = given q hs bs [] [] xs ys cs [] [] []
 
 -- the levels of all sites stand in an area of so many words
 abbrev pub TableFits : Given → (area : ℕ) → Type 0
-TableFits g area = (length (g .xs) + 1) * levelSize (g .measures) (g .heights) ≤ area
+TableFits g area = (length (g .xs) + 1) * levelOf (g .measures) (g .heights) ≤ area
 
 -- level j, of so many words, is one of them, and a site comes next
 abbrev pub LevelAt : Given → (size j : ℕ) → Type 0
-LevelAt g size j = (size ≡ levelSize (g .measures) (g .heights)) × (j < length (g .xs))
+LevelAt g size j = (size ≡ levelOf (g .measures) (g .heights)) × (j < length (g .xs))
 
 -- what level j leads to is marked in level j + 1
 abbrev pub SiteLed : Given → (size j : ℕ) → (old new : List ℕ) → Type 0
@@ -143,5 +143,5 @@ ReachMarked P q ss work size levels =
 -- at all levels, and the words past them are as before
 abbrev pub SheetMarked : Given → (old new : List ℕ) → Type 0
 SheetMarked g old new =
-    ReachMarked (instanceOn (g .measures) (g .heights) (g .bounds)) (g .measures) (pointsOf g) new (levelSize (g .measures) (g .heights)) (length (g .xs) + 1)
-    × ((i : ℕ) → (length (g .xs) + 1) * levelSize (g .measures) (g .heights) ≤ i → getD new i 0 ≡ getD old i 0)
+    ReachMarked (instanceOn (g .measures) (g .heights) (g .bounds)) (g .measures) (pointsOf g) new (levelOf (g .measures) (g .heights)) (length (g .xs) + 1)
+    × ((i : ℕ) → (length (g .xs) + 1) * levelOf (g .measures) (g .heights) ≤ i → getD new i 0 ≡ getD old i 0)

@@ -30,7 +30,8 @@ use Rattle.optimum.proofs.Reached.{reached-next, reached-rows}
 use Rattle.optimum.proofs.Pairs.{zeros}
 use Rattle.rows.specs.Budgets.{Splits}
 use Rattle.rows.proofs.Splitting.{split-by}
-use Rattle.rows.specs.Rest.{rowStart, levelSize, splitRow, joinRow, foldRows, restRows}
+use Rattle.rows.specs.Rows.{levelSize}
+use Rattle.rows.specs.Rest.{rowStart, splitRow, joinRow, foldRows, restRows}
 use Rattle.walk.specs.Walk.{Found, valueIn}
 use Rattle.rows.proofs.Folding.{join-long}
 

@@ -8,7 +8,8 @@ use Rattle.optimum.specs.Strips.{Point, Instance, State, labels as process}
 use Rattle.optimum.specs.OneSided.{topWord, writeTies}
 use Rattle.arrays.specs.Given.{Given, instanceOf, pointsOf, OfSheet, Bounded, Ranked}
 use Rattle.rows.specs.Budgets.{Splits}
-use Rattle.rows.specs.Rest.{levelSize, restRows}
+use Rattle.rows.specs.Rows.{levelSize}
+use Rattle.rows.specs.Rest.{restRows}
 
 -- each step of the walk by these values finds its slot
 unfoldable pub Found : {X Site : Type 0} (G : Process X Site) → (X → List Site → ℕ) → X → List Site → Type 0

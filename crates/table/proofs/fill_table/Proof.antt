@@ -1,4 +1,4 @@
-use Rattle.rows.specs.Rows.{levelSize}
+use Rattle.rows.specs.Rows.{levelOf}
 use Rattle.table.proofs.marks.Levels.{level-small, place-small, last-within}
 use mathlib.Core.List.{[]}
 use Rattle.arrays.specs.Given.{given, OfSheet}
@@ -19,7 +19,7 @@ use Rattle.rows.proofs.rows_of.Reads as rows-of-reads
 use Rattle.table.proofs.zero_level.Reads as zero-level-reads
 
 abbrev Inv-loop : tie.InvT-loop
-Inv-loop work₀ q heights bounds radices draws parts counts xs ys cs rows size j₀ work j = (size ≡ levelSize q heights) × (j ≤ length xs) × (length work ≡ length work₀) × ((o : OfSheet (given q heights bounds radices draws xs ys cs [] parts counts)) → Done o work₀ work size j)
+Inv-loop work₀ q heights bounds radices draws parts counts xs ys cs rows size j₀ work j = (size ≡ levelOf q heights) × (j ≤ length xs) × (length work ≡ length work₀) × ((o : OfSheet (given q heights bounds radices draws xs ys cs [] parts counts)) → Done o work₀ work size j)
 
 abbrev μ-loop : tie.MeasureT-loop
 μ-loop work₀ q heights bounds radices draws parts counts xs ys cs rows size j₀ work j = j

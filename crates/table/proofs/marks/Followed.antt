@@ -11,7 +11,7 @@ use Rattle.optimum.specs.Strips.{Point, Strip, Instance}
 use Rattle.optimum.specs.Reached.{Asks}
 use Rattle.arrays.specs.declared.Measures.{Measures}
 use Rattle.strips.specs.Strips.{instanceOn}
-use Rattle.rows.specs.Rows.{rowOf, levelSize, Lies, endPlace, upperEnd}
+use Rattle.rows.specs.Rows.{rowOf, levelOf, Lies, endPlace, upperEnd}
 use Rattle.rows.proofs.Places.{row-fits}
 use Rattle.table.proofs.marks.Levels.{level-fits}
 use Rattle.table.specs.Marks.{Ready, Shaped, Led, Level, slotsIn, coloursIn, budgetsIn, wordsIn}
@@ -78,7 +78,7 @@ module _ (q : Measures) (hs bs : List ℕ) (base low : ℕ) (s : Point) where
   P = instanceOn q hs bs
 
   pub record Followed (old new : List ℕ) (above place : ℕ) : Type 0 where
-    pub marking : Marking old new low (levelSize q hs)
+    pub marking : Marking old new low (levelOf q hs)
     pub led : (p : Strip) → Shaped (length hs) (q .colours) p → endPlace (q .colours) (p .a) (p .ca) ≡ above → endPlace (q .colours) (p .b) (p .cb) < place → Led P q old new base low s p
 
   pub followed-none : (old : List ℕ) (a ca place : ℕ) → ca ≤ q .colours → place ≡ endPlace (q .colours) (a + 1) 0 → Followed old old (endPlace (q .colours) a ca) place
@@ -90,9 +90,9 @@ module _ (q : Measures) (hs bs : List ℕ) (base low : ℕ) (s : Point) where
         absurd (omega (arith, h .falls, x .0, z));
   }
 
-  pub followed-more : (old new last : List ℕ) (r : Strip) (place at : ℕ) → base + levelSize q hs ≤ low → Lies (length hs) (q .colours) r → place ≡ endPlace (q .colours) (r .b) (r .cb)
+  pub followed-more : (old new last : List ℕ) (r : Strip) (place at : ℕ) → base + levelOf q hs ≤ low → Lies (length hs) (q .colours) r → place ≡ endPlace (q .colours) (r .b) (r .cb)
       → at ≡ base + rowOf (length hs) (q .colours) r * q .budgets → 0 < q .budgets
-      → Followed old new (endPlace (q .colours) (r .a) (r .ca)) place → Marking new last low (levelSize q hs)
+      → Followed old new (endPlace (q .colours) (r .a) (r .ca)) place → Marking new last low (levelOf q hs)
       → (getD new at 0 ≡ 1 → (x : Strip) → Asks P r s x → Marked last low (length hs) (q .colours) (q .budgets) x)
       → Followed old last (endPlace (q .colours) (r .a) (r .ca)) (place + 1)
   followed-more old new last r place at h l e f n d g k = record {
@@ -111,13 +111,13 @@ module _ (q : Measures) (hs bs : List ℕ) (base low : ℕ) (s : Point) where
 
   -- the strips below all upper ends, up to one
   pub record Passed (old new : List ℕ) (place : ℕ) : Type 0 where
-    pub marking : Marking old new low (levelSize q hs)
+    pub marking : Marking old new low (levelOf q hs)
     pub led : (p : Strip) → Shaped (length hs) (q .colours) p → endPlace (q .colours) (p .a) (p .ca) < place → Led P q old new base low s p
 
   pub passed-none : (old : List ℕ) (place : ℕ) → place ≡ 0 → Passed old old place
   passed-none old place e = record { marking = marking-none _ _ _; led = λ p t l. absurd (omega (arith, e, l)) }
 
-  pub passed-more : (old new last : List ℕ) (place : ℕ) → base + levelSize q hs ≤ low → 0 < q .budgets → Passed old new place → Marking new last low (levelSize q hs)
+  pub passed-more : (old new last : List ℕ) (place : ℕ) → base + levelOf q hs ≤ low → 0 < q .budgets → Passed old new place → Marking new last low (levelOf q hs)
       → ((p : Strip) → Shaped (length hs) (q .colours) p → endPlace (q .colours) (p .a) (p .ca) ≡ place → Led P q new last base low s p) → Passed old last (place + 1)
   passed-more old new last place h n d g k = record {
     marking = marking-join _ _ _ _ _ (d .marking) g;

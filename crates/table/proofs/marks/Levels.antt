@@ -6,7 +6,7 @@ use native.Mathlib.Omega.{arith}
 use lib.ListN.{length}
 use Rattle.sheet.specs.Limits.{mostBudgets, mostSites}
 use Rattle.arrays.specs.Given.{Given, OfSheet}
-use Rattle.rows.specs.Rows.{levelSize, mostRows, mostLevel, mostTable}
+use Rattle.rows.specs.Rows.{levelOf, mostRows, mostLevel, mostTable}
 use Rattle.rows.specs.Parts.{LevelFits}
 use Rattle.rows.proofs.Places.{rows-few}
 
@@ -21,14 +21,14 @@ level-within j n size level area s h l =
     rw s (omega arith, omega arith)
 
 module _ {g : Given} (o : OfSheet g) where
-  pub level-small : levelSize (g .measures) (g .heights) ≤ mostLevel
+  pub level-small : levelOf (g .measures) (g .heights) ≤ mostLevel
   level-small = mul-le-mul {n₂ = mostRows} {m₂ = mostBudgets} (rows-few (length (g .heights)) (g .measures .colours) (o .fewSlots) (o .fewColours)) (o .fewBudgets)
 
-  pub place-small : (j size : ℕ) → j ≤ mostSites + 1 → size ≡ levelSize (g .measures) (g .heights) → j * size ≤ mostTable
+  pub place-small : (j size : ℕ) → j ≤ mostSites + 1 → size ≡ levelOf (g .measures) (g .heights) → j * size ≤ mostTable
   place-small j size h e = mul-le-mul {n₂ = mostSites + 1} {m₂ = mostLevel} h (omega (arith, level-small))
 
   -- rows of a level may be marked
-  pub level-fits : {low area : ℕ} → low + levelSize (g .measures) (g .heights) ≤ area → LevelFits (g .measures) (length (g .heights)) low area
+  pub level-fits : {low area : ℕ} → low + levelOf (g .measures) (g .heights) ≤ area → LevelFits (g .measures) (length (g .heights)) low area
   level-fits h =
       record { fewSlots = o .fewSlots; fewColours = o .fewColours; fewBudgets = o .fewBudgets; someBudget = o .someBudget; within = h }
 

@@ -16,7 +16,7 @@ use Rattle.arrays.specs.Arrays.{instanceBy}
 use Rattle.arrays.specs.Given.{Given, pointsOf, OfSheet, SiteIn}
 use Rattle.arrays.proofs.Narrowed.{on-slots}
 use Rattle.strips.specs.Strips.{instanceOn}
-use Rattle.rows.specs.Rows.{rowOf, levelSize, upperPart, lowerPart, upperEnd}
+use Rattle.rows.specs.Rows.{rowOf, levelOf, upperPart, lowerPart, upperEnd}
 use Rattle.rows.proofs.Places.{upper-lies, lower-lies}
 use Rattle.table.specs.Marks.{Shaped, Led, ReachMarked}
 use Rattle.rows.specs.Parts.{Marked, Marking}
@@ -40,8 +40,8 @@ reached-on q hs bs rs ds ss (suc j) p (x, r, a) = (x, reached-on q hs bs rs ds s
 
 -- ---- a level by its size and its site
 
-pub at-site : (q : Measures) (hs bs old new : List ℕ) (size base low : ℕ) (s t : Point) → size ≡ levelSize q hs → t ≡ s
-    → Marking old new low (levelSize q hs) × ((p : Strip) → Shaped (length hs) (q .colours) p → Led (instanceOn q hs bs) q old new base low s p)
+pub at-site : (q : Measures) (hs bs old new : List ℕ) (size base low : ℕ) (s t : Point) → size ≡ levelOf q hs → t ≡ s
+    → Marking old new low (levelOf q hs) × ((p : Strip) → Shaped (length hs) (q .colours) p → Led (instanceOn q hs bs) q old new base low s p)
     → Marking old new low size × ((p : Strip) → Shaped (length hs) (q .colours) p → Led (instanceOn q hs bs) q old new base low t p)
 at-site q hs bs old new size base low s t e f h = rw (e, f) h
 

@@ -2,7 +2,7 @@ use native.Mathlib.Nat.{mul-le-mul}
 use Rattle.arrays.specs.Arrays.{pointsBy}
 use Rattle.strips.specs.Strips.{instanceOn}
 use Rattle.arrays.specs.Given.{OfSheet}
-use Rattle.rows.specs.Rows.{levelSize}
+use Rattle.rows.specs.Rows.{levelOf}
 use Rattle.rows.proofs.Places.{rows-few}
 use Rattle.table.specs.Marks.{onSites, ReachMarked}
 use Rattle.table.proofs.marks.Levels.{level-small, count-words, first-within, past-level, few, few-rows, level-fits}
@@ -21,7 +21,7 @@ use Rattle.table.proofs.marks.mark_own.Reads as mark-own-reads
 use Rattle.table.proofs.marks.mark_site.Reads as mark-site-reads
 
 abbrev Inv-loop : tie.InvT-loop
-Inv-loop work₀ q heights bounds xs ys cs rows n size j₀ work j = (size ≡ levelSize q heights) × (j ≤ length xs) × (length work ≡ length work₀) × (OfSheet (onSites q heights bounds xs ys cs) → ReachMarked (instanceOn q heights bounds) q (pointsBy xs ys cs) work size (j + 1)) × ((i : ℕ) → (length xs + 1) * size ≤ i → getD work i 0 ≡ getD work₀ i 0)
+Inv-loop work₀ q heights bounds xs ys cs rows n size j₀ work j = (size ≡ levelOf q heights) × (j ≤ length xs) × (length work ≡ length work₀) × (OfSheet (onSites q heights bounds xs ys cs) → ReachMarked (instanceOn q heights bounds) q (pointsBy xs ys cs) work size (j + 1)) × ((i : ℕ) → (length xs + 1) * size ≤ i → getD work i 0 ≡ getD work₀ i 0)
 
 abbrev μ-loop : tie.MeasureT-loop
 μ-loop work₀ q heights bounds xs ys cs rows n size j₀ work j = length xs - j
