@@ -7,9 +7,9 @@
 mod integer_program;
 mod machine;
 mod process;
-mod same_loops;
 mod sheets;
 mod timing;
+mod word_loops;
 
 use integer_program::{Outcome, Solver};
 use model::program::WORK_WORDS;
@@ -124,7 +124,7 @@ fn print_growth() {
 
 fn print_judges(named: &[Named]) {
     println!("\n## The judge\n");
-    println!("| stored sheet | n | m | library | same loops in Rust | library / same loops | decoding judge | library / decoding |");
+    println!("| stored sheet | n | m | library | loops over words in Rust | library / loops over words | decoding judge | library / decoding |");
     println!("|---|---|---|---|---|---|---|---|");
     for Named { name, sheet } in named.iter().filter(|named| named.sheet.work_words() < 100_000_000) {
         let mut areas = Areas::of(sheet);
@@ -132,7 +132,7 @@ fn print_judges(named: &[Named]) {
         let stored = [sheet.words(), areas.answer].concat();
         let [library, loops, decoding] = race([
             &mut || assert_eq!(backbone::judge(black_box(&stored)), Ok(None)),
-            &mut || assert_eq!(same_loops::judge(black_box(&stored)), (0, 0)),
+            &mut || assert_eq!(word_loops::judge(black_box(&stored)), (0, 0)),
             &mut || assert_eq!(rules::judge(black_box(&stored)), (0, 0)),
         ]);
         let (sites, slots) = (sheet.sites.len(), sheet.slots.len());

@@ -1,7 +1,7 @@
-//! The library's judge once more, function by function, in safe Rust: loops over pairs of stored words, each word
-//! taken apart where it is met, no list of slots, labels or sites. It is what the library's judge is timed against.
+//! A judge in safe Rust that decodes nothing: loops over pairs of stored words, each word taken apart where it is met,
+//! no list of slots, labels or sites. The library's judge, which decodes a sheet once, is timed against it.
 //!
-//! The loops take a test as a function, so that each is compiled for its test; the library's take a test's name.
+//! The loops take a test as a function, so that each is compiled for its test.
 
 mod fields;
 mod pairs;

@@ -1,4 +1,4 @@
-//! The same loops against the library and against the judge that decodes.
+//! The loops over words against the library and against the judge that decodes.
 
 use super::judge;
 use backbone::Rule;
