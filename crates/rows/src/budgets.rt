@@ -76,15 +76,14 @@ fn lower(a: u64, b: u64) -> u64
 pub fn least_split(
     parts: &[u8],
     counts: &[u8],
-    budgets: usize,
     f: &[u32],
     from: usize,
     g: &[u32],
     at: usize,
     u: usize,
 ) -> u32
-    requires { ⌜ Within budgets (now parts) (now counts) ⌝ }
-    requires { ⌜ (u < budgets) × (from + budgets ≤ length (now f)) × (at + budgets ≤ length (now g)) ⌝ }
+    requires { ⌜ Within (u + 1) (now parts) (now counts) ⌝ }
+    requires { ⌜ (from + u < length (now f)) × (at + u < length (now g)) ⌝ }
     ensures { λ r. ⌜ r ≡ splitBy (now (parts .entry)) (now (counts .entry)) (λ w. getD (now (f .entry)) (from + w) 0) (λ w. getD (now (g .entry)) (at + w) 0) u ⌝ }
 {
     let base = u * BUDGETS_LENGTH;

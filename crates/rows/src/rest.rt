@@ -32,7 +32,7 @@ fn join_row(parts: &[u8], counts: &[u8], acc: &mut [u32], work: &[u32], row: usi
     let mut v = n;
     while v > 0 {
         v -= 1;
-        acc[v] = least_split(parts, counts, n, acc, 0, work, row, v);
+        acc[v] = least_split(parts, counts, acc, 0, work, row, v);
     }
 }
 

@@ -52,7 +52,7 @@ fn opened(
     if n <= u {
         return old;
     }
-    let t = (cost as u64) + (least_split(parts, counts, n, work, upper, work, lower, u) as u64);
+    let t = (cost as u64) + (least_split(parts, counts, work, upper, work, lower, u) as u64);
     if t < old as u64 {
         return t as u32;
     }

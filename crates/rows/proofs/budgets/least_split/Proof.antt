@@ -14,17 +14,17 @@ use Rattle.rows.proofs.budgets.least_split.Lts as lts
 use Rattle.rows.proofs.budgets.lower.Reads as lower-reads
 
 abbrev Inv-loop : tie.InvT-loop
-Inv-loop parts counts budgets f from g at u base end n best₀ i₀ best i = (i ≤ n) × (best ≤ topWord) × (best ≡ least topWord i (λ k. plus topWord (getD f (from + partAt parts u k) 0) (getD g (at + (u - partAt parts u k)) 0)))
+Inv-loop parts counts f from g at u base end n best₀ i₀ best i = (i ≤ n) × (best ≤ topWord) × (best ≡ least topWord i (λ k. plus topWord (getD f (from + partAt parts u k) 0) (getD g (at + (u - partAt parts u k)) 0)))
 
 abbrev μ-loop : tie.MeasureT-loop
-μ-loop parts counts budgets f from g at u base end n best₀ i₀ best i = n - i
+μ-loop parts counts f from g at u base end n best₀ i₀ best i = n - i
 
 -- what is listed for u is at most u
 part-low : (c : tie.In-loop Inv-loop μ-loop) → (partAt (c .before .before .before .before .before .before .before .args .parts .now) (c .before .before .before .before .before .before .before .args .u) (c .before .loop .i) ≤ c .before .before .before .before .before .before .before .args .u) × (c .before .loop .i < 64)
 part-low c =
     let a = c .before .before .before .before .before .before .before .args in
     let w = c .before .before .before .before .before .before .before .pre .0 in
-    let h = c .before .before .before .before .before .before .before .pre .1 .0 in
+    let h : a .u < a .u + 1 = omega arith in
     (w .small (a .u) (c .before .loop .i) h (c .loop-test .taken), omega (arith, w .counted (a .u) h))
 
 mul-base : tie.Need-mul-base Inv-loop μ-loop

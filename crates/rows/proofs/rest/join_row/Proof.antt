@@ -1,4 +1,5 @@
 use Rattle.rows.proofs.Folding.{Joined, joined-none, joined-more, joined-all}
+use Rattle.rows.proofs.Splitting.{within-less}
 use mathlib.Core.Path.{_≡_}
 use Prim.Native.Nat.{_-_}
 use native.Mathlib.Omega.{arith}
@@ -25,7 +26,7 @@ sub-v c = search needs
 least-split-requires : tie.Need-least-split-requires Inv-loop μ-loop
 least-split-requires c κs =
     let j = c .before .before .loop .inv in let p = c .before .before .before .before .before .before .before .pre in
-    (p .0, (omega (arith, j .within), omega (arith, j .long), p .1))
+    (within-less _ _ _ _ (omega (arith, j .within)) (p .0), (omega (arith, j .within, j .long), omega (arith, j .within, p .1)))
 
 mul-acc : tie.Need-mul-acc Inv-loop μ-loop
 mul-acc c =

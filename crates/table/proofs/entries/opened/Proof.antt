@@ -1,4 +1,5 @@
 use Rattle.table.proofs.entries.Lesser.{opened-past, opened-by}
+use Rattle.rows.proofs.Splitting.{within-less}
 use mathlib.Core.Path.{_≡_, _∙_}
 use Prim.Native.Nat.{_+_, _-_, _≤_, min}
 use native.Mathlib.Omega.{arith}
@@ -15,7 +16,9 @@ returns c =
     opened-past _ _ _ _ (omega (arith, c .before .before .before .before .fits .old)) (c .if1 .taken)
 
 least-split-requires : tie.Need-least-split-requires
-least-split-requires c κs = search needs
+least-split-requires c κs =
+    let p = c .before .before .before .before .pre in
+    (within-less _ _ _ _ (omega arith) (p .0), (omega (arith, p .1), omega (arith, p .2)))
 
 cast-t : tie.Need-cast-t
 cast-t c = search needs
