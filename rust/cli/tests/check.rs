@@ -20,9 +20,9 @@ fn check(text: &str) -> (Option<i32>, String) {
 }
 
 #[test]
-fn every_finding_on_sheet_a() {
+fn findings_of_lawful_layouts_and_of_claims() {
     let no_layout = SHEET_A.replace("gap 2", "gap 4");
-    let cases = [
+    hold(&[
         (stored_a(2, 19, [0, 0, 2]), 0, "best"),
         (stored_a(2, 19, [2, 2, 0]), 0, "equal: site 0 has slot 2, in the first of the equals slot 0"),
         (
@@ -30,6 +30,20 @@ fn every_finding_on_sheet_a() {
             1,
             "not best: 1 label more, 1 unit (0.125 points, 0.044 mm) shorter; best: labels 2 length 19",
         ),
+        (
+            stored_a(2, 19, [0, 0, 2]).replace("fewest", "shortest"),
+            1,
+            "not best: 1 label fewer, 1 unit (0.125 points, 0.044 mm) longer; best: labels 3 length 18",
+        ),
+        (format!("{SHEET_A}refused 10\n"), 1, "false no layout: best: labels 2 length 19"),
+        (format!("{no_layout}refused 10\n"), 0, "true no layout"),
+    ]);
+}
+
+/// Each rule and refusal that sheet A can show.
+#[test]
+fn findings_of_unlawful_layouts_and_of_refusals() {
+    hold(&[
         (
             stored_a(2, 16, [0, 0, 1]),
             1,
@@ -46,8 +60,6 @@ fn every_finding_on_sheet_a() {
             "unlawful: rule 6: the layout states 2 labels and length 18, but has 2 labels and length 19; \
              best: labels 2 length 19",
         ),
-        (format!("{SHEET_A}refused 10\n"), 1, "false no layout: best: labels 2 length 19"),
-        (format!("{no_layout}refused 10\n"), 0, "true no layout"),
         (
             stored_a(2, 16, [0, 0, 1]).replace("gap 2", "gap 4"),
             1,
@@ -69,16 +81,21 @@ fn every_finding_on_sheet_a() {
             1,
             "refused 5: a site's x is above the width: site 1 has x 6, and the width is 5",
         ),
-    ];
-    for (stored, code, line) in cases {
-        assert_eq!(check(&stored), (Some(code), line.to_string()), "{stored}");
-    }
+    ]);
+}
+
+#[test]
+fn equals_are_findings_where_that_is_asked_for() {
     let strict = |stored: String| run(["check", "--strict", "-"], stored.as_bytes()).code;
     assert_eq!(strict(stored_a(2, 19, [2, 2, 0])), Some(1), "an equal");
     assert_eq!(strict(stored_a(2, 19, [0, 0, 2])), Some(0), "the best");
-    let shortest = stored_a(2, 19, [0, 0, 2]).replace("fewest", "shortest");
-    let line = "not best: 1 label fewer, 1 unit (0.125 points, 0.044 mm) longer; best: labels 3 length 18";
-    assert_eq!(check(&shortest), (Some(1), line.to_string()));
+}
+
+/// Holds stored sheets to the exit code and the line that a check gives.
+fn hold(cases: &[(String, i32, &str)]) {
+    for (stored, code, line) in cases {
+        assert_eq!(check(stored), (Some(*code), line.to_string()), "{stored}");
+    }
 }
 
 /// The sites and slots that a finding names, as JSON gives them.
