@@ -2,7 +2,7 @@
 
 use crate::exit::Failure;
 use backbone::{Layout, NotLaidOut, Refusal, WorkArea};
-use model::maker::drop_loose_bounds;
+use model::maker::keep_binding_bounds;
 use model::sheet::{Sheet, MOST_BUDGETS};
 
 /// The maker with its work area. It is asked about the sheet without what can't make a difference, since the work area
@@ -15,7 +15,7 @@ pub struct Maker {
 impl Maker {
     /// The best layout of a sheet, or its refusal.
     pub fn lay_out(&mut self, sheet: &Sheet) -> Result<Result<Layout, Refusal>, Failure> {
-        match self.area.lay_out(&lean(sheet).words()) {
+        match self.area.lay_out(&reduced(sheet).words()) {
             Ok(layout) => Ok(Ok(layout)),
             Err(NotLaidOut::Refused(refusal)) => Ok(Err(refusal)),
             Err(problem) => Err(Failure::Unable(problem.to_string())),
@@ -30,19 +30,19 @@ impl Maker {
 
 /// The sheet without bounds that can't bind and without colours that have no sites: it has the same layouts. A sheet
 /// that the reader refuses for its bounds stays as it is.
-fn lean(sheet: &Sheet) -> Sheet {
-    let mut lean = sheet.clone();
+fn reduced(sheet: &Sheet) -> Sheet {
+    let mut reduced = sheet.clone();
     if sheet.budgets() > MOST_BUDGETS {
-        return lean;
+        return reduced;
     }
-    drop_loose_bounds(&mut lean);
-    for colour in (0..lean.bounds.len()).rev() {
-        if lean.sites.iter().all(|site| site.colour != colour) {
-            lean.bounds.remove(colour);
-            lean.sites.iter_mut().filter(|site| site.colour > colour).for_each(|site| site.colour -= 1);
+    keep_binding_bounds(&mut reduced);
+    for colour in (0..reduced.bounds.len()).rev() {
+        if reduced.sites.iter().all(|site| site.colour != colour) {
+            reduced.bounds.remove(colour);
+            reduced.sites.iter_mut().filter(|site| site.colour > colour).for_each(|site| site.colour -= 1);
         }
     }
-    lean
+    reduced
 }
 
 #[cfg(test)]
@@ -53,13 +53,13 @@ mod tests {
     #[test]
     fn what_is_left_out_makes_no_difference() {
         let mut random = Random::new(1705);
-        let (mut maker, mut leaner) = (Maker::default(), 0);
+        let (mut maker, mut reduced_sheets) = (Maker::default(), 0);
         for index in 0..4_000 {
             let sheet = if index % 4 == 0 { medium_sheet(&mut random) } else { small_sheet(&mut random) };
             assert_eq!(maker.lay_out(&sheet), Ok(backbone::lay_out(&sheet.words())), "{sheet:?}");
-            leaner += u32::from(lean(&sheet) != sheet);
+            reduced_sheets += u32::from(reduced(&sheet) != sheet);
         }
-        assert!(leaner > 1_000, "{leaner}");
+        assert!(reduced_sheets > 1_000, "{reduced_sheets}");
     }
 
     #[test]

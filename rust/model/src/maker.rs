@@ -12,7 +12,7 @@ pub fn make(words: &[u32], work: &mut [u32], answer: &mut [u32]) -> u32 {
 }
 
 /// A bound that is at least its colour's number of sites can't bind: without it the table is smaller.
-pub fn drop_loose_bounds(sheet: &mut Sheet) {
+pub fn keep_binding_bounds(sheet: &mut Sheet) {
     for (colour, bound) in sheet.bounds.iter_mut().enumerate() {
         let sites = sheet.sites.iter().filter(|site| site.colour == colour).count();
         if sites as u32 <= *bound {
@@ -30,7 +30,7 @@ fn make_sheet(mut sheet: Sheet, work: &mut [u32], answer: &mut [u32]) -> u32 {
         return 9;
     }
     let work = &mut work[..needed];
-    drop_loose_bounds(&mut sheet);
+    keep_binding_bounds(&mut sheet);
     let order = sheet.by_x();
     let best = if sheet.two_sided { two_sided::best } else { one_sided::best };
     let made = best(&sheet, &order, work);

@@ -5,7 +5,7 @@
 //! within a strip go to the lowest slot and then to the least share of the upper part, strip by strip.
 
 use crate::budgets::Budgets;
-use crate::maker::drop_loose_bounds;
+use crate::maker::keep_binding_bounds;
 use crate::places::{heights, PLACES};
 use crate::sheet::{Sheet, Site};
 use std::collections::HashMap;
@@ -96,9 +96,9 @@ struct Rival<'a> {
 
 /// The slots, in sheet order, that are best by the rounded lengths.
 pub fn lay_out(sheet: &Sheet, rounding: Rounding) -> Result<Vec<usize>, Unserved> {
-    let mut loose = sheet.clone();
-    drop_loose_bounds(&mut loose);
-    let mut rival = Rival::new(&loose, rounding, None)?;
+    let mut binding = sheet.clone();
+    keep_binding_bounds(&mut binding);
+    let mut rival = Rival::new(&binding, rounding, None)?;
     let mut slot_of = vec![0; sheet.sites.len()];
     let (root, all) = (rival.root(), rival.budgets.count - 1);
     rival.best(root, all).ok_or(Unserved::NoLayout)?;
