@@ -36,7 +36,8 @@ pub fn is_under(heights: &[u32], b: u32, y: u32) -> bool
     less(y, get(heights, k))
 }
 
-// The edge or label j, of colour e, lets a label of colour c be at slot k.
+// The edge or label j, of colour e, lets a label of colour c be at slot k. The definition is by both colours, as are its callers:
+// that every label is equally high, so that neither is read, is known here alone.
 pub fn is_far(q: Measures, heights: &[u32], j: u32, e: u32, k: u32, c: u32) -> bool
     ensures { λ r. ⌜ r ≡ model.farFrom (slotsBy q (now (heights .entry))) j e k c ⌝ }
 {

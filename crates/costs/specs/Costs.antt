@@ -1,7 +1,7 @@
 -- A cost in one word: definitions.
 use mathlib.Core.Bool.{cond}
 use Prim.Native.Nat.{ℕ, _+_, _*_, _/_, _%_}
-use Rattle.sheet.specs.Limits.{kindTop, lengthTop}
+use Rattle.labelling.specs.Layout.{firstWord}
 use Rattle.optimum.specs.CostWord.{countLimit, lengthLimit}
 use Rattle.arrays.specs.declared.Measures.{Measures}
 
@@ -20,6 +20,6 @@ countBy q w = cond (q .shortest) (w % countLimit) (w / lengthLimit)
 abbrev pub lengthBy : Measures → (cost : ℕ) → ℕ
 lengthBy q w = cond (q .shortest) (w / countLimit) (w % lengthLimit)
 
--- a layout's first word: kind 8, the count above the length
-abbrev pub headWord : Measures → (cost : ℕ) → ℕ
-headWord q w = 8 * kindTop + countBy q w * lengthTop + lengthBy q w
+-- a layout's first word, by its cost
+abbrev pub firstWordBy : Measures → (cost : ℕ) → ℕ
+firstWordBy q w = firstWord (countBy q w) (lengthBy q w)

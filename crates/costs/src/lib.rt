@@ -3,7 +3,7 @@ pub mod masks;
 
 ghost use mathlib.Core.Path.{_≡_};
 ghost use Prim.Native.Nat.{_<_};
-ghost use Rattle.costs.specs.Costs.{wordBy, headWord, stepTop};
+ghost use Rattle.costs.specs.Costs.{wordBy, firstWordBy, stepTop};
 use arrays::Measures;
 use words::LENGTH_TOP;
 
@@ -27,8 +27,8 @@ pub fn cost_word(q: Measures, count: u32, length: u32) -> u32
 }
 
 // A layout's first word from its cost.
-pub fn head_word(q: Measures, cost: u32) -> u32
-    ensures { λ r. ⌜ r ≡ headWord q cost ⌝ }
+pub fn first_word(q: Measures, cost: u32) -> u32
+    ensures { λ r. ⌜ r ≡ firstWordBy q cost ⌝ }
 {
     if q.shortest {
         return LAYOUT_KIND + cost % COUNT_LIMIT * LENGTH_TOP + cost / COUNT_LIMIT;

@@ -1,3 +1,3 @@
 pub mod Fields
-pub mod Whole
+pub mod Fits
 pub mod Places

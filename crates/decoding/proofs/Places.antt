@@ -7,7 +7,9 @@ use lib.ListN.{length, getD, replicate, length-append}
 use Rattle.sheet.specs.Limits.{unbounded}
 use Rattle.sheet.specs.Sheet.{Site, Colour, Sheet}
 use Rattle.labelling.specs.Layout.{noSite, noColour}
-use Rattle.decoding.specs.Decoding.{Decoded, padded, boundsOf, xsOf, ysOf, coloursOf}
+use Rattle.decoding.specs.Decoding.{Decoded, boundsOf, xsOf, ysOf, coloursOf}
+use Rattle.lists.specs.Arrays.{padded}
+use Rattle.lists.proofs.Arrays.{padded-at}
 
 pub bounds-at : (ks : List Colour) (c : ℕ) → getD (boundsOf ks) c unbounded ≡ (getD ks c noColour) .bound
 unfolding boundsOf
@@ -33,20 +35,6 @@ colours-at [] i = refl
 colours-at (s ∷ ss) zero = refl
 colours-at (s ∷ ss) (suc i) = colours-at ss i
 
--- zeros past a list are what it has there anyway
-zeros-at : (n i : ℕ) → getD {A = ℕ} (replicate n 0) i 0 ≡ 0
-zeros-at zero i = refl
-zeros-at (suc n) zero = refl
-zeros-at (suc n) (suc i) = zeros-at n i
-
-more-at : (l : List ℕ) (n i : ℕ) → getD (l ++ replicate n 0) i 0 ≡ getD l i 0
-more-at [] n i = zeros-at n i
-more-at (x ∷ l) n zero = refl
-more-at (x ∷ l) n (suc i) = more-at l n i
-
-pub padded-at : (n : ℕ) (l : List ℕ) (i : ℕ) → getD (padded n l) i 0 ≡ getD l i 0
-padded-at n l i = more-at l (n - length l) i
-
 -- THE ARRAYS THAT CODE MAKES hold the sheet's numbers
 pub decoded : (s : Sheet) (m n : ℕ) → Decoded s (padded m (s .slots)) (padded n (xsOf (s .sites))) (padded n (ysOf (s .sites))) (padded n (coloursOf (s .sites)))
 decoded s m n =
@@ -56,6 +44,3 @@ decoded s m n =
       ys = λ i. padded-at n (ysOf (s .sites)) i ∙ ys-at (s .sites) i;
       colours = λ i. padded-at n (coloursOf (s .sites)) i ∙ colours-at (s .sites) i;
     }
-
-pub padded-long : (n : ℕ) (l : List ℕ) → length l ≤ length (padded n l)
-padded-long n l = omega (arith, length-append l (replicate (n - length l) 0))

@@ -9,7 +9,7 @@ ghost use lib.ListN.{length, drop};
 ghost use Rattle.sheet.specs.Limits.{mostSlots, mostColours, mostSites, topWord};
 ghost use Rattle.sheet.specs.Sheet.{sheetIn, sheetFault};
 ghost use Rattle.sheet.specs.Words.{countKind};
-ghost use Rattle.decoding.specs.Decoding.{headBy, padded, boundsOf, xsOf, ysOf, coloursOf, collected, siteColours};
+ghost use Rattle.decoding.specs.Decoding.{headBy, boundsOf, xsOf, ysOf, coloursOf, collected, siteColours};
 use words::BYTE_TOP;
 use words::COLOUR;
 use words::MOST_COLOURS;
@@ -19,6 +19,7 @@ use words::NUMBER_TOP;
 use words::SITE;
 use words::SLOT;
 use words::tied::Head;
+ghost use Rattle.lists.specs.Arrays.{padded};
 
 // Side, gap and width.
 pub fn head_of(sheet: &[u32]) -> Head

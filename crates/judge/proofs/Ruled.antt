@@ -15,12 +15,13 @@ use Rattle.sheet.proofs.Accepted.{sound, lowY}
 use Rattle.sheet.proofs.Counts.{colours-count}
 use Rattle.labelling.specs.Layout.{noSite, tiesIn, layoutTies, isLayout, brokenBy}
 use Rattle.labelling.proofs.Words.{height-low, formed, length-tiesIn, ties-low}
-use Rattle.decoding.specs.Decoding.{headBy, padded, boundsOf, xsOf, ysOf, coloursOf}
+use Rattle.decoding.specs.Decoding.{headBy, boundsOf, xsOf, ysOf, coloursOf}
 use Rattle.decoding.proofs.Fields.{bounds-long, xs-long, ys-long, colours-long}
-use Rattle.decoding.proofs.Whole.{front}
-use Rattle.decoding.proofs.Places.{padded-at, padded-long, ys-at, decoded}
+use Rattle.lists.proofs.Arrays.{padded-front, padded-at, padded-long}
+use Rattle.decoding.proofs.Places.{ys-at, decoded}
 use Rattle.words.specs.declared.tied.Head.{Head}
 use Rattle.judge.specs.Model.{Fits, Low, brokenOn}
+use Rattle.lists.specs.Arrays.{padded}
 use Rattle.judge.proofs.RulesKept.{broken-is}
 
 y-low : (ss : List Site) (i : ℕ) → all lowY ss ≡ true → (getD ss i noSite) .y < numberTop
@@ -43,7 +44,7 @@ module _ (ss ls : List ℕ) (ok : sheetFault ss ≡ 0) (form : isLayout (sheetIn
   pub bounds-part : (r : List ℕ) (k : ℕ) → r ≡ padded mostColours (boundsOf (s .colours)) → k ≡ countKind 3 (bodyOf ss) → (take k r ≡ boundsOf (s .colours)) × (k ≡ length (take k r)) × (k ≤ length r)
   bounds-part r k e h =
       let q : k ≡ length (boundsOf (s .colours)) = h ∙ sym (colours-count (bodyOf ss)) ∙ sym (bounds-long (s .colours)) in
-      let f : take k r ≡ boundsOf (s .colours) = ap (take k) e ∙ front mostColours (boundsOf (s .colours)) k q in
+      let f : take k r ≡ boundsOf (s .colours) = ap (take k) e ∙ padded-front mostColours (boundsOf (s .colours)) k q in
       (f, q ∙ sym (ap length f), omega (arith, q, ap length e, padded-long mostColours (boundsOf (s .colours))))
 
   pub fits : (xs ys cs ws : List ℕ) → xs ≡ padded mostSites (xsOf (s .sites)) → ys ≡ padded mostSites (ysOf (s .sites)) → cs ≡ padded mostSites (coloursOf (s .sites)) → ws ≡ drop 1 ls → Fits xs ys cs ws

@@ -8,7 +8,7 @@ use lib.Dec.{ltb}
 use lib.ListN.{length, set, drop, replicate}
 use borrow.Author.Tests.{lt-ltb, le-ltb}
 use Rattle.lists.proofs.Tests.{by-order}
-use Rattle.sheet.specs.Limits.{kindTop, lengthTop}
+use Rattle.labelling.specs.Layout.{firstWord}
 use Rattle.sheet.specs.Sheet.{Sheet, sheetIn, productOf, workFor}
 use Rattle.sheet.proofs.Accepted.{sound, sites-coloured}
 use Rattle.areas.proofs.Zeroed.{zeroed-front}
@@ -27,7 +27,7 @@ use Rattle.arrays.specs.Given as given
 use Rattle.arrays.specs.Given.{Given}
 use Rattle.arrays.proofs.Instances.{instance-by, points-by}
 use Rattle.rows.specs.Rows.{levelSize}
-use Rattle.costs.specs.Costs.{headWord}
+use Rattle.costs.specs.Costs.{firstWordBy}
 use Rattle.walk.specs.Walk.{levelWords}
 use Rattle.walk.specs.Laid.{leastCost, faultBy, writtenBy, outBy, laidFault, laidOut, laidWork}
 use Rattle.onesided.specs.Laying.{Made, arraysOf}
@@ -53,10 +53,10 @@ module _ (ws k out : List ℕ) (t : takesSheet ws k out) (one : sheetIn ws .isTw
       ∙ ap (λ (l : List ℕ). replicate (workFor s) 0 ++ l) e
 
   written-is : writtenBy (instanceOf s) (measuresOf s) (pointsAt s (order s)) (order s) out
-      ≡ writeTies (set out 0 (8 * kindTop + countIn s (firstCell s) * lengthTop + lengthIn s (firstCell s))) (order s) (slotsWalked s)
+      ≡ writeTies (set out 0 (firstWord (countIn s (firstCell s)) (lengthIn s (firstCell s)))) (order s) (slotsWalked s)
   unfolding countIn lengthIn
   written-is =
-      ap₂ (λ (w : ℕ) (js : List ℕ). writeTies (set out 0 (headWord (measuresOf s) w)) (order s) js) least-is
+      ap₂ (λ (w : ℕ) (js : List ℕ). writeTies (set out 0 (firstWordBy (measuresOf s) w)) (order s) js) least-is
       (sym (slots-walked s (sound ws (t .1)) one (sites-coloured ws (t .1))))
 
   -- by the sheet's own instance and order

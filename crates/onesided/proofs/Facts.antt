@@ -9,7 +9,7 @@ use lib.Dec.{eqb}
 use lib.ListN.{length, getD, drop, replicate}
 use borrow.Author.Tests.{ltb-true}
 use Rattle.lists.proofs.Tests.{by-test}
-use Rattle.sheet.specs.Limits.{mostSites, numberTop, unbounded}
+use Rattle.sheet.specs.Limits.{mostSites, numberTop, unbounded, mostLevel}
 use Rattle.sheet.specs.Sheet.{Colour, Sheet, sheetIn, sheetFault, productOf, workFor}
 use Rattle.sheet.proofs.Accepted.{Sound, sound, lowY, colourLow}
 use Rattle.labelling.specs.Entry.{zeroed}
@@ -30,7 +30,6 @@ use Rattle.decoding.proofs.Fields.{bounds-long}
 use Rattle.arrays.proofs.Ordered.{gathered-long, radix-pos}
 use Rattle.rows.proofs.Folding.{size}
 use Rattle.rows.specs.Budgets.{Splits}
-use Rattle.rows.specs.Rows.{mostLevel}
 use Rattle.walk.specs.Walk.{levelWords}
 use Rattle.walk.specs.Laid.{FilledIn, laidWork}
 use Rattle.walk.proofs.Tying.{points-long}

@@ -17,7 +17,7 @@ use Rattle.search.proofs.Semi.{fold-prod, one-prod}
 use Rattle.search.specs.Split.{conv, just}
 use Rattle.search.proofs.Split.{semiring}
 use Rattle.search.specs.Radix.{below}
-use Rattle.search.proofs.Radix.{sharing}
+use Rattle.search.proofs.Radix.{below-splits}
 use Rattle.search.proofs.Sums.{listing-first}
 use Rattle.search.specs.Plan.{T, Rest}
 use Rattle.search.proofs.Plan.{T-nil, T-in, T-out, Rest-one, Rest-two}
@@ -105,7 +105,7 @@ module _ (P : Instance) (C R : ℕ) where
         (λ e. let f = rows (rw e) in
         rw e (ap (λ (z : ℕ). cond (below radices (drawOf (s .c)) v) (plus top (word 1 (lead (s .x) + share (height k) (s .y))) z) top)
         (split-two low ss _ _ (v - drawOf (s .c)) (f _ (rw e (inl refl))) (f _ (rw e (inr (inl refl)))) (omega arith))))
-        (λ e. rw (e, sharing radices .nothing v)
+        (λ e. rw (e, below-splits radices .nothing v)
         (by-test (joinsUp P p s k || joinsDown P p s k)
         (λ j. let one = ap (Rest (rulesOf P) ss (part ∷ [])) sub ∙ Rest-one (rulesOf P) (laws P rising) ss part v ∙ sym (rows (rw (e, j)) part (rw e (inl refl)) v lv) in rw (j, one))
         (λ j. rw j (sym (top-plus top _)))))
@@ -206,7 +206,7 @@ module _ (P : Instance) (C R : ℕ) where
     rest-fold : (ss : List Point) (L : List Strip) → Rest (rulesOf P) ss L ≡ fold (conv top (below radices)) (T (rulesOf P) ss) (just top 0 0) L
     unfolding Rest T
     rest-fold ss L =
-        let S = semiring top (below radices) (sharing radices) in
+        let S = semiring top (below radices) (below-splits radices) in
         sym (fold-prod S (T (rulesOf P) ss) L (just top 0 0) (S .one-one) ∙ one-prod S (T (rulesOf P) ss) L)
 
     -- THE VALUE of a state is read off the rows of its strips

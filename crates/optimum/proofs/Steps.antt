@@ -13,7 +13,7 @@ use Rattle.lists.proofs.Tests.{by-test, by-equal, by-either, clash, or-e, is-fa
 use Rattle.search.specs.Cost.{plus}
 use Rattle.search.proofs.Cost.{plus-below}
 use Rattle.search.specs.Radix.{below}
-use Rattle.search.proofs.Radix.{sharing}
+use Rattle.search.proofs.Radix.{below-splits}
 use Rattle.search.specs.Walk.{costOf}
 use Rattle.optimum.specs.Slots.{Slots, clearFrom}
 use Rattle.optimum.specs.Strips.{Point, Strip, Instance, State, opens, joinsUp, joinsDown, cost, draw, hold, marked, price, next, labels}
@@ -94,7 +94,7 @@ module _ (P : Instance) where
     price-join : (L : List ℕ) (v : ℕ) (M : List ℕ) (s : Point) (k : ℕ) → opens P (hold P L M (s .y)) s k ≡ false → joinsUp P (hold P L M (s .y)) s k || joinsDown P (hold P L M (s .y)) s k ≡ true
         → isFree L k ≡ false → (price P (L, v, M) s k ≡ stepWord L s k) × (next P (L, v, M) s k ≡ (set L k (suc (s .c)), left L v s k, marked P L M s k))
     unfolding price cost draw next
-    price-join L v M s k o j f = rw (o, j, sharing radices .nothing v) (word-held (isFree L k) (lead (s .x)) (share (height k) (s .y)) f, rw f (ap (λ (z : ℕ). (set L k (suc (s .c)), z, marked P L M s k)) (omega arith)))
+    price-join L v M s k o j f = rw (o, j, below-splits radices .nothing v) (word-held (isFree L k) (lead (s .x)) (share (height k) (s .y)) f, rw f (ap (λ (z : ℕ). (set L k (suc (s .c)), z, marked P L M s k)) (omega arith)))
 
     pub price-i : (L : List ℕ) (v : ℕ) (M : List ℕ) (s : Point) (k : ℕ) → Apart P L → Step P L s k → Pay L v s k → Tip L s k → Turn L M s k
         → (price P (L, v, M) s k ≡ stepWord L s k) × (next P (L, v, M) s k ≡ (set L k (suc (s .c)), left L v s k, marked P L M s k))

@@ -16,7 +16,7 @@ use Rattle.search.specs.Cost.{plus}
 use Rattle.search.proofs.Cost.{least-cong, plus-past}
 use Rattle.search.specs.Strips.{holders, oneIf, weigh, after}
 use Rattle.search.specs.Radix.{below}
-use Rattle.search.proofs.Radix.{sharing}
+use Rattle.search.proofs.Radix.{below-splits}
 use Rattle.search.specs.Plan.{Filled, Laws, Run, process, price as stripPrice, next as stripNext}
 use Rattle.search.proofs.Plan.{strips-independent}
 use Rattle.search.specs.Walk.{best, answer, Cheapest, costOf, walk}
@@ -267,7 +267,7 @@ module _ (P : Instance) where
         (λ e. rw e (unfold holders inside in omega arith))
 
     pub laws : Laws (rulesOf P)
-    laws = record { splits = sharing radices; filled = filled; parts = λ p s k. inr (parts p s k) }
+    laws = record { splits = below-splits radices; filled = filled; parts = λ p s k. inr (parts p s k) }
 
     -- one strip holds each site
     holders-from : (r i a ca : ℕ) (L M : List ℕ) (t : Point) → r + i ≡ m → a ≤ i → holders (inside P) t (stripsFrom P r i a ca L M) ≡ oneIf (over slots a (t .y))

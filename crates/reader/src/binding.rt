@@ -2,9 +2,9 @@
 ghost use mathlib.Core.Path.{_≡_};
 ghost use mathlib.Core.List.{_++_};
 ghost use Prim.Native.Nat.{_≤_};
-ghost use lib.ListN.{length, take, drop};
-ghost use Rattle.sheet.specs.Limits.{mostWords};
+ghost use lib.ListN.{length, drop};
 ghost use Rattle.sheet.specs.Binding.{bindingWord, bindingOnly};
+ghost use Rattle.reader.specs.Read.{bindingArray};
 use words::BYTE_TOP;
 use words::MOST_WORDS;
 use words::UNBOUNDED;
@@ -34,9 +34,9 @@ fn binding_into(sheet: &[u32], out: &mut [u32])
     }
 }
 
-// The words of an accepted sheet are at most so many: its head, slots, colours and sites. Of a longer list nothing is said.
+// The words of an accepted sheet are at most so many: its head, slots, colours and sites.
 pub fn binding_only(sheet: &[u32]) -> [u32; MOST_WORDS]
-    ensures { λ r. ⌜ (length (now (sheet .entry)) ≤ mostWords → take (length (now (sheet .entry))) r ≡ bindingOnly (now (sheet .entry))) ⌝ }
+    ensures { λ r. ⌜ r ≡ bindingArray (now (sheet .entry)) ⌝ }
 {
     if MOST_WORDS < sheet.len() {
         return [0u32; MOST_WORDS];

@@ -10,7 +10,7 @@ use lib.ListN.{length, getD, drop}
 use lib.Seq.{drop-cons}
 use borrow.Author.Tests.{eqb-true, ne-eqb}
 use Rattle.lists.proofs.Tests.{by-test}
-use Rattle.report.specs.Text.{ascii, decimal}
+use Rattle.report.specs.Text.{ascii, decimal, blank, lineFeed}
 use Rattle.report.proofs.Written.{Put, put-more}
 use Rattle.sheet.specs.Sheet.{kindOf, sitesIn}
 use Rattle.report.specs.Lines.{layoutLine, siteLine, siteLines, lineOf, countWith}
@@ -41,11 +41,11 @@ part-more {m} {o} {p} {q} l at s x name n y a b = subst (λ (t : List ℕ). Put 
     e : (s ++ x) ++ (name ++ n ++ y) ≡ s ++ (x ++ name) ++ n ++ y
     e = simp append-assoc
 
-pub layout-put : {m o : List ℕ} {p q : ℕ} (l : List ℕ) (at c s : ℕ) → Put l m at p (Part (ascii "labels ") c 32) → Put m o p q (Part (ascii "length ") s 10) → Put l o at q (layoutLine c s)
-layout-put l at c s = part-more l at (ascii "labels " ++ decimal c) (32 ∷ []) (ascii "length ") (decimal s) (10 ∷ [])
+pub layout-put : {m o : List ℕ} {p q : ℕ} (l : List ℕ) (at c s : ℕ) → Put l m at p (Part (ascii "labels ") c blank) → Put m o p q (Part (ascii "length ") s lineFeed) → Put l o at q (layoutLine c s)
+layout-put l at c s = part-more l at (ascii "labels " ++ decimal c) (blank ∷ []) (ascii "length ") (decimal s) (lineFeed ∷ [])
 
-pub site-put : {m o e : List ℕ} {p q r : ℕ} (l : List ℕ) (at i c k : ℕ) → Put l m at p (Part (ascii "site ") i 32) → Put m o p q (Part (ascii "colour ") c 32) →
-    Put o e q r (Part (ascii "slot ") k 10) → Put l e at r (siteLine i c k)
+pub site-put : {m o e : List ℕ} {p q r : ℕ} (l : List ℕ) (at i c k : ℕ) → Put l m at p (Part (ascii "site ") i blank) → Put m o p q (Part (ascii "colour ") c blank) →
+    Put o e q r (Part (ascii "slot ") k lineFeed) → Put l e at r (siteLine i c k)
 site-put l at i c k x y z =
-    part-more l at (ascii "site " ++ decimal i ++ ascii " colour " ++ decimal c) (32 ∷ []) (ascii "slot ") (decimal k) (10 ∷ [])
-    (part-more l at (ascii "site " ++ decimal i) (32 ∷ []) (ascii "colour ") (decimal c) (32 ∷ []) x y) z
+    part-more l at (ascii "site " ++ decimal i ++ ascii " colour " ++ decimal c) (blank ∷ []) (ascii "slot ") (decimal k) (lineFeed ∷ [])
+    (part-more l at (ascii "site " ++ decimal i) (blank ∷ []) (ascii "colour ") (decimal c) (blank ∷ []) x y) z

@@ -12,7 +12,13 @@ abbrev pub ascii : String → List ℕ
 ascii empty = []
 ascii (c then s) = code c ∷ ascii s
 
--- the ASCII code of the digit 0
+-- the ASCII codes of a blank, a line feed and the digit 0
+abbrev pub blank : ℕ
+blank = 32
+
+abbrev pub lineFeed : ℕ
+lineFeed = 10
+
 abbrev pub zeroDigit : ℕ
 zeroDigit = 48
 

@@ -17,11 +17,11 @@ use Rattle.search.specs.Split.{just}
 use Rattle.search.specs.Sums.{listing}
 use Rattle.search.proofs.Sums.{listing-first, length-listing}
 use native.Mathlib.Nat.{mul-le-mul}
-use Rattle.rows.specs.Rows.{Lies, mostLevel, levelSize}
+use Rattle.rows.specs.Rows.{Lies, levelSize}
 use Rattle.rows.proofs.Places.{row-fits, rows-few}
 use Rattle.rows.specs.Budgets.{Within, partAt, splitBy}
 use Rattle.rows.specs.Rest.{splitRow, rowStart, StripIn, LevelIn, joinRow, foldRows}
-use Rattle.sheet.specs.Limits.{mostSlots, mostColours, mostBudgets}
+use Rattle.sheet.specs.Limits.{mostSlots, mostColours, mostBudgets, mostLevel, mostRows}
 
 -- ---- a row joined from the highest budget down
 
@@ -75,7 +75,7 @@ row-inside m C R a ca b cb i = row-fits m C R _ (lies m C R a ca b cb i)
 
 -- a level has few words
 pub size : (m C R : ℕ) → m ≤ mostSlots → C ≤ mostColours → R ≤ mostBudgets → levelSize m C R ≤ mostLevel
-size m C R a b c = mul-le-mul {n₂ = 202500} {m₂ = 64} (rows-few m C a b) c
+size m C R a b c = mul-le-mul {n₂ = mostRows} {m₂ = mostBudgets} (rows-few m C a b) c
 
 -- ---- the fold over the open labels
 

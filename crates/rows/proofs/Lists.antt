@@ -12,7 +12,8 @@ use Rattle.search.specs.Cost.{plus, least}
 use Rattle.search.proofs.Cost.{least-le-top}
 use Rattle.search.specs.Radix.{below}
 use Rattle.optimum.specs.OneSided.{topWord}
-use Rattle.rows.specs.Budgets.{Others, Listed, Splits, partAt}
+use Rattle.rows.specs.Budgets.{Others, Listed, Splits, partAt, splitsLength}
+use Rattle.sheet.specs.Limits.{mostBudgets}
 
 pub listed-none : (rs : List ℕ) (v : ℕ) (at : ℕ → ℕ) → Listed rs v 0 0 at
 listed-none rs v at =
@@ -63,17 +64,17 @@ others-set old new from count i x h o = record {
 }
 
 -- one row more
-pub rows-more : (rs : List ℕ) (v n : ℕ) (old parts counts : List ℕ) → v < 64 → length counts ≡ 64
-    → ((x : ℕ) → x < v → Listed rs x (x + 1) (getD counts x 0) (partAt old x)) → Listed rs v (v + 1) n (partAt parts v) → Others old parts (v * 64) 64
+pub rows-more : (rs : List ℕ) (v n : ℕ) (old parts counts : List ℕ) → v < mostBudgets → length counts ≡ mostBudgets
+    → ((x : ℕ) → x < v → Listed rs x (x + 1) (getD counts x 0) (partAt old x)) → Listed rs v (v + 1) n (partAt parts v) → Others old parts (v * mostBudgets) mostBudgets
     → (x : ℕ) → x < v + 1 → Listed rs x (x + 1) (getD (set counts v n) x 0) (partAt parts x)
 rows-more rs v n old parts counts h c f r o x l =
     by-order v x
     (λ k. let e : x ≡ v = omega arith in rw (e, getD-set-same counts v n 0 (omega arith)) r)
     (λ k. rw (getD-set-other counts v x n 0 (λ e. omega arith))
-    (listed-same rs x (x + 1) (getD counts x 0) (partAt old x) (partAt parts x) (λ i q. o .before (x * 64 + i) (omega (arith, f x k .few))) (f x k)))
+    (listed-same rs x (x + 1) (getD counts x 0) (partAt old x) (partAt parts x) (λ i q. o .before (x * mostBudgets + i) (omega (arith, f x k .few))) (f x k)))
 
 -- all rows listed
-pub splits-of : (rs : List ℕ) (P : ℕ) (parts counts : List ℕ) → P ≤ 64 → length parts ≡ 4096 → length counts ≡ 64
+pub splits-of : (rs : List ℕ) (P : ℕ) (parts counts : List ℕ) → P ≤ mostBudgets → length parts ≡ splitsLength → length counts ≡ mostBudgets
     → ((v : ℕ) → v < P → Listed rs v (v + 1) (getD counts v 0) (partAt parts v)) → Splits rs P parts counts
 splits-of rs P parts counts h p c f = record {
   within = record {

@@ -6,8 +6,8 @@ use native.Mathlib.Numerals.{add-one}
 use native.Mathlib.Omega.{arith}
 use Rattle.optimum.specs.Strips.{Point, Strip}
 use Rattle.optimum.proofs.Levels.{pack-lt}
-use Rattle.sheet.specs.Limits.{mostSlots, mostColours, mostBudgets}
-use Rattle.rows.specs.Rows.{rowOf, rowsOf, Lies, upperPart, lowerPart, mostRows, mostLevel}
+use Rattle.sheet.specs.Limits.{mostSlots, mostColours, mostBudgets, mostRows, mostLevel, mostEnds}
+use Rattle.rows.specs.Rows.{rowOf, rowsOf, Lies, upperPart, lowerPart}
 
 pub row-low : (m C : ℕ) (p : Strip) → Lies m C p → rowOf m C p < rowsOf m C
 row-low m C p r =
@@ -18,26 +18,26 @@ bounded : (x y X B : ℕ) → x ≤ X → y ≤ B → x * y ≤ X * B
 bounded x y X B h k = mul-le-mul {n₂ = X} {m₂ = B} h k
 
 pub record Sized (m C n : ℕ) (p : Strip) : Type 0 where
-  pub first : p .a * (C + 1) ≤ 450
-  pub second : (p .a * (C + 1) + p .ca) * (m + 2) ≤ 22500
+  pub first : p .a * (C + 1) ≤ mostEnds
+  pub second : (p .a * (C + 1) + p .ca) * (m + 2) ≤ mostEnds * (mostSlots + 2)
   pub third : ((p .a * (C + 1) + p .ca) * (m + 2) + p .b) * (C + 1) ≤ mostRows
   pub place : rowOf m C p * n ≤ mostLevel
 
 pub sized : (m C n : ℕ) (p : Strip) → m ≤ mostSlots → C ≤ mostColours → n ≤ mostBudgets → Lies m C p → Sized m C n p
 sized m C n p hm hc hn r =
     let one : p .a * (C + 1) + p .ca < (m + 2) * (C + 1) = pack-lt (p .a) (p .ca) (m + 2) (C + 1) (r .aLow) (r .caLow) in
-    let a : (m + 2) * (C + 1) ≤ 50 * 9 = bounded (m + 2) (C + 1) 50 9 (omega arith) (omega arith) in
+    let a : (m + 2) * (C + 1) ≤ mostEnds = bounded (m + 2) (C + 1) (mostSlots + 2) (mostColours + 1) (omega arith) (omega arith) in
     let two : (p .a * (C + 1) + p .ca) * (m + 2) + p .b < (m + 2) * (C + 1) * (m + 2) = pack-lt _ (p .b) _ (m + 2) one (r .bLow) in
-    let b : (m + 2) * (C + 1) * (m + 2) ≤ 450 * 50 = bounded _ (m + 2) 450 50 a (omega arith) in
+    let b : (m + 2) * (C + 1) * (m + 2) ≤ mostEnds * (mostSlots + 2) = bounded _ (m + 2) mostEnds (mostSlots + 2) a (omega arith) in
     let three : rowOf m C p < (m + 2) * (C + 1) * (m + 2) * (C + 1) = pack-lt _ (p .cb) _ (C + 1) two (r .cbLow) in
-    let c : (m + 2) * (C + 1) * (m + 2) * (C + 1) ≤ 22500 * 9 = bounded _ (C + 1) 22500 9 b (omega arith) in
-    record { first = omega arith; second = omega arith; third = omega arith; place = bounded (rowOf m C p) n 202500 64 (omega arith) hn }
+    let c : (m + 2) * (C + 1) * (m + 2) * (C + 1) ≤ mostRows = bounded _ (C + 1) (mostEnds * (mostSlots + 2)) (mostColours + 1) b (omega arith) in
+    record { first = omega arith; second = omega arith; third = omega arith; place = bounded (rowOf m C p) n mostRows mostBudgets (omega arith) hn }
 
 pub rows-few : (m C : ℕ) → m ≤ mostSlots → C ≤ mostColours → rowsOf m C ≤ mostRows
 rows-few m C hm hc =
-    let a : (m + 2) * (C + 1) ≤ 50 * 9 = bounded (m + 2) (C + 1) 50 9 (omega arith) (omega arith) in
-    let b : (m + 2) * (C + 1) * (m + 2) ≤ 450 * 50 = bounded _ (m + 2) 450 50 a (omega arith) in
-    bounded _ (C + 1) 22500 9 b (omega arith)
+    let a : (m + 2) * (C + 1) ≤ mostEnds = bounded (m + 2) (C + 1) (mostSlots + 2) (mostColours + 1) (omega arith) (omega arith) in
+    let b : (m + 2) * (C + 1) * (m + 2) ≤ mostEnds * (mostSlots + 2) = bounded _ (m + 2) mostEnds (mostSlots + 2) a (omega arith) in
+    bounded _ (C + 1) (mostEnds * (mostSlots + 2)) (mostColours + 1) b (omega arith)
 
 -- a row's words stand in its level
 pub row-fits : (m C n : ℕ) (p : Strip) → Lies m C p → rowOf m C p * n + n ≤ rowsOf m C * n

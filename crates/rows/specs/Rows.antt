@@ -26,17 +26,6 @@ rowOf m C p = ((p .a * (C + 1) + p .ca) * (m + 2) + p .b) * (C + 1) + p .cb
 abbrev pub rowsOf : (m C : ℕ) → ℕ
 rowsOf m C = (m + 2) * (C + 1) * (m + 2) * (C + 1)
 
--- rows of a level, words of a level and words of a table of the largest sheet: (mostSlots + 2)² (mostColours + 1)², mostBudgets times that,
--- and mostSites + 1 times that. So no place of a table is too large a number.
-abbrev pub mostRows : ℕ
-mostRows = 202500
-
-abbrev pub mostLevel : ℕ
-mostLevel = 12960000
-
-abbrev pub mostTable : ℕ
-mostTable = 427680000
-
 -- the words of a level: of m slots, C colours and R budgets; of a sheet's heights
 abbrev pub levelSize : (m C R : ℕ) → ℕ
 levelSize m C R = rowsOf m C * R

@@ -12,7 +12,7 @@ use lib.ListN.{length, getD}
 use borrow.Author.Tests.{le-leb}
 use Rattle.lists.proofs.Tests.{and-of}
 use Rattle.search.specs.Radix.{below, digitOf, place}
-use Rattle.search.proofs.Radix.{digit-sub, sharing}
+use Rattle.search.proofs.Radix.{digit-sub, below-splits}
 
 -- every radix is 1 at least
 unfoldable pub Positive : List ℕ → Type 0
@@ -68,7 +68,7 @@ pub place-below : (rs : List ℕ) (c v : ℕ) → Positive rs → 1 < getD rs c 
 unfolding digitOf place Positive below
 place-below [] c v w h p = absurd (omega arith)
 place-below (r ∷ rs) zero v w h p =
-    rw (mod-eq-of-lt h, div-eq-of-lt h, le-leb 1 (v % r) p) (sharing rs .nothing (v / r))
+    rw (mod-eq-of-lt h, div-eq-of-lt h, le-leb 1 (v % r) p) (below-splits rs .nothing (v / r))
 place-below (r ∷ rs) (suc c) v w h p =
     rw (mul-mod (place rs c) r (w .0), mul-div (place rs c) r (w .0), le-leb 0 (v % r) (omega arith)) (place-below rs c (v / r) (w .1) h p)
 

@@ -78,8 +78,8 @@ less (r ∷ rs) a w v h k =
     of-digit r rs (w - a) (v - a) (rw (m .0, n .0) (omega arith)) (rw (m .1, n .1) (less rs (a / r) (w / r) (v / r) (d .1) (e .1)))
 
 -- the digits' order is a way to split
-pub sharing : (rs : List ℕ) → Splitting (below rs)
-sharing rs = record {
+pub below-splits : (rs : List ℕ) → Splitting (below rs)
+below-splits rs = record {
   fits = fits rs;
   nothing = nothing rs;
   other = other rs;

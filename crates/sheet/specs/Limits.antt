@@ -51,3 +51,18 @@ lengthTop = 2097152
 
 abbrev pub countTop : ℕ
 countTop = 128
+
+-- THE TABLE of the largest sheet: how many ends a strip may have (a slot or one of two edges, and a colour or none:
+-- mostSlots + 2 times mostColours + 1), the strips of a level, a row each (mostEnds²), the words of a level (mostBudgets for
+-- each row) and of all levels (mostSites + 1 of them). So no place of a table is too large a number.
+abbrev pub mostEnds : ℕ
+mostEnds = 450
+
+abbrev pub mostRows : ℕ
+mostRows = 202500
+
+abbrev pub mostLevel : ℕ
+mostLevel = 12960000
+
+abbrev pub mostTable : ℕ
+mostTable = 427680000

@@ -7,7 +7,7 @@ use native.Mathlib.Omega.{arith}
 use lib.ListN.{getD}
 use Rattle.sheet.specs.Limits.{mostColours}
 use Rattle.search.specs.Radix.{below}
-use Rattle.search.proofs.Radix.{sharing}
+use Rattle.search.proofs.Radix.{below-splits}
 use Rattle.arrays.specs.declared.Measures.{Measures}
 use Rattle.arrays.specs.Arrays.{instanceBy}
 use Rattle.arrays.specs.Given.{Given, OfSheet, SiteIn}
@@ -39,7 +39,7 @@ module _ (q : Measures) (hs bs rs ds : List ℕ) (p : Strip) (s : Point) (k : �
       → (v ≡ budgetLeft (instanceBy q hs bs rs ds) p s v k) × (cond joins c topWord ≡ priceIn (instanceBy q hs bs rs ds) p s v k)
   step-joins v c joins o e f =
       let w : cond joins c topWord ≡ cost (instanceBy q hs bs rs ds) p s k = ap₂ (λ (t : Bool) (z : ℕ). cond t z topWord) e f ∙ sym (cost-joins q hs bs p s k o) ∙ sym (cost-on q hs bs rs ds p s k) in
-      (omega (arith, draw-joins o), w ∙ sym (rw (draw-joins o, sharing rs .nothing v) refl))
+      (omega (arith, draw-joins o), w ∙ sym (rw (draw-joins o, below-splits rs .nothing v) refl))
 
 -- what the decisions ask for
 pub colour-low : {g : Given} → OfSheet g → {s : Point} → SiteIn (g .measures) s → s .c < mostColours

@@ -12,8 +12,8 @@ use Rattle.search.proofs.CappedSums.{sum-cong}
 use Rattle.optimum.specs.Slots.{farFrom}
 use Rattle.optimum.specs.UsedSlots.{may, draw, strip, price, next, final, labels, State, below, T, value}
 use Rattle.arrays.specs.declared.Measures.{Measures}
-use Rattle.arrays.specs.Arrays.{padded, gathered}
-use Rattle.decoding.proofs.Whole.{whole, front}
+use Rattle.arrays.specs.Arrays.{gathered}
+use Rattle.lists.proofs.Arrays.{padded-of, padded-front}
 use Rattle.arrays.proofs.Ordered.{gathered-long}
 use Rattle.two_tiefits.specs.declared.Label.{Label}
 use Rattle.two_stripcosts.specs.Costs.{upperAt, lowerAt, siteOf, stripOf}
@@ -21,6 +21,7 @@ use Rattle.optimum.specs.CostWord.{topWord}
 use Rattle.two_stripcosts.specs.Table.{tableBy, capsIn, Fits, RightTo}
 use Rattle.two_stripcosts.proofs.Strips.{strip-is}
 use Rattle.two_slotbands.specs.Sites.{Reorders}
+use Rattle.lists.specs.Arrays.{padded}
 
 -- ---- words taken in an order
 
@@ -166,8 +167,8 @@ gathered32 l order = gathered l order ++ drop (length order) (replicate 32 0)
 
 taken-front : (l order r : List ℕ) (n : ℕ) → Reorders order n → r ≡ gathered32 l order → take n r ≡ gathered l order
 taken-front l order r n o e =
-    let z : r ≡ padded 32 (gathered l order) = e ∙ whole (gathered l order) (gathered l order) 32 (length order) refl (sym (gathered-long l order)) in
-    rw z (front 32 (gathered l order) n (sym (gathered-long l order ∙ o .long)))
+    let z : r ≡ padded 32 (gathered l order) = e ∙ padded-of (gathered l order) (gathered l order) 32 (length order) refl (sym (gathered-long l order)) in
+    rw z (padded-front 32 (gathered l order) n (sym (gathered-long l order ∙ o .long)))
 
 pub front-long : (l order r : List ℕ) (n : ℕ) → Reorders order n → r ≡ gathered32 l order → n ≡ length (take n r)
 front-long l order r n o e = sym (ap length (taken-front l order r n o e) ∙ gathered-long l order ∙ o .long)

@@ -25,9 +25,9 @@ use Rattle.optimum.specs.CapsMonotone.{CapsMonotone}
 use Rattle.optimum.proofs.optimality.TwoSidedAnswer.{monotone}
 use Rattle.optimum.proofs.optimality.TwoSidedCall.{leastOf, two-sided-call, two-sided-none}
 use Rattle.arrays.specs.declared.Measures.{Measures}
-use Rattle.arrays.specs.Arrays.{boundsOf, xsOf, ysOf, coloursOf, radicesBy, drawsBy, radixBy, measuresOf, padded, productBy}
+use Rattle.arrays.specs.Arrays.{boundsOf, xsOf, ysOf, coloursOf, radicesBy, drawsBy, radixBy, measuresOf, productBy}
 use Rattle.decoding.proofs.Places.{bounds-at, xs-at, ys-at, colours-at}
-use Rattle.decoding.proofs.Whole.{front}
+use Rattle.lists.proofs.Arrays.{padded-front}
 use Rattle.arrays.proofs.Ordered.{radices-long, draws-long, product-positive, product-are}
 use Rattle.optimum.specs.CostWord.{topWord}
 use Rattle.two_stripcosts.specs.Table.{unitOf, labelCost, instanceBy, tableBy, capsIn, Fits, tableWords, RightTo}
@@ -35,6 +35,7 @@ use Rattle.two_stripcosts.proofs.Strips.{value-ranks}
 use Rattle.two_aims.specs.Caps.{wordsBy}
 use Rattle.two_capsearch.specs.Search.{uncapped, Filled}
 use Rattle.twosided.specs.Layouts.{countBy, lengthBy, laidBy, Laid}
+use Rattle.lists.specs.Arrays.{padded}
 
 -- ---- a call on arrays
 
@@ -237,7 +238,7 @@ module _ (ws k o : List ℕ) (t : takesSheet ws k o) (two : (sheetIn ws) .isTwoS
 -- ---- parts of padded arrays
 
 pub part-is : (size : ℕ) (l r : List ℕ) (k : ℕ) → r ≡ padded size l → k ≡ length l → take k r ≡ l
-part-is size l r k e h = ap (take k) e ∙ front size l k h
+part-is size l r k e h = ap (take k) e ∙ padded-front size l k h
 
 pub part-long : (size : ℕ) (l r : List ℕ) (k : ℕ) → r ≡ padded size l → k ≡ length l → k ≡ length (take k r)
 part-long size l r k e h = h ∙ ap length (sym (part-is size l r k e h))

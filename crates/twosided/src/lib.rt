@@ -18,7 +18,7 @@ use arrays::Measures;
 use arrays::draws_of;
 use arrays::measures_of;
 use arrays::radices_of;
-use costs::head_word;
+use costs::first_word;
 use decoding::bounds_of;
 use decoding::colours_of;
 use decoding::heights_of;
@@ -188,7 +188,7 @@ fn lay_sites(
         work,
         least,
     );
-    write_layout(head_word(q, least), &found[..n], out);
+    write_layout(first_word(q, least), &found[..n], out);
     zero_part(work, 0, cells);
     0
 }

@@ -15,7 +15,7 @@ use Rattle.search.specs.Cost.{plus, first}
 use Rattle.search.proofs.Cost.{first-is}
 use Rattle.search.specs.Walk.{chooseBy, walkBy}
 use Rattle.arrays.specs.declared.Measures.{Measures}
-use Rattle.sheet.specs.Limits.{mostSites}
+use Rattle.sheet.specs.Limits.{mostSites, mostLevel}
 use Rattle.arrays.specs.Arrays.{pointsBy}
 use Rattle.arrays.specs.Given.{Given, instanceOf, pointsOf, SiteIn}
 use Rattle.optimum.specs.Strips.{Point, Strip, Instance, State, hold, price, next, labels}
@@ -25,7 +25,6 @@ use Rattle.optimum.specs.Reached.{noPoint}
 use Rattle.rows.specs.Rest.{LevelIn, restRows}
 use Rattle.choice.specs.Choice.{labelled, keepsCost, withTie}
 use Rattle.strips.specs.Steps.{priceIn, budgetLeft}
-use Rattle.rows.specs.Rows.{mostLevel}
 use Rattle.walk.specs.Walk.{Found, valueIn, worthIn, levelWords, WalkIn, Standing, tiedFrom}
 use Rattle.rows.proofs.Folding.{size}
 use Rattle.walk.proofs.Value.{first-under, next-is}

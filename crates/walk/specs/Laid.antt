@@ -12,7 +12,7 @@ use Rattle.optimum.specs.OneSided.{topWord, writeTies}
 use Rattle.optimum.specs.Reached.{TableOf}
 use Rattle.arrays.specs.declared.Measures.{Measures}
 use Rattle.arrays.specs.Given.{Given, instanceOf, pointsOf}
-use Rattle.costs.specs.Costs.{headWord}
+use Rattle.costs.specs.Costs.{firstWordBy}
 use Rattle.walk.specs.Walk.{WalkIn, levelWords}
 
 -- no label is open, and the budget is full: R budgets
@@ -30,7 +30,7 @@ faultBy P R points = cond (ltb (leastCost P R points) topWord) 0 10
 -- the answer area: the first word, and the ties of the walk; as it was where there is none
 abbrev pub writtenBy : (P : Instance) → Measures → List Point → (order out : List ℕ) → List ℕ
 writtenBy P q points order out =
-    writeTies (set out 0 (headWord q (leastCost P (q .budgets) points))) order (walkBy (labels P) (value P) (emptySheet P (q .budgets)) points)
+    writeTies (set out 0 (firstWordBy q (leastCost P (q .budgets) points))) order (walkBy (labels P) (value P) (emptySheet P (q .budgets)) points)
 
 abbrev pub outBy : (P : Instance) → Measures → List Point → (order out : List ℕ) → List ℕ
 outBy P q points order out = cond (ltb (leastCost P (q .budgets) points) topWord) (writtenBy P q points order out) out

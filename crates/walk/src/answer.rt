@@ -4,7 +4,7 @@ ghost use Rattle.arrays.specs.Given.{Given, given};
 ghost use Rattle.walk.specs.Laid.{laidFault, laidOut, FilledIn};
 use arrays::Measures;
 use choice::Left;
-use costs::head_word;
+use costs::first_word;
 use rows::rest::rest_of;
 
 // Reads the least cost off the filled table, and writes the layout of it: its first word, and the ties of the walk.
@@ -36,7 +36,7 @@ pub fn lay_least(
     if least == words::NONE {
         return 10;
     }
-    out[0] = head_word(q, least);
+    out[0] = first_word(q, least);
     let left = Left {
         budget: v,
         cost: least,

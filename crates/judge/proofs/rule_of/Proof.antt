@@ -7,6 +7,10 @@ use borrow.Author.Needs.{needs}
 use Rattle.judge.proofs.rule_of.Statement.{statement}
 use Rattle.judge.proofs.rule_of.Tie as tie
 
+-- where the function starts, seen from where its head is read
+abbrev begin : tie.After-head-of → tie.Start
+begin h = h .before .before .before .before .before .before .before .before .before .before .before
+
 heights-of-requires : tie.Need-heights-of-requires
 heights-of-requires c κs = search needs
 
@@ -42,15 +46,17 @@ slice-aggregate-broken-by c = search needs
 
 array-share-prefix-bounds : tie.Need-array-share-prefix-bounds
 array-share-prefix-bounds c =
-    let a = c .before .before .before .before .before .before .before .before .before .before .before .before .args in
-    let p = c .before .before .before .before .before .before .before .before .before .before .before .before .pre in
-    bounds-part (a .sheet .now) (a .layout .now) (p .0) (p .1) _ _ (c .before .before .before .before .before .before .before .before .bounds-of .ensures) (c .before .before .before .count-kind .ensures ∙ ap (countKind 3) (c .before .before .before .before .body-of .ensures)) .2
+    let h = c .before in
+    let a = begin h .args in
+    let p = begin h .pre in
+    bounds-part (a .sheet .now) (a .layout .now) (p .0) (p .1) _ _ (h .before .before .before .before .before .before .before .bounds-of .ensures) (h .before .before .count-kind .ensures ∙ ap (countKind 3) (h .before .before .before .body-of .ensures)) .2
 
 slice-aggregate-broken-by-2 : tie.Need-slice-aggregate-broken-by-2
 slice-aggregate-broken-by-2 c =
-    let a = c .before .before .before .before .before .before .before .before .before .before .before .before .before .args in
-    let p = c .before .before .before .before .before .before .before .before .before .before .before .before .before .pre in
-    bounds-part (a .sheet .now) (a .layout .now) (p .0) (p .1) _ _ (c .before .before .before .before .before .before .before .before .before .bounds-of .ensures) (c .before .before .before .before .count-kind .ensures ∙ ap (countKind 3) (c .before .before .before .before .before .body-of .ensures)) .1
+    let h = c .before .before in
+    let a = begin h .args in
+    let p = begin h .pre in
+    bounds-part (a .sheet .now) (a .layout .now) (p .0) (p .1) _ _ (h .before .before .before .before .before .before .before .bounds-of .ensures) (h .before .before .count-kind .ensures ∙ ap (countKind 3) (h .before .before .before .body-of .ensures)) .1
 
 slice-aggregate-broken-by-3 : tie.Need-slice-aggregate-broken-by-3
 slice-aggregate-broken-by-3 c = search needs
@@ -63,14 +69,16 @@ slice-aggregate-broken-by-5 c = search needs
 
 sub-broken-by : tie.Need-sub-broken-by
 sub-broken-by c =
-    let a = c .before .before .before .before .before .before .before .before .before .before .before .before .before .before .before .before .args in
-    let p = c .before .before .before .before .before .before .before .before .before .before .before .before .before .before .before .before .pre in
+    let h = c .before .before .before .before .before in
+    let a = begin h .args in
+    let p = begin h .pre in
     omega (arith, some (a .sheet .now) (a .layout .now) (p .0) (p .1))
 
 part-broken-by-start : tie.Need-part-broken-by-start
 part-broken-by-start c =
-    let a = c .before .before .before .before .before .before .before .before .before .before .before .before .before .before .before .before .args in
-    let p = c .before .before .before .before .before .before .before .before .before .before .before .before .before .before .before .before .pre in
+    let h = c .before .before .before .before .before in
+    let a = begin h .args in
+    let p = begin h .pre in
     omega (arith, some (a .sheet .now) (a .layout .now) (p .0) (p .1))
 
 part-broken-by-end : tie.Need-part-broken-by-end
@@ -78,16 +86,18 @@ part-broken-by-end c = search needs
 
 broken-by-requires : tie.Need-broken-by-requires
 broken-by-requires c κs =
-    let a = c .before .before .before .before .before .before .before .before .before .before .before .before .before .before .before .before .before .args in
-    let p = c .before .before .before .before .before .before .before .before .before .before .before .before .before .before .before .before .before .pre in
-    (fits (a .sheet .now) (a .layout .now) (p .0) (p .1) _ _ _ _ (c .before .before .before .before .before .before .before .before .before .before .before .before .xs-of .ensures) (c .before .before .before .before .before .before .before .before .before .before .before .ys-of .ensures) (c .before .before .before .before .before .before .before .before .before .before .colours-of .ensures) (part-from (a .layout .now) 1), low (a .sheet .now) (a .layout .now) (p .0) (p .1) _ _ _ (c .before .before .before .before .before .before .head-of .ensures) (c .before .before .before .before .before .before .before .before .before .before .before .before .before .before .heights-of .ensures) (c .before .before .before .before .before .before .before .before .before .before .before .ys-of .ensures))
+    let h = c .before .before .before .before .before .before in
+    let a = begin h .args in
+    let p = begin h .pre in
+    (fits (a .sheet .now) (a .layout .now) (p .0) (p .1) _ _ _ _ (h .before .before .before .before .before .before .xs-of .ensures) (h .before .before .before .before .before .ys-of .ensures) (h .before .before .before .before .colours-of .ensures) (part-from (a .layout .now) 1), low (a .sheet .now) (a .layout .now) (p .0) (p .1) _ _ _ (h .head-of .ensures) (h .before .before .before .before .before .before .before .before .heights-of .ensures) (h .before .before .before .before .before .ys-of .ensures))
 
 returns : tie.Need-returns
 returns c =
-    let a = c .before .before .before .before .before .before .before .before .before .before .before .before .before .before .before .before .before .before .args in
-    let p = c .before .before .before .before .before .before .before .before .before .before .before .before .before .before .before .before .before .before .pre in
-    let b = bounds-part (a .sheet .now) (a .layout .now) (p .0) (p .1) _ _ (c .before .before .before .before .before .before .before .before .before .before .before .before .before .before .bounds-of .ensures) (c .before .before .before .before .before .before .before .before .before .count-kind .ensures ∙ ap (countKind 3) (c .before .before .before .before .before .before .before .before .before .before .body-of .ensures)) in
-    ruled (a .sheet .now) (a .layout .now) (p .0) (p .1) _ _ _ _ _ _ _ _ _ (c .before .before .before .before .before .before .before .head-of .ensures) refl (c .before .before .before .before .before .before .before .before .before .before .before .before .before .before .before .heights-of .ensures) (b .0) (c .before .before .before .before .before .before .before .before .before .before .before .before .before .xs-of .ensures) (c .before .before .before .before .before .before .before .before .before .before .before .before .ys-of .ensures) (c .before .before .before .before .before .before .before .before .before .before .before .colours-of .ensures) (part-from (a .layout .now) 1) (c .broken-by .ensures)
+    let h = c .before .before .before .before .before .before .before in
+    let a = begin h .args in
+    let p = begin h .pre in
+    let b = bounds-part (a .sheet .now) (a .layout .now) (p .0) (p .1) _ _ (h .before .before .before .before .before .before .before .bounds-of .ensures) (h .before .before .count-kind .ensures ∙ ap (countKind 3) (h .before .before .before .body-of .ensures)) in
+    ruled (a .sheet .now) (a .layout .now) (p .0) (p .1) _ _ _ _ _ _ _ _ _ (h .head-of .ensures) refl (h .before .before .before .before .before .before .before .before .heights-of .ensures) (b .0) (h .before .before .before .before .before .before .xs-of .ensures) (h .before .before .before .before .before .ys-of .ensures) (h .before .before .before .before .colours-of .ensures) (part-from (a .layout .now) 1) (c .broken-by .ensures)
 
 pub rule-of-spec : {M : Type 1} → statement M
 rule-of-spec =

@@ -1,17 +1,26 @@
 -- `maker::lay_binding` meets its contract.
 use Rattle.sheet.proofs.Accepted.{few-words}
+use Rattle.sheet.specs.Binding.{bindingOnly}
 use Rattle.sheet.proofs.Binding.{length-kept}
+use Rattle.reader.proofs.Reading.{binding-front}
 use Rattle.maker.proofs.Calls.{takes-kept, small, few, side-kept, sizes-kept, needs-less, laid}
-use mathlib.Core.Path.{ap, sym, _∙_}
+use mathlib.Core.Path.{_≡_, ap, sym, _∙_}
 use native.Mathlib.Omega.{arith}
-use lib.ListN.{length}
+use lib.ListN.{length, take}
 use borrow.Author.Needs.{needs}
 use Rattle.maker.proofs.lay_binding.Statement.{statement}
 use Rattle.maker.proofs.lay_binding.Tie as tie
 
--- where the function starts, seen from where P is known
+-- where the function starts, seen from where P is known; and that place, seen from where the half for the side has ended
 abbrev begin : tie.After-product → tie.Start
 begin m = m .before .before .before .before .before .before .before
+
+abbrev product-known : tie.After-lay-side → tie.After-product
+product-known s = s .before .before .before .before .before .before .before .before .before .before
+
+-- the words that are laid out: the sheet's, without the bounds that can't bind
+kept : (m : tie.After-product) → take (length (begin m .args .sheet .now)) (m .before .before .before .binding-only .result) ≡ bindingOnly (begin m .args .sheet .now)
+kept m = binding-front (begin m .args .sheet .now) _ (m .before .before .before .binding-only .ensures) (few-words (begin m .args .sheet .now) (begin m .pre .0 .1))
 
 binding-only-requires : tie.Need-binding-only-requires
 binding-only-requires c κs = search needs
@@ -22,7 +31,7 @@ array-share-prefix-words c = omega (arith, few-words (c .before .before .before 
 slice-aggregate-kept : tie.Need-slice-aggregate-kept
 slice-aggregate-kept c =
     let s = c .before .before .before .before .before .args .sheet .now in
-    sym (ap length (c .before .binding-only .ensures (few-words s (c .before .before .before .before .before .pre .0 .1))) ∙ length-kept s)
+    sym (ap length (binding-front s _ (c .before .binding-only .ensures) (few-words s (c .before .before .before .before .before .pre .0 .1))) ∙ length-kept s)
 
 body-of-requires : tie.Need-body-of-requires
 body-of-requires c κs = search needs
@@ -53,7 +62,7 @@ work-for-requires c κs =
     let m = c .before .before .before .before .before .before in
     let a = begin m .args in
     let p = begin m .pre in
-    let e = m .before .before .before .binding-only .ensures (few-words (a .sheet .now) (p .0 .1)) in
+    let e = kept m in
     let z = small (a .sheet .now) (a .work .now) (a .out .now) _ e (p .0) (a .sizes) (p .1) in
     (z .0, z .1, z .2, few (a .sheet .now) (a .work .now) (a .out .now) _ e (p .0) (a .sizes) (p .1) _ _ (m .before .body-of .ensures) (m .product .ensures))
 
@@ -62,7 +71,7 @@ lay-side-requires c κs =
     let m = c .before .before .before .before .before .before .before .before .before in
     let a = begin m .args in
     let p = begin m .pre in
-    let e = m .before .before .before .binding-only .ensures (few-words (a .sheet .now) (p .0 .1)) in (
+    let e = kept m in (
       takes-kept (a .sheet .now) (a .work .now) (a .out .now) _ e (p .0) (a .sizes) (p .1),
       (
         side-kept (a .sheet .now) (a .work .now) (a .out .now) _ e (p .0) (a .sizes) (p .1) _ (c .before .before .before .before .before .before .before .before .is-two-sided .ensures),
@@ -78,12 +87,13 @@ cast-zero-part-2 c = search needs
 
 zero-part-requires : tie.Need-zero-part-requires
 zero-part-requires c κs =
-    let m = c .before .before .before .before .before .before .before .before .before .before .before .before .before .before .before .before in
+    let s = c .before .before .before .before .before .before in
+    let m = product-known s in
     let a = begin m .args in
     let p = begin m .pre in
-    let e = m .before .before .before .binding-only .ensures (few-words (a .sheet .now) (p .0 .1)) in
+    let e = kept m in
     needs-less (a .sheet .now) (a .work .now) (a .out .now) _ e (p .0) (a .sizes) (p .1) _ _ (m .before .body-of .ensures) (m .product .ensures)
-    _ _ (c .before .before .before .before .before .before .before .before .before .before .before .before .before .before .before .is-two-sided .ensures) (c .before .before .before .before .before .before .before .before .before .work-for .ensures) _ (c .before .before .before .before .before .before .lay-side .ensures .work-is)
+    _ _ (s .before .before .before .before .before .before .before .before .before .is-two-sided .ensures) (s .before .before .before .work-for .ensures) _ (s .lay-side .ensures .work-is)
 
 same-length : tie.Need-same-length
 same-length c = search needs
@@ -93,13 +103,14 @@ same-length-2 c = search needs
 
 returns : tie.Need-returns
 returns c =
-    let m = c .before .before .before .before .before .before .before .before .before .before .before .before .before .before .before .before .before .before .before in
+    let s = c .before .before .before .before .before .before .before .before .before in
+    let m = product-known s in
     let a = begin m .args in
     let p = begin m .pre in
-    let e = m .before .before .before .binding-only .ensures (few-words (a .sheet .now) (p .0 .1)) in
-    let f = c .before .before .before .before .before .before .before .before .before .lay-side .ensures in
+    let e = kept m in
+    let f = s .lay-side .ensures in
     laid (a .sheet .now) (a .work .now) (a .out .now) _ e (p .0) (a .sizes) (p .1) _ _ (m .before .body-of .ensures) (m .product .ensures)
-    _ _ (c .before .before .before .before .before .before .before .before .before .before .before .before .before .before .before .before .before .before .is-two-sided .ensures) (c .before .before .before .before .before .before .before .before .before .before .before .before .work-for .ensures) _ _ _ _ (f .fault-is) (f .work-is) (f .out-is) (c .before .before .zero-part .ensures)
+    _ _ (s .before .before .before .before .before .before .before .before .before .is-two-sided .ensures) (s .before .before .before .work-for .ensures) _ _ _ _ (f .fault-is) (f .work-is) (f .out-is) (c .before .before .zero-part .ensures)
 
 pub lay-binding-spec : {M : Type 1} → statement M
 lay-binding-spec =

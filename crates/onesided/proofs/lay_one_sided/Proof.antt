@@ -3,7 +3,7 @@ use Rattle.sheet.specs.Sheet.{sheetIn}
 use Rattle.sheet.proofs.Accepted.{sound}
 use Rattle.arrays.specs.Arrays.{xsOf, ysOf, coloursOf, gathered}
 use Rattle.optimum.specs.OneSided.{order}
-use Rattle.onesided.proofs.Parts.{xs, ys, colours, orders, ranked, stands}
+use Rattle.onesided.proofs.Parts.{IsFront, xs, ys, colours, orders, ranked, stands}
 use mathlib.Core.Path.{_≡_, sym, _∙_}
 use Prim.Native.Nat.{_-_, _≤_}
 use native.Mathlib.Omega.{arith}
@@ -12,30 +12,34 @@ use borrow.Author.Needs.{needs}
 use Rattle.onesided.proofs.lay_one_sided.Statement.{statement}
 use Rattle.onesided.proofs.lay_one_sided.Tie as tie
 
+-- where the function starts, seen from where the order is known
+abbrev begin : tie.After-order-of → tie.Start
+begin o = o .before .before .before .before .before .before .before .before
+
 -- the arrays are those of the sheet's sites
-xs-are : (c : tie.After-xs-of) → (take (c .before .before .before .before .args .sites) (c .xs-of .result) ≡ xsOf (sheetIn (c .before .before .before .before .args .sheet .now) .sites)) × (c .before .before .before .before .args .sites ≡ length (take (c .before .before .before .before .args .sites) (c .xs-of .result)))
+xs-are : (c : tie.After-xs-of) → IsFront (c .xs-of .result) (c .before .before .before .before .args .sites) (xsOf (sheetIn (c .before .before .before .before .args .sheet .now) .sites))
 xs-are c = xs (c .before .before .before .before .args .sheet .now) (c .before .before .before .before .pre .takes .1) (c .xs-of .result) (c .before .before .before .before .args .sites) (c .xs-of .ensures) (c .before .before .before .before .pre .sizes .2)
 
-ys-are : (c : tie.After-ys-of) → (take (c .before .before .before .before .before .args .sites) (c .ys-of .result) ≡ ysOf (sheetIn (c .before .before .before .before .before .args .sheet .now) .sites)) × (c .before .before .before .before .before .args .sites ≡ length (take (c .before .before .before .before .before .args .sites) (c .ys-of .result)))
+ys-are : (c : tie.After-ys-of) → IsFront (c .ys-of .result) (c .before .before .before .before .before .args .sites) (ysOf (sheetIn (c .before .before .before .before .before .args .sheet .now) .sites))
 ys-are c = ys (c .before .before .before .before .before .args .sheet .now) (c .before .before .before .before .before .pre .takes .1) (c .ys-of .result) (c .before .before .before .before .before .args .sites) (c .ys-of .ensures) (c .before .before .before .before .before .pre .sizes .2)
 
-site-colours-are : (c : tie.After-colours-of) → (take (c .before .before .before .before .before .before .args .sites) (c .colours-of .result) ≡ coloursOf (sheetIn (c .before .before .before .before .before .before .args .sheet .now) .sites)) × (c .before .before .before .before .before .before .args .sites ≡ length (take (c .before .before .before .before .before .before .args .sites) (c .colours-of .result)))
+site-colours-are : (c : tie.After-colours-of) → IsFront (c .colours-of .result) (c .before .before .before .before .before .before .args .sites) (coloursOf (sheetIn (c .before .before .before .before .before .before .args .sheet .now) .sites))
 site-colours-are c = colours (c .before .before .before .before .before .before .args .sheet .now) (c .before .before .before .before .before .before .pre .takes .1) (c .colours-of .result) (c .before .before .before .before .before .before .args .sites) (c .colours-of .ensures) (c .before .before .before .before .before .before .pre .sizes .2)
 
-order-is : (c : tie.After-order-of) → (take (c .before .before .before .before .before .before .before .before .args .sites) (c .order-of .result) ≡ order (sheetIn (c .before .before .before .before .before .before .before .before .args .sheet .now))) × (c .before .before .before .before .before .before .before .before .args .sites ≡ length (take (c .before .before .before .before .before .before .before .before .args .sites) (c .order-of .result)))
-order-is c = orders (c .before .before .before .before .before .before .before .before .args .sheet .now) (c .before .before .before .before .before .before .before .before .pre .takes .1) (c .before .before .before .before .xs-of .result) (c .order-of .result) (c .before .before .before .before .before .before .before .before .args .sites) (xs-are (c .before .before .before .before) .0) (c .before .before .before .before .before .before .before .before .pre .sizes .2) (c .order-of .ensures)
+order-is : (c : tie.After-order-of) → IsFront (c .order-of .result) (begin c .args .sites) (order (sheetIn (begin c .args .sheet .now)))
+order-is c = orders (begin c .args .sheet .now) (begin c .pre .takes .1) (c .before .before .before .before .xs-of .result) (c .order-of .result) (begin c .args .sites) (xs-are (c .before .before .before .before) .0) (begin c .pre .sizes .2) (c .order-of .ensures)
 
-few : (c : tie.After-order-of) → length (take (c .before .before .before .before .before .before .before .before .args .sites) (c .order-of .result)) ≤ mostSites
-few c = omega (arith, order-is c .1, c .before .before .before .before .before .before .before .before .pre .sizes .2, sound (c .before .before .before .before .before .before .before .before .args .sheet .now) (c .before .before .before .before .before .before .before .before .pre .takes .1) .few-sites)
+few : (c : tie.After-order-of) → length (take (begin c .args .sites) (c .order-of .result)) ≤ mostSites
+few c = omega (arith, order-is c .1, begin c .pre .sizes .2, sound (begin c .args .sheet .now) (begin c .pre .takes .1) .few-sites)
 
-ranked-xs-are : (c : tie.After-gathered-of) → (take (c .before .before .before .before .before .before .before .before .before .before .args .sites) (c .gathered-of .result) ≡ gathered (xsOf (sheetIn (c .before .before .before .before .before .before .before .before .before .before .args .sheet .now) .sites)) (order (sheetIn (c .before .before .before .before .before .before .before .before .before .before .args .sheet .now)))) × (c .before .before .before .before .before .before .before .before .before .before .args .sites ≡ length (take (c .before .before .before .before .before .before .before .before .before .before .args .sites) (c .gathered-of .result)))
-ranked-xs-are c = ranked (c .before .before .before .before .before .before .before .before .before .before .args .sheet .now) (c .before .before .before .before .before .before .before .before .before .before .pre .takes .1) _ (c .before .before .before .before .before .before .xs-of .result) (c .before .before .order-of .result) (c .gathered-of .result) (c .before .before .before .before .before .before .before .before .before .before .args .sites) (xs-are (c .before .before .before .before .before .before) .0) (order-is (c .before .before) .0) (c .before .before .before .before .before .before .before .before .before .before .pre .sizes .2) (c .gathered-of .ensures)
+ranked-xs-are : (c : tie.After-gathered-of) → IsFront (c .gathered-of .result) (begin (c .before .before) .args .sites) (gathered (xsOf (sheetIn (begin (c .before .before) .args .sheet .now) .sites)) (order (sheetIn (begin (c .before .before) .args .sheet .now))))
+ranked-xs-are c = ranked (begin (c .before .before) .args .sheet .now) (begin (c .before .before) .pre .takes .1) _ (c .before .before .before .before .before .before .xs-of .result) (c .before .before .order-of .result) (c .gathered-of .result) (begin (c .before .before) .args .sites) (xs-are (c .before .before .before .before .before .before) .0) (order-is (c .before .before) .0) (begin (c .before .before) .pre .sizes .2) (c .gathered-of .ensures)
 
-ranked-ys-are : (c : tie.After-gathered-of2) → (take (c .before .before .before .before .before .before .before .before .before .before .before .before .args .sites) (c .gathered-of2 .result) ≡ gathered (ysOf (sheetIn (c .before .before .before .before .before .before .before .before .before .before .before .before .args .sheet .now) .sites)) (order (sheetIn (c .before .before .before .before .before .before .before .before .before .before .before .before .args .sheet .now)))) × (c .before .before .before .before .before .before .before .before .before .before .before .before .args .sites ≡ length (take (c .before .before .before .before .before .before .before .before .before .before .before .before .args .sites) (c .gathered-of2 .result)))
-ranked-ys-are c = ranked (c .before .before .before .before .before .before .before .before .before .before .before .before .args .sheet .now) (c .before .before .before .before .before .before .before .before .before .before .before .before .pre .takes .1) _ (c .before .before .before .before .before .before .before .ys-of .result) (c .before .before .before .before .order-of .result) (c .gathered-of2 .result) (c .before .before .before .before .before .before .before .before .before .before .before .before .args .sites) (ys-are (c .before .before .before .before .before .before .before) .0) (order-is (c .before .before .before .before) .0) (c .before .before .before .before .before .before .before .before .before .before .before .before .pre .sizes .2) (c .gathered-of2 .ensures)
+ranked-ys-are : (c : tie.After-gathered-of2) → IsFront (c .gathered-of2 .result) (begin (c .before .before .before .before) .args .sites) (gathered (ysOf (sheetIn (begin (c .before .before .before .before) .args .sheet .now) .sites)) (order (sheetIn (begin (c .before .before .before .before) .args .sheet .now))))
+ranked-ys-are c = ranked (begin (c .before .before .before .before) .args .sheet .now) (begin (c .before .before .before .before) .pre .takes .1) _ (c .before .before .before .before .before .before .before .ys-of .result) (c .before .before .before .before .order-of .result) (c .gathered-of2 .result) (begin (c .before .before .before .before) .args .sites) (ys-are (c .before .before .before .before .before .before .before) .0) (order-is (c .before .before .before .before) .0) (begin (c .before .before .before .before) .pre .sizes .2) (c .gathered-of2 .ensures)
 
-ranked-colours-are : (c : tie.After-gathered-of3) → (take (c .before .before .before .before .before .before .before .before .before .before .before .before .before .before .args .sites) (c .gathered-of3 .result) ≡ gathered (coloursOf (sheetIn (c .before .before .before .before .before .before .before .before .before .before .before .before .before .before .args .sheet .now) .sites)) (order (sheetIn (c .before .before .before .before .before .before .before .before .before .before .before .before .before .before .args .sheet .now)))) × (c .before .before .before .before .before .before .before .before .before .before .before .before .before .before .args .sites ≡ length (take (c .before .before .before .before .before .before .before .before .before .before .before .before .before .before .args .sites) (c .gathered-of3 .result)))
-ranked-colours-are c = ranked (c .before .before .before .before .before .before .before .before .before .before .before .before .before .before .args .sheet .now) (c .before .before .before .before .before .before .before .before .before .before .before .before .before .before .pre .takes .1) _ (c .before .before .before .before .before .before .before .before .colours-of .result) (c .before .before .before .before .before .before .order-of .result) (c .gathered-of3 .result) (c .before .before .before .before .before .before .before .before .before .before .before .before .before .before .args .sites) (site-colours-are (c .before .before .before .before .before .before .before .before) .0) (order-is (c .before .before .before .before .before .before) .0) (c .before .before .before .before .before .before .before .before .before .before .before .before .before .before .pre .sizes .2) (c .gathered-of3 .ensures)
+ranked-colours-are : (c : tie.After-gathered-of3) → IsFront (c .gathered-of3 .result) (begin (c .before .before .before .before .before .before) .args .sites) (gathered (coloursOf (sheetIn (begin (c .before .before .before .before .before .before) .args .sheet .now) .sites)) (order (sheetIn (begin (c .before .before .before .before .before .before) .args .sheet .now))))
+ranked-colours-are c = ranked (begin (c .before .before .before .before .before .before) .args .sheet .now) (begin (c .before .before .before .before .before .before) .pre .takes .1) _ (c .before .before .before .before .before .before .before .before .colours-of .result) (c .before .before .before .before .before .before .order-of .result) (c .gathered-of3 .result) (begin (c .before .before .before .before .before .before) .args .sites) (site-colours-are (c .before .before .before .before .before .before .before .before) .0) (order-is (c .before .before .before .before .before .before) .0) (begin (c .before .before .before .before .before .before) .pre .sizes .2) (c .gathered-of3 .ensures)
 
 xs-of-requires : tie.Need-xs-of-requires
 xs-of-requires c κs = c .before .before .before .pre .takes .1
@@ -102,7 +106,7 @@ gathered-of-requires-3 c κs = few (c .before .before .before .before .before)
 
 lay-sites-requires : tie.Need-lay-sites-requires
 lay-sites-requires c κs =
-    let p = c .before .before .before .before .before .before .before .before .before .before .before .before .before .before .before .before .before .before .before .pre in
+    let p = begin (c .before .before .before .before .before .before .before .before .before .before .before) .pre in
     let s = p .sizes in
     let o = order-is (c .before .before .before .before .before .before .before .before .before .before .before) in (
       record { takes = p .takes; oneSided = p .oneSided; sizes = (s .0, s .1, sym (o .1) ∙ s .2, s .3) },

@@ -1,7 +1,7 @@
 use Rattle.sheet.specs.Sheet.{sheetIn}
 use Rattle.arrays.specs.Arrays.{measuresOf, boundsOf, drawsList}
 use Rattle.optimum.specs.Budgets.{radicesOf}
-use Rattle.onesided.proofs.Parts.{heights, bounds, bounds-fit, radices, draws, stands}
+use Rattle.onesided.proofs.Parts.{IsFront, heights, bounds, bounds-fit, radices, draws, stands}
 use Rattle.onesided.proofs.Facts.{arrays-are, lays-is}
 use Rattle.onesided.proofs.Called.{laid-is}
 use mathlib.Core.Path.{_≡_, refl, _∙_}
@@ -15,16 +15,16 @@ use Rattle.onesided.proofs.lay_sites.Statement.{statement}
 use Rattle.onesided.proofs.lay_sites.Tie as tie
 
 -- the arrays are the sheet's
-heights-are : (c : tie.After-heights-of) → (take (c .before .before .before .before .before .before .before .before .before .args .slots) (c .heights-of .result) ≡ sheetIn (c .before .before .before .before .before .before .before .before .before .args .sheet .now) .slots) × (c .before .before .before .before .before .before .before .before .before .args .slots ≡ length (take (c .before .before .before .before .before .before .before .before .before .args .slots) (c .heights-of .result)))
+heights-are : (c : tie.After-heights-of) → IsFront (c .heights-of .result) (c .before .before .before .before .before .before .before .before .before .args .slots) (sheetIn (c .before .before .before .before .before .before .before .before .before .args .sheet .now) .slots)
 heights-are c = heights (c .before .before .before .before .before .before .before .before .before .args .sheet .now) (c .before .before .before .before .before .before .before .before .before .pre .0 .takes .1) (c .heights-of .result) (c .before .before .before .before .before .before .before .before .before .args .slots) (c .heights-of .ensures) (c .before .before .before .before .before .before .before .before .before .pre .0 .sizes .0)
 
-bounds-are : (c : tie.After-bounds-of) → (take (c .before .before .before .before .before .before .before .before .before .before .args .colour-count) (c .bounds-of .result) ≡ boundsOf (sheetIn (c .before .before .before .before .before .before .before .before .before .before .args .sheet .now) .colours)) × (c .before .before .before .before .before .before .before .before .before .before .args .colour-count ≡ length (take (c .before .before .before .before .before .before .before .before .before .before .args .colour-count) (c .bounds-of .result)))
+bounds-are : (c : tie.After-bounds-of) → IsFront (c .bounds-of .result) (c .before .before .before .before .before .before .before .before .before .before .args .colour-count) (boundsOf (sheetIn (c .before .before .before .before .before .before .before .before .before .before .args .sheet .now) .colours))
 bounds-are c = bounds (c .before .before .before .before .before .before .before .before .before .before .args .sheet .now) (c .before .before .before .before .before .before .before .before .before .before .pre .0 .takes .1) (c .bounds-of .result) (c .before .before .before .before .before .before .before .before .before .before .args .colour-count) (c .bounds-of .ensures) (c .before .before .before .before .before .before .before .before .before .before .pre .0 .sizes .1)
 
-radices-are : (c : tie.After-radices-of) → (take (c .before .before .before .before .before .before .before .before .before .before .before .before .args .colour-count) (c .radices-of .result) ≡ radicesOf (sheetIn (c .before .before .before .before .before .before .before .before .before .before .before .before .args .sheet .now) .colours)) × (c .before .before .before .before .before .before .before .before .before .before .before .before .args .colour-count ≡ length (take (c .before .before .before .before .before .before .before .before .before .before .before .before .args .colour-count) (c .radices-of .result)))
+radices-are : (c : tie.After-radices-of) → IsFront (c .radices-of .result) (c .before .before .before .before .before .before .before .before .before .before .before .before .args .colour-count) (radicesOf (sheetIn (c .before .before .before .before .before .before .before .before .before .before .before .before .args .sheet .now) .colours))
 radices-are c = radices (c .before .before .before .before .before .before .before .before .before .before .before .before .args .sheet .now) (c .before .before .before .before .before .before .before .before .before .before .before .before .pre .0 .takes .1) (c .before .before .bounds-of .result) (c .radices-of .result) (c .before .before .before .before .before .before .before .before .before .before .before .before .args .colour-count) (bounds-are (c .before .before) .0) (c .before .before .before .before .before .before .before .before .before .before .before .before .pre .0 .sizes .1) (c .radices-of .ensures)
 
-draws-are : (c : tie.After-draws-of) → (take (c .before .before .before .before .before .before .before .before .before .before .before .before .before .args .colour-count) (c .draws-of .result) ≡ drawsList (sheetIn (c .before .before .before .before .before .before .before .before .before .before .before .before .before .args .sheet .now))) × (c .before .before .before .before .before .before .before .before .before .before .before .before .before .args .colour-count ≡ length (take (c .before .before .before .before .before .before .before .before .before .before .before .before .before .args .colour-count) (c .draws-of .result)))
+draws-are : (c : tie.After-draws-of) → IsFront (c .draws-of .result) (c .before .before .before .before .before .before .before .before .before .before .before .before .before .args .colour-count) (drawsList (sheetIn (c .before .before .before .before .before .before .before .before .before .before .before .before .before .args .sheet .now)))
 draws-are c = draws (c .before .before .before .before .before .before .before .before .before .before .before .before .before .args .sheet .now) (c .before .before .before .before .before .before .before .before .before .before .before .before .before .pre .0 .takes .1) (c .before .before .before .bounds-of .result) (c .draws-of .result) (c .before .before .before .before .before .before .before .before .before .before .before .before .before .args .colour-count) (bounds-are (c .before .before .before) .0) (c .before .before .before .before .before .before .before .before .before .before .before .before .before .pre .0 .sizes .1) (c .draws-of .ensures)
 
 measures-are : (c : tie.After-measures-of) → c .measures-of .result ≡ measuresOf (sheetIn (c .before .before .before .before .before .before .before .before .args .sheet .now))

@@ -9,7 +9,7 @@ use lib.ListN.{getD}
 use borrow.Author.Tests.{eqb-true, eqb-false, ne-eqb}
 use Rattle.lists.proofs.Tests.{by-test, by-either, clash, not-f}
 use Rattle.search.specs.Radix.{below}
-use Rattle.search.proofs.Radix.{digit-le, sharing}
+use Rattle.search.proofs.Radix.{digit-le, below-splits}
 use Rattle.search.proofs.Digits.{place-same, digit-wide}
 use Rattle.sheet.specs.Limits.{unbounded}
 use Rattle.sheet.specs.Sheet.{Sheet}
@@ -71,5 +71,5 @@ module _ (s : Sheet) where
       can-draw : (t : Point) (v : ℕ) → (isUnbounded s (t .c) ≡ true) ⊎ (0 < digitIn s (t .c) v) → below (radicesOf (s .colours)) (drawsOf s (t .c)) v ≡ true
       can-draw t v h =
           by-test (isUnbounded s (t .c))
-          (λ u. rw (draws-none s (t .c) u) (sharing (radicesOf (s .colours)) .nothing v))
+          (λ u. rw (draws-none s (t .c) u) (below-splits (radicesOf (s .colours)) .nothing v))
           (λ u. by-either h (λ w. clash w u) (λ w. rw (draws-one s (t .c) u) (draws s (t .c) v w .taken)))

@@ -1,16 +1,17 @@
 -- One word of a sheet without the bounds that can't bind, by its tests. Assumes nothing.
-use mathlib.Core.Path.{_≡_, refl}
+use mathlib.Core.Path.{_≡_, refl, sym, _∙_}
 use mathlib.Core.List.{List, [], _∷_, _++_}
 use Prim.Native.Nat.{ℕ, _+_, _*_, _/_, _%_, _≤_, _<_}
 use native.Mathlib.Omega.{arith}
-use lib.ListN.{length, getD, drop, take, drop-of-length-le}
-use lib.Seq.{take-at}
+use lib.ListN.{length, getD, drop, replicate, drop-of-length-le}
 use borrow.Author.Tests.{eq-eqb, ne-eqb, le-leb, lt-leb}
 use Rattle.lists.proofs.Places.{at}
-use Rattle.sheet.specs.Limits.{byteTop, unbounded}
+use Rattle.lists.proofs.Arrays.{padded-of}
+use Rattle.sheet.specs.Limits.{byteTop, unbounded, mostWords}
 use Rattle.sheet.specs.Sheet.{kindOf, bits, sitesRun}
 use Rattle.sheet.specs.Binding.{bindingWord, bindingOnly}
 use Rattle.sheet.proofs.Binding.{length-kept}
+use Rattle.reader.specs.Read.{bindingArray}
 
 module _ (w n k : ℕ) (e : k ≡ kindOf w) where
   pub no-colour : (k ≡ 3 → ⊥) → w ≡ bindingWord w n
@@ -32,5 +33,9 @@ pub binding-end : (s : List ℕ) (i : ℕ) → length s ≤ i → bindingOnly (d
 unfolding bindingOnly
 binding-end s i h = rw (drop-of-length-le s h) refl
 
-pub front : (s r d : List ℕ) → r ≡ bindingOnly s ++ drop (length s) d → take (length s) r ≡ bindingOnly s
-front s r d e = rw e (take-at (bindingOnly s) (drop (length s) d) (length s) (length-kept s))
+-- the array by the length of the list
+pub array-long : (s : List ℕ) → mostWords < length s → replicate mostWords 0 ≡ bindingArray s
+array-long s h = rw (lt-leb (length s) mostWords h) refl
+
+pub array-short : (s r : List ℕ) → length s ≤ mostWords → r ≡ bindingOnly s ++ drop (length s) (replicate mostWords 0) → r ≡ bindingArray s
+array-short s r h e = rw (le-leb (length s) mostWords h) (e ∙ padded-of (bindingOnly s) (bindingOnly s) mostWords (length s) refl (sym (length-kept s)))

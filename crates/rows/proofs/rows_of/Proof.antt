@@ -2,6 +2,7 @@ use native.Mathlib.Nat.{mul-le-mul}
 use Prim.Native.Nat.{_+_, _-_, _≤_}
 use native.Mathlib.Omega.{arith}
 use borrow.Author.Needs.{needs}
+use Rattle.sheet.specs.Limits.{mostSlots, mostColours, mostEnds}
 use Rattle.rows.proofs.rows_of.Statement.{statement}
 use Rattle.rows.proofs.rows_of.Tie as tie
 use Rattle.rows.proofs.rows_of.Reads as reads
@@ -19,20 +20,20 @@ add-ends c = search needs
 mul-result : tie.Need-mul-result
 mul-result c =
     let p = c .before .pre in let q = c .before .args .q .colours in let m = c .before .args .m in
-    let x : m + 2 ≤ 50 = omega (arith, p .0) in let y : q + 1 ≤ 9 = omega (arith, p .1) in
-    omega (arith, mul-le-mul {n₂ = 50} {m₂ = 9} x y)
+    let x : m + 2 ≤ mostSlots + 2 = omega (arith, p .0) in let y : q + 1 ≤ mostColours + 1 = omega (arith, p .1) in
+    omega (arith, mul-le-mul {n₂ = mostSlots + 2} {m₂ = mostColours + 1} x y)
 
 mul-result-2 : tie.Need-mul-result-2
 mul-result-2 c =
     let p = c .before .pre in let q = c .before .args .q .colours in let m = c .before .args .m in
-    let x : m + 2 ≤ 50 = omega (arith, p .0) in let y : q + 1 ≤ 9 = omega (arith, p .1) in
-    omega (arith, mul-le-mul {n₂ = 450} {m₂ = 50} (mul-le-mul {n₂ = 50} {m₂ = 9} x y) x)
+    let x : m + 2 ≤ mostSlots + 2 = omega (arith, p .0) in let y : q + 1 ≤ mostColours + 1 = omega (arith, p .1) in
+    omega (arith, mul-le-mul {n₂ = mostEnds} {m₂ = mostSlots + 2} (mul-le-mul {n₂ = mostSlots + 2} {m₂ = mostColours + 1} x y) x)
 
 mul-result-3 : tie.Need-mul-result-3
 mul-result-3 c =
     let p = c .before .pre in let q = c .before .args .q .colours in let m = c .before .args .m in
-    let x : m + 2 ≤ 50 = omega (arith, p .0) in let y : q + 1 ≤ 9 = omega (arith, p .1) in
-    omega (arith, mul-le-mul {n₂ = 22500} {m₂ = 9} (mul-le-mul {n₂ = 450} {m₂ = 50} (mul-le-mul {n₂ = 50} {m₂ = 9} x y) x) y)
+    let x : m + 2 ≤ mostSlots + 2 = omega (arith, p .0) in let y : q + 1 ≤ mostColours + 1 = omega (arith, p .1) in
+    omega (arith, mul-le-mul {n₂ = mostEnds * (mostSlots + 2)} {m₂ = mostColours + 1} (mul-le-mul {n₂ = mostEnds} {m₂ = mostSlots + 2} (mul-le-mul {n₂ = mostSlots + 2} {m₂ = mostColours + 1} x y) x) y)
 
 returns : tie.Need-returns
 returns c = search needs

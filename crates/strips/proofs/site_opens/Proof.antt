@@ -3,6 +3,7 @@ use Rattle.lists.proofs.Places.{default-any}
 use mathlib.Core.Path.{refl}
 use Prim.Native.Nat.{_-_}
 use borrow.Author.Needs.{needs}
+use Rattle.sheet.specs.Limits.{unbounded}
 use Rattle.strips.proofs.site_opens.Statement.{statement}
 use Rattle.strips.proofs.site_opens.Tie as tie
 use Rattle.strips.proofs.site_opens.Reads as reads
@@ -43,7 +44,7 @@ returns : tie.Need-returns
 unfolding siteOpens
 returns c =
     let b = c .before .before .before .before .before .before .before .before .before .before .args .bounds .now in
-    rw (c .both2 .ensures, c .before .is-not .ensures, c .before .before .same .ensures, c .before .before .before .before .both .ensures, c .before .before .before .before .before .is-clear2 .ensures, c .before .before .before .before .before .before .is-clear .ensures, default-any b (c .before .before .before .before .before .before .before .before .before .before .args .s .c) 255 0 (c .before .before .before .before .before .before .before .before .before .before .pre)) refl
+    rw (c .both2 .ensures, c .before .is-not .ensures, c .before .before .same .ensures, c .before .before .before .before .both .ensures, c .before .before .before .before .before .is-clear2 .ensures, c .before .before .before .before .before .before .is-clear .ensures, default-any b (c .before .before .before .before .before .before .before .before .before .before .args .s .c) unbounded 0 (c .before .before .before .before .before .before .before .before .before .before .pre)) refl
 
 pub site-opens-spec : {M : Type 1} → statement M
 site-opens-spec =

@@ -4,9 +4,9 @@ use Prim.Native.Nat.{ℕ, suc, _+_, _*_, _-_, _<_, _≤_}
 use native.Mathlib.Nat.{mul-le-mul}
 use native.Mathlib.Omega.{arith}
 use lib.ListN.{length}
-use Rattle.sheet.specs.Limits.{mostBudgets, mostSites}
+use Rattle.sheet.specs.Limits.{mostBudgets, mostSites, mostRows, mostLevel, mostTable}
 use Rattle.arrays.specs.Given.{Given, OfSheet}
-use Rattle.rows.specs.Rows.{levelOf, mostRows, mostLevel, mostTable}
+use Rattle.rows.specs.Rows.{levelOf}
 use Rattle.rows.specs.Parts.{LevelFits}
 use Rattle.rows.proofs.Places.{rows-few}
 

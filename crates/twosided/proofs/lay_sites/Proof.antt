@@ -44,8 +44,8 @@ caps-of-requires c κs =
       (filled-at (a .q) (a .heights .now) (a .bounds .now) (a .radices .now) (a .ys .now) (a .colours .now) (a .ranks .now) (v .result) (v .last .1 .1 .1 .1 .1 .1 .1 .1 .0) l (v .ensures .0) (c .before .if1 .left) (omega (arith, v .ok)) (v .ensures .1 .0), c .before .before .before .before .before .before .before .before .site-order .ensures, steady-at (a .q) (a .heights .now) (a .bounds .now) (a .radices .now) (a .ys .now) (a .colours .now) (a .ranks .now) (v .result) (v .ensures .0) (c .before .if1 .left) (omega (arith, v .ok)) (p .1 .1)),
     )
 
-head-word-requires : tie.Need-head-word-requires
-head-word-requires c κs = search needs
+first-word-requires : tie.Need-first-word-requires
+first-word-requires c κs = search needs
 
 array-share-prefix-found : tie.Need-array-share-prefix-found
 array-share-prefix-found c =
@@ -73,8 +73,8 @@ same-length-3 c = search needs
 returns-2 : tie.Need-returns-2
 returns-2 c =
     let a = c .before .before .before .before .before .before .before .before .before .before .before .before .before .before .before .before .before .before .before .before .before .before .before .before .before .before .before .before .before .args in let p = c .before .before .before .before .before .before .before .before .before .before .before .before .before .before .before .before .before .before .before .before .before .before .before .before .before .before .before .before .before .pre in let v = c .before .before .before .before .before .before .before .before .before .before .before .before .before .before .before .value-of in let k = c .before .before .before .before .before .before .before .before .before .before .caps-of in
-    laid-some (a .q) (a .heights .now) (a .bounds .now) (a .radices .now) (a .ys .now) (a .colours .now) (a .ranks .now) (v .result) (c .before .before .before .before .before .before .before .before .before .head-word .result) (tableWords (a .q) (a .heights .now)) (take (length (a .ys .now)) (k .result)) (a .work .now) (v .last .1 .1 .1 .1 .1 .1 .1 .1 .0) (c .before .before .zero-part2 .last .0) (a .out .now) (c .before .before .before .before .before .before .write-layout .last .1 .1 .0)
-    (v .ensures .0) (c .before .before .before .before .before .before .before .before .before .before .before .before .if1 .left) (omega (arith, v .ok)) (k .ensures .1 .0) (k .ensures .0) (c .before .before .before .before .before .before .before .before .before .head-word .ensures) (c .before .before .before .before .before .before .write-layout .ensures)
+    laid-some (a .q) (a .heights .now) (a .bounds .now) (a .radices .now) (a .ys .now) (a .colours .now) (a .ranks .now) (v .result) (c .before .before .before .before .before .before .before .before .before .first-word .result) (tableWords (a .q) (a .heights .now)) (take (length (a .ys .now)) (k .result)) (a .work .now) (v .last .1 .1 .1 .1 .1 .1 .1 .1 .0) (c .before .before .zero-part2 .last .0) (a .out .now) (c .before .before .before .before .before .before .write-layout .last .1 .1 .0)
+    (v .ensures .0) (c .before .before .before .before .before .before .before .before .before .before .before .before .if1 .left) (omega (arith, v .ok)) (k .ensures .1 .0) (k .ensures .0) (c .before .before .before .before .before .before .before .before .before .first-word .ensures) (c .before .before .before .before .before .before .write-layout .ensures)
     (v .ensures .1 .1) ((rw (c .before .before .before .before .before .before .before .before .before .before .before .before .before .before .before .before .before .table-words .ensures) at (c .before .before .zero-part2 .ensures)) ∙ zeroed-front (tableWords (a .q) (a .heights .now)) (v .last .1 .1 .1 .1 .1 .1 .1 .1 .0))
 
 pub lay-sites-spec : {M : Type 1} → statement M
@@ -90,7 +90,7 @@ lay-sites-spec =
     same-length
     returns
     caps-of-requires
-    head-word-requires
+    first-word-requires
     array-share-prefix-found
     slice-aggregate-write-layout
     write-layout-requires

@@ -19,7 +19,7 @@ use Rattle.rows.specs.Rest.{LevelIn, restRows}
 use Rattle.walk.specs.Walk.{Found, valueIn, worthIn, levelWords, Standing, tiedFrom}
 use Rattle.walk.proofs.Value.{Met, met-value, walk-right}
 use Rattle.walk.proofs.Tying.{long}
-use Rattle.costs.specs.Costs.{headWord}
+use Rattle.costs.specs.Costs.{firstWordBy}
 use Rattle.walk.specs.Laid.{emptySheet, leastCost, writtenBy, laidFault, laidOut, FilledIn}
 
 -- the front of an array of zeros
@@ -101,7 +101,7 @@ module _ {g : Given} {work out : List ℕ} (L : List ℕ) (f : FilledIn g work o
       })
 
   pub ties : (least : ℕ) → least ≡ leastCost P (q .budgets) points → least < topWord
-      → tiedFrom g work L (set out 0 (headWord q least)) 0 (q .budgets - 1) ≡ writtenBy P q points (g .order) out
+      → tiedFrom g work L (set out 0 (firstWordBy q least)) 0 (q .budgets - 1) ≡ writtenBy P q points (g .order) out
   ties least e h = rw (z, e, walked (omega arith) .0) refl
 
   -- the answer by the least cost

@@ -3,6 +3,10 @@ use mathlib.Core.Path.{refl, sym, _∙_}
 use Rattle.judge.proofs.least_broken.broken_by.Statement.{statement}
 use Rattle.judge.proofs.least_broken.broken_by.Tie as tie
 
+-- where the function starts, seen from where rule 1 is tested
+abbrev begin : tie.After-pairs-pass → tie.Start
+begin p = p .before .before .before .before .before .before .before
+
 pairs-pass-requires : tie.Need-pairs-pass-requires
 pairs-pass-requires c κs =
     c .before .before .before .before .before .before .pre .0
@@ -13,7 +17,7 @@ returns c =
 
 bounds-pass-requires : tie.Need-bounds-pass-requires
 bounds-pass-requires c κs =
-    c .before .before .before .before .before .before .before .before .pre .0 .colours-long
+    begin (c .before) .pre .0 .colours-long
 
 returns-2 : tie.Need-returns-2
 returns-2 c =
@@ -21,7 +25,7 @@ returns-2 c =
 
 pairs-pass-requires-2 : tie.Need-pairs-pass-requires-2
 pairs-pass-requires-2 c κs =
-    c .before .before .before .before .before .before .before .before .before .before .pre .0
+    begin (c .before .before .before) .pre .0
 
 returns-3 : tie.Need-returns-3
 returns-3 c =
@@ -29,7 +33,7 @@ returns-3 c =
 
 pairs-pass-requires-3 : tie.Need-pairs-pass-requires-3
 pairs-pass-requires-3 c κs =
-    c .before .before .before .before .before .before .before .before .before .before .before .before .pre .0
+    begin (c .before .before .before .before .before) .pre .0
 
 returns-4 : tie.Need-returns-4
 returns-4 c =
@@ -37,7 +41,7 @@ returns-4 c =
 
 pairs-pass-requires-4 : tie.Need-pairs-pass-requires-4
 pairs-pass-requires-4 c κs =
-    c .before .before .before .before .before .before .before .before .before .before .before .before .before .before .pre .0
+    begin (c .before .before .before .before .before .before .before) .pre .0
 
 returns-5 : tie.Need-returns-5
 returns-5 c =
@@ -45,7 +49,7 @@ returns-5 c =
 
 totals-stated-requires : tie.Need-totals-stated-requires
 totals-stated-requires c κs =
-    c .before .before .before .before .before .before .before .before .before .before .before .before .before .before .before .before .pre
+    begin (c .before .before .before .before .before .before .before .before .before) .pre
 
 returns-6 : tie.Need-returns-6
 returns-6 c =

@@ -9,6 +9,10 @@ use borrow.Author.Needs.{needs}
 use Rattle.report.proofs.lines.put_line_of.Statement.{statement}
 use Rattle.report.proofs.lines.put_line_of.Tie as tie
 
+-- where the function starts, seen from where the line has its first part
+abbrev begin : tie.After-put-named → tie.Start
+begin n = n .before .before .before .before .before .before .before .before .before
+
 kind-of-requires : tie.Need-kind-of-requires
 kind-of-requires c κs = search needs
 
@@ -47,9 +51,10 @@ same-length c = search needs
 
 returns-2 : tie.Need-returns-2
 returns-2 c =
-    let w = c .before .before .before .before .before .before .before .before .before .before .before .before .before .before .before .before .before .before .before .before .before .args .word in
-    rw (eq-eqb (kindOf w) 4 (sym (c .before .before .before .before .before .before .before .before .before .before .before .before .before .before .before .before .before .before .kind-of .ensures) ∙ c .before .before .before .before .before .before .before .before .before .before .before .before .before .before .before .before .before .if1 .left))
-    (site-put _ _ _ _ _ (c .before .before .before .before .before .before .before .before .before .before .before .before .put-named .ensures) (rw (c .before .before .before .before .before .before .before .before .before .before .before .before .before .before .before .last-of .ensures) at (c .before .before .before .before .before .before .before .put-named2 .ensures)) (rw (c .before .before .before .before .before .before .before .before .before .before .before .before .before .before .before .before .slot-of .ensures) at (c .before .before .put-named3 .ensures)))
+    let n = c .before .before .before .before .before .before .before .before .before .before .before .before in
+    let w = begin n .args .word in
+    rw (eq-eqb (kindOf w) 4 (sym (n .before .before .before .before .before .before .kind-of .ensures) ∙ n .before .before .before .before .before .if1 .left))
+    (site-put _ _ _ _ _ (n .put-named .ensures) (rw (n .before .before .before .last-of .ensures) at (c .before .before .before .before .before .before .before .put-named2 .ensures)) (rw (n .before .before .before .before .slot-of .ensures) at (c .before .before .put-named3 .ensures)))
 
 pub put-line-of-spec : {M : Type 1} → statement M
 put-line-of-spec =

@@ -1,6 +1,7 @@
 use Rattle.search.specs.Cost.{plus, least}
 use Rattle.optimum.specs.OneSided.{topWord}
 use Rattle.rows.specs.Budgets.{partAt}
+use Rattle.sheet.specs.Limits.{mostBudgets}
 use Rattle.rows.proofs.Lists.{least-more, least-none}
 use mathlib.Core.Path.{_≡_, refl, _∙_}
 use Prim.Native.Nat.{_+_, _-_, _*_, _<_, _≤_, min}
@@ -20,7 +21,7 @@ abbrev μ-loop : tie.MeasureT-loop
 μ-loop parts counts f from g at u base end n best₀ i₀ best i = n - i
 
 -- what is listed for u is at most u
-part-low : (c : tie.In-loop Inv-loop μ-loop) → (partAt (c .before .before .before .before .before .before .before .args .parts .now) (c .before .before .before .before .before .before .before .args .u) (c .before .loop .i) ≤ c .before .before .before .before .before .before .before .args .u) × (c .before .loop .i < 64)
+part-low : (c : tie.In-loop Inv-loop μ-loop) → (partAt (c .before .before .before .before .before .before .before .args .parts .now) (c .before .before .before .before .before .before .before .args .u) (c .before .loop .i) ≤ c .before .before .before .before .before .before .before .args .u) × (c .before .loop .i < mostBudgets)
 part-low c =
     let a = c .before .before .before .before .before .before .before .args in
     let w = c .before .before .before .before .before .before .before .pre .0 in
@@ -57,7 +58,7 @@ shared-slice-read-w c =
 
 cast-w : tie.Need-cast-w Inv-loop μ-loop
 cast-w c =
-    omega (arith, c .shared-slice-known6 .given (c .before .before .before .before .before .before .before .before .args .u * 64 + c .before .before .loop .i))
+    omega (arith, c .shared-slice-known6 .given (c .before .before .before .before .before .before .before .before .args .u * mostBudgets + c .before .before .loop .i))
 
 add-lower : tie.Need-add-lower Inv-loop μ-loop
 add-lower c =

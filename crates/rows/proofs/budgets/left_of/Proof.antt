@@ -1,10 +1,11 @@
 use mathlib.Core.Bool.{true}
 use Rattle.search.specs.Radix.{below}
-use Rattle.search.proofs.Radix.{sharing}
+use Rattle.search.proofs.Radix.{below-splits}
 use mathlib.Core.Path.{_≡_, sym, _∙_}
 use Prim.Native.Nat.{_-_, _<_, _≤_}
 use native.Mathlib.Omega.{arith}
 use borrow.Author.Needs.{needs}
+use Rattle.sheet.specs.Limits.{byteTop}
 use Rattle.rows.proofs.budgets.left_of.Statement.{statement}
 use Rattle.rows.proofs.budgets.left_of.Tie as tie
 use Rattle.rows.proofs.budgets.left_of.Reads as reads
@@ -15,8 +16,8 @@ use Rattle.costs.proofs.masks.is_below.Reads as is-below-reads
 yes : (c : tie.Then1) → below (c .before .before .before .args .radices .now) (c .before .before .before .args .draw) (c .before .before .before .args .v) ≡ true
 yes c = sym (c .before .is-below .ensures) ∙ c .if1 .taken
 
-low : (c : tie.Then1) → (c .before .before .before .args .draw ≤ c .before .before .before .args .v) × (c .before .before .before .args .v < 256)
-low c = (sharing _ .fits _ _ (yes c), omega (arith, c .before .before .before .fits .v))
+low : (c : tie.Then1) → (c .before .before .before .args .draw ≤ c .before .before .before .args .v) × (c .before .before .before .args .v < byteTop)
+low c = (below-splits _ .fits _ _ (yes c), omega (arith, c .before .before .before .fits .v))
 
 is-below-requires : tie.Need-is-below-requires
 is-below-requires c κs = search needs

@@ -1,7 +1,8 @@
 use lib.Seq.{getD-set-same, getD-set-other}
 use Rattle.search.specs.Radix.{maskFrom}
 use Rattle.search.proofs.Radix.{mask-all, mask-low, mask-half}
-use Rattle.rows.specs.Budgets.{Listed, Others}
+use Rattle.rows.specs.Budgets.{Listed, Others, splitsLength}
+use Rattle.sheet.specs.Limits.{mostBudgets}
 use Rattle.rows.proofs.Lists.{listed-none, listed-next, others-none, others-set}
 use mathlib.Core.Path.{_≡_, ap, sym, _∙_}
 use Prim.Native.Nat.{ℕ, _+_, _-_, _*_, _/_, _<_, _≤_}
@@ -16,7 +17,7 @@ use Rattle.rows.proofs.budgets.counted.Reads as counted-reads
 use Rattle.costs.proofs.masks.mask_below.Reads as mask-below-reads
 
 abbrev Inv-loop : tie.InvT-loop
-Inv-loop radices v parts₀ base mask₀ count₀ w₀ parts mask count w = (length parts ≡ 4096) × (w ≤ v + 1) × (mask ≡ maskFrom radices v w) × Listed radices v w count (λ i. getD parts (v * 64 + i) 0) × Others parts₀ parts (v * 64) 64
+Inv-loop radices v parts₀ base mask₀ count₀ w₀ parts mask count w = (length parts ≡ splitsLength) × (w ≤ v + 1) × (mask ≡ maskFrom radices v w) × Listed radices v w count (λ i. getD parts (v * mostBudgets + i) 0) × Others parts₀ parts (v * mostBudgets) mostBudgets
 
 abbrev μ-loop : tie.MeasureT-loop
 μ-loop radices v parts₀ base mask₀ count₀ w₀ parts mask count w = v + 1 - w
@@ -59,15 +60,15 @@ loop-again : tie.Need-loop-again Inv-loop μ-loop
 loop-again c =
     let a = c .before .before .before .before .before .before .args in
     let l = c .before .before .loop in
-    let n : l .count < 64 = omega (arith, l .inv .3 .few) in
-    let x = a .v * 64 + l .count in
+    let n : l .count < mostBudgets = omega (arith, l .inv .3 .few) in
+    let x = a .v * mostBudgets + l .count in
     let m = l .inv .2 in (
       simp length-set (l .inv .0),
       omega arith,
       ap (λ (z : ℕ). z / 2) m ∙ mask-half (a .radices .now) (a .v) (l .w) (omega arith),
       rw (c .counted .ensures, m, mask-low (a .radices .now) (a .v) (l .w) (omega arith))
-          (listed-next (a .radices .now) (a .v) (l .w) (l .count) _ _ (λ i h. getD-set-other (l .parts) x (a .v * 64 + i) (l .w) 0 (λ e. omega arith)) (getD-set-same (l .parts) x (l .w) 0 (omega (arith, l .inv .0))) (l .inv .3)),
-      others-set (a .parts .now) (l .parts) (a .v * 64) 64 (l .count) (l .w) n (l .inv .4),
+          (listed-next (a .radices .now) (a .v) (l .w) (l .count) _ _ (λ i h. getD-set-other (l .parts) x (a .v * mostBudgets + i) (l .w) 0 (λ e. omega arith)) (getD-set-same (l .parts) x (l .w) 0 (omega (arith, l .inv .0))) (l .inv .3)),
+      others-set (a .parts .now) (l .parts) (a .v * mostBudgets) mostBudgets (l .count) (l .w) n (l .inv .4),
     )
 
 same-length : tie.Need-same-length Inv-loop μ-loop

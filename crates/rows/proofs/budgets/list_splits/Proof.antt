@@ -1,4 +1,5 @@
-use Rattle.rows.specs.Budgets.{Listed, partAt}
+use Rattle.rows.specs.Budgets.{Listed, partAt, splitsLength}
+use Rattle.sheet.specs.Limits.{mostBudgets}
 use Rattle.rows.proofs.Lists.{rows-more, splits-of}
 use mathlib.Core.Path.{_≡_, _∙_}
 use Prim.Native.Nat.{ℕ, _+_, _-_, _<_, _≤_}
@@ -12,7 +13,7 @@ use Rattle.rows.proofs.budgets.list_splits.Lts as lts
 use Rattle.rows.proofs.budgets.list_below.Reads as list-below-reads
 
 abbrev Inv-loop : tie.InvT-loop
-Inv-loop radices budgets parts₀ counts₀ v₀ parts counts v = (v ≤ budgets) × (length parts ≡ 4096) × (length counts ≡ 64) × ((x : ℕ) → x < v → Listed radices x (x + 1) (getD counts x 0) (partAt parts x))
+Inv-loop radices budgets parts₀ counts₀ v₀ parts counts v = (v ≤ budgets) × (length parts ≡ splitsLength) × (length counts ≡ mostBudgets) × ((x : ℕ) → x < v → Listed radices x (x + 1) (getD counts x 0) (partAt parts x))
 
 abbrev μ-loop : tie.MeasureT-loop
 μ-loop radices budgets parts₀ counts₀ v₀ parts counts v = budgets - v

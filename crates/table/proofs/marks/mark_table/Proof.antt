@@ -5,6 +5,7 @@ use Rattle.arrays.specs.Given.{OfSheet}
 use Rattle.rows.specs.Rows.{levelOf}
 use Rattle.rows.proofs.Places.{rows-few}
 use Rattle.table.specs.Marks.{onSites, ReachMarked}
+use Rattle.sheet.specs.Limits.{mostSites, mostRows}
 use Rattle.table.proofs.marks.Levels.{level-small, count-words, first-within, past-level, few, few-rows, level-fits}
 use Rattle.table.proofs.marks.Reach.{reach-first, reach-more, whole-marked, to-level}
 use mathlib.Core.Path.{_≡_, refl, ap, _∙_}
@@ -46,7 +47,7 @@ mul-clear-marks : tie.Need-mul-clear-marks Inv-loop μ-loop
 mul-clear-marks c =
     let p = c .before .before .before .before .before .before .before .before .pre in
     let a = c .before .before .before .before .before .before .before .before .args in
-    omega (arith, mul-le-mul {n₂ = 33} {m₂ = 202500} (few _ (p .0 .fewSites)) (few-rows _ _ _ (p .3) (rows-few _ _ (p .0 .fewSlots) (p .0 .fewColours))))
+    omega (arith, mul-le-mul {n₂ = mostSites + 1} {m₂ = mostRows} (few _ (p .0 .fewSites)) (few-rows _ _ _ (p .3) (rows-few _ _ (p .0 .fewSlots) (p .0 .fewColours))))
 
 clear-marks-requires : tie.Need-clear-marks-requires Inv-loop μ-loop
 clear-marks-requires c κs =

@@ -37,8 +37,8 @@ returns c =
     let z = zeros-part (length (a .heights .now)) mostSlots (f .arrays .sheet .fewSlots) in
     none-laid _ f z _ (c .before .rest-of .ensures ∙ least-is _ f z) (c .if1 .taken)
 
-head-word-requires : tie.Need-head-word-requires
-head-word-requires c κs = search needs
+first-word-requires : tie.Need-first-word-requires
+first-word-requires c κs = search needs
 
 slice-write-out : tie.Need-slice-write-out
 slice-write-out c =
@@ -69,7 +69,7 @@ returns-2 c =
     let e = c .before .before .before .before .before .before .before .before .rest-of .ensures ∙ least-is _ f z in
     let l : c .before .before .before .before .before .before .before .before .rest-of .result < topWord = omega (arith, c .before .before .before .before .before .before .before .if1 .left, c .before .before .before .before .before .before .before .before .rest-of .ok) in
     let n = one-laid _ f z _ e l in
-    (n .0, c .before .before .before .walk .ensures ∙ rw (c .before .before .before .before .before .before .head-word .ensures) (ties _ f z _ e l) ∙ n .1)
+    (n .0, c .before .before .before .walk .ensures ∙ rw (c .before .before .before .before .before .before .first-word .ensures) (ties _ f z _ e l) ∙ n .1)
 
 pub lay-least-spec : {M : Type 1} → statement M
 lay-least-spec =
@@ -80,7 +80,7 @@ lay-least-spec =
     slice-aggregate-rest-of
     rest-of-requires
     returns
-    head-word-requires
+    first-word-requires
     slice-write-out
     array-borrow-prefix-labels
     slice-aggregate-walk

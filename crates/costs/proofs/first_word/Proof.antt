@@ -1,8 +1,8 @@
 use mathlib.Core.Path.{refl}
 use Prim.Native.Nat.{_-_}
 use borrow.Author.Needs.{needs}
-use Rattle.costs.proofs.head_word.Statement.{statement}
-use Rattle.costs.proofs.head_word.Tie as tie
+use Rattle.costs.proofs.first_word.Statement.{statement}
+use Rattle.costs.proofs.first_word.Tie as tie
 
 mul-result : tie.Need-mul-result
 mul-result c = search needs
@@ -30,8 +30,8 @@ returns-2 : tie.Need-returns-2
 returns-2 c =
     rw (c .if1 .left) refl
 
-pub head-word-spec : {M : Type 1} → statement M
-head-word-spec =
+pub first-word-spec : {M : Type 1} → statement M
+first-word-spec =
     tie.close
     (tie.spec
     mul-result
