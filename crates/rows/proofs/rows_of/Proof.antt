@@ -1,5 +1,5 @@
 use native.Mathlib.Nat.{mul-le-mul}
-use Prim.Native.Nat.{_+_, _-_, _≤_}
+use Prim.Native.Nat.{_+_, _-_, _≤_, _*_}
 use native.Mathlib.Omega.{arith}
 use borrow.Author.Needs.{needs}
 use Rattle.sheet.specs.Limits.{mostSlots, mostColours, mostEnds}
