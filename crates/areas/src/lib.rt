@@ -1,5 +1,5 @@
-// The areas of a call: their lengths, and a part of one zeroed.
-pub mod lengths;
+// The areas of a call: what is refused before they are used, and a part of one zeroed.
+pub mod faults;
 
 ghost use mathlib.Core.Path.{_≡_};
 ghost use Prim.Native.Nat.{_≤_};

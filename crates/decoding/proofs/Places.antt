@@ -1,9 +1,8 @@
 -- What stands at a place of the arrays: the sheet's number, for every place. Assumes nothing.
 use mathlib.Core.Path.{_≡_, refl, _∙_}
-use mathlib.Core.List.{List, [], _∷_, _++_}
-use Prim.Native.Nat.{ℕ, zero, suc, _-_, _≤_}
-use native.Mathlib.Omega.{arith}
-use lib.ListN.{length, getD, replicate, length-append}
+use mathlib.Core.List.{List, [], _∷_}
+use Prim.Native.Nat.{ℕ, zero, suc, _-_}
+use lib.ListN.{getD}
 use Rattle.sheet.specs.Limits.{unbounded}
 use Rattle.sheet.specs.Sheet.{Site, Colour, Sheet}
 use Rattle.labelling.specs.Layout.{noSite, noColour}

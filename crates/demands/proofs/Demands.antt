@@ -21,13 +21,12 @@ use Rattle.labelling.proofs.Best.{Obeys, IsBest, best-is, best-none}
 use Rattle.labelling.proofs.Answer.{obeys-same, best-empty, answer-none}
 use Rattle.labelling.proofs.Earlier.{better-e}
 use Rattle.labelling.proofs.Words.{Written, lawful-obeys, obeys-lawful, answer-ties}
-use Rattle.labelling.proofs.Maker.{Called, called, begun-is, Result, Outcome, outcome, fault-is, length-answer, refused-sheet, refused-work, refused-out}
+use Rattle.labelling.proofs.Maker.{Called, called, begun-is, Result, Outcome, outcome, fault-is, length-answer, refused-sheet, refused-side, refused-work, refused-out}
 use Rattle.labelling.proofs.Kept.{areas-kept, best-of-all, judged-so}
 use Rattle.reader.specs.declared.Sizes.{Sizes}
-use Rattle.reader.specs.Read.{refusedOf}
 use Rattle.reader.proofs.Reading.{reading, refusal-is}
 use Rattle.judge.specs.declared.Verdict.{Verdict}
-use Rattle.demands.specs.Demands.{WasRead, WasMade, WasJudged, layoutIn, LawfulLayout, Sized, ServedByReader, Served, ContentsApart, ServedByJudge, DemandOne, TrueVerdict, DemandTwo, BestOfLawful, DemandThree, DemandThreeByTests}
+use Rattle.demands.specs.Demands.{WasRead, WasMade, WasJudged, layoutIn, LawfulLayout, ServedByReader, Served, ContentsApart, ServedByJudge, DemandOne, DemandTwo, DemandThree, DemandThreeByTests}
 use Rattle.demands.proofs.Layouts.{layout-of, of-layout, no-layout, lawful-of, of-lawful}
 
 -- DEMAND 1, THE READER
@@ -54,8 +53,8 @@ taken-so : (ws k o : List ℕ) (r : ℕ) (k' o' : List ℕ) → WasMade ws k o r
     (k' ≡ cleared ws k) × (((r ≡ 10) × (o' ≡ o)) ⊎ ((r ≡ 0) × (drop (wordsFor (sheetIn ws)) o' ≡ drop (wordsFor (sheetIn ws)) o)))
 taken-so ws k o r k' o' m v = go (outcome ws k o)
   where
-    never : (b : Bool) (n : ℕ) → 0 < n → n < 10 → n ≡ cond b 10 0 → ⊥
-    never true n l u e = omega arith
+    never : (b : Bool) (n : ℕ) → 0 < n → (n ≡ 10 → ⊥) → n ≡ cond b 10 0 → ⊥
+    never true n l u e = u e
     never false n l u e = omega arith
 
     go : Outcome ws k o → (k' ≡ cleared ws k) × (((r ≡ 10) × (o' ≡ o)) ⊎ ((r ≡ 0) × (drop (wordsFor (sheetIn ws)) o' ≡ drop (wordsFor (sheetIn ws)) o)))
@@ -68,8 +67,9 @@ taken-so ws k o r k' o' m v = go (outcome ws k o)
 pub served : (ws k o : List ℕ) (r : ℕ) (k' o' : List ℕ) → WasMade ws k o r k' o' → Served ws k o r k' o'
 served ws k o r k' o' m = record {
   sheet = λ h. served-by ws k o r k' o' _ _ _ m (refused-sheet ws k o h);
-  short = λ f h. served-by ws k o r k' o' _ _ _ m (refused-work ws k o f h);
-  narrow = λ f w h. served-by ws k o r k' o' _ _ _ m (refused-out ws k o f w h);
+  side = λ f h. served-by ws k o r k' o' _ _ _ m (refused-side ws k o f h);
+  short = λ f s h. served-by ws k o r k' o' _ _ _ m (refused-work ws k o f s h);
+  narrow = λ f s w h. served-by ws k o r k' o' _ _ _ m (refused-out ws k o f s w h);
   taken = λ v. taken-so ws k o r k' o' m v;
   lengths = (ap length (m .1) ∙ areas-kept .1 ws k o .3, ap length (m .2) ∙ areas-kept .1 ws k o .2);
 }
@@ -209,7 +209,7 @@ demand-three ws k o r k' o' m =
 
 pub demand-three-by-tests : DemandThreeByTests
 demand-three-by-tests ws k o r k' o' m a v =
-    let b = best-of-all ws k o (a, v .0, v .1, v .2) in (
+    let b = best-of-all ws k o (a, v .0, v .1, v .2, v .3) in (
       (λ e. b .0 (sym (m .0) ∙ e), λ h. m .0 ∙ b .1 h),
       λ h.
           let t = b .2 (ne-eqb (makeFault ws k o) 10 (λ (e : makeFault ws k o ≡ 10). h (m .0 ∙ e))) in

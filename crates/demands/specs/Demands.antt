@@ -58,11 +58,13 @@ pub record ServedByReader (ws : List ℕ) (r : Sizes) (ws' : List ℕ) : Type 0 
   pub sized : r .refusal ≡ 0 → Sized (sheetIn ws) r
   pub unchanged : ws' ≡ ws
 
--- the maker, by its outcome: a refusal 1 to 7 as the reader's, 8, 9, 10, or a layout; no area changes its length
+-- the maker, by its outcome: a refusal 1 to 7 as the reader's, 18, 8, 9, 10, or a layout; no area changes its length
 pub record Served (ws k o : List ℕ) (r : ℕ) (k' o' : List ℕ) : Type 0 where
   pub sheet : 0 < sheetFault ws → (r ≡ sheetFault ws) × (k' ≡ k) × (o' ≡ o)
-  pub short : sheetFault ws ≡ 0 → length k < workFor (sheetIn ws) → (r ≡ 8) × (k' ≡ k) × (o' ≡ o)
-  pub narrow : sheetFault ws ≡ 0 → workFor (sheetIn ws) ≤ length k → length o < wordsFor (sheetIn ws) → (r ≡ 9) × (k' ≡ k) × (o' ≡ o)
+  pub side : sheetFault ws ≡ 0 → sheetIn ws .isTwoSided ≡ true → (r ≡ 18) × (k' ≡ k) × (o' ≡ o)
+  pub short : sheetFault ws ≡ 0 → sheetIn ws .isTwoSided ≡ false → length k < workFor (sheetIn ws) → (r ≡ 8) × (k' ≡ k) × (o' ≡ o)
+  pub narrow : sheetFault ws ≡ 0 → sheetIn ws .isTwoSided ≡ false → workFor (sheetIn ws) ≤ length k → length o < wordsFor (sheetIn ws) →
+      (r ≡ 9) × (k' ≡ k) × (o' ≡ o)
   pub taken : Serves ws k o →
       (k' ≡ cleared ws k) × (((r ≡ 10) × (o' ≡ o)) ⊎ ((r ≡ 0) × (drop (wordsFor (sheetIn ws)) o' ≡ drop (wordsFor (sheetIn ws)) o)))
   pub lengths : (length k' ≡ length k) × (length o' ≡ length o)
@@ -104,7 +106,7 @@ pub record TrueVerdict (ws : List ℕ) (r : Verdict) : Type 0 where
 abbrev pub DemandTwo : Type 0
 DemandTwo = (ws : List ℕ) (r : Verdict) (ws' : List ℕ) → WasJudged ws r ws' → TrueVerdict ws r
 
--- DEMAND 3, of one call on an accepted sheet with areas long enough: 10 exactly when no ties obey rules 1 to 5, which is when no list is
+-- DEMAND 3, of one call on an accepted one-sided sheet with areas long enough (`Serves`; document 02, (n), ends the others): 10 exactly when no ties obey rules 1 to 5, which is when no list is
 -- a lawful layout; otherwise the answer is lawful and better than every other lawful layout, by the aim, then the other number, then
 -- document 01's order
 pub record BestOfLawful (ws k o : List ℕ) (r : ℕ) (o' : List ℕ) : Type 0 where

@@ -130,6 +130,9 @@ work-less ws h = omega (arith, ap workFor (sheet-binding ws (unrefused ws h .hea
 pub words-same : (ws : List ℕ) → sheetFault ws ≡ 0 → wordsFor (sheetIn (bindingOnly ws)) ≡ wordsFor (sheetIn ws)
 words-same ws h = ap wordsFor (sheet-binding ws (unrefused ws h .head))
 
+pub side-same : (ws : List ℕ) → sheetFault ws ≡ 0 → sheetIn (bindingOnly ws) .isTwoSided ≡ sheetIn ws .isTwoSided
+side-same ws h = ap (λ (s : Sheet). s .isTwoSided) (sheet-binding ws (unrefused ws h .head))
+
 -- zeros up to a place, and from there up to another
 zeroed-by : (a n : ℕ) (k : List ℕ) →
     take a (replicate a 0 ++ drop a k) ++ (replicate n 0 ++ drop (a + n) (replicate a 0 ++ drop a k)) ≡ replicate (a + n) 0 ++ drop (a + n) k
@@ -145,7 +148,7 @@ zeroed-on a b k h =
 -- THE CALL on a sheet that it takes, by the sheet without the bounds that can't bind
 module _ (ws k o : List ℕ) (t : Serves ws k o) where
   pub serves-binding : Serves (bindingOnly ws) k o
-  serves-binding = (binding-accepted ws (t .0), omega (arith, work-less ws (t .0), t .1), omega (arith, words-same ws (t .0), t .2))
+  serves-binding = (binding-accepted ws (t .0), omega (arith, work-less ws (t .0), t .1), omega (arith, words-same ws (t .0), t .2), side-same ws (t .0) ∙ t .3)
 
   pub fault-binding : makeFault (bindingOnly ws) k o ≡ makeFault ws k o
   fault-binding =
@@ -172,5 +175,5 @@ are-words-binding (w ∷ ws) h =
 
 pub takes-binding : (ws k o : List ℕ) → takesSheet ws k o → takesSheet (bindingOnly ws) k o
 takes-binding ws k o t =
-    let u = serves-binding ws k o (t .1, t .2, t .3) in
-    (are-words-binding ws (t .0), u .0, u .1, u .2)
+    let u = serves-binding ws k o (t .1, t .2, t .3, t .4) in
+    (are-words-binding ws (t .0), u .0, u .1, u .2, u .3)

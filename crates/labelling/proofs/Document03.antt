@@ -161,12 +161,13 @@ judgeFault03 ws =
 abbrev pub judged03 : (words : List ℕ) → ℕ
 judged03 ws = brokenBy03 (sheetIn (sheetPart ws)) (layoutPart ws)
 
--- what the maker's call answers and leaves
+-- what the maker's call answers and leaves, with the 18 that document 02's (n) puts after 7
 abbrev pub makeFault03 : (sheet work out : List ℕ) → ℕ
 makeFault03 ws k o =
     cond (not (eqb (sheetFault03 ws) 0)) (sheetFault03 ws)
+    (cond (sheetIn ws .isTwoSided) 18
     (cond (ltb (length k) (workFor (sheetIn ws))) 8
-    (cond (ltb (length o) (length (sheetIn ws .sites) + 1)) 9 (cond (isNone (best03 (sheetIn ws))) 10 0)))
+    (cond (ltb (length o) (length (sheetIn ws .sites) + 1)) 9 (cond (isNone (best03 (sheetIn ws))) 10 0))))
 
 abbrev pub makeAnswer03 : (sheet work out : List ℕ) → List ℕ
 makeAnswer03 ws k o =
@@ -416,7 +417,9 @@ fault-agrees ws k o =
     λ e. early (sheetFault03 ws) _ _ e
   where
     late : Option (List ℕ) → ℕ
-    late r = cond (ltb (length k) (workFor (sheetIn ws))) 8 (cond (ltb (length o) (length (sheetIn ws .sites) + 1)) 9 (cond (isNone r) 10 0))
+    late r =
+        cond (sheetIn ws .isTwoSided) 18
+        (cond (ltb (length k) (workFor (sheetIn ws))) 8 (cond (ltb (length o) (length (sheetIn ws .sites) + 1)) 9 (cond (isNone r) 10 0)))
 
     early : (f a b : ℕ) → (f ≡ 0 → ⊥) → cond (not (eqb f 0)) f a ≡ cond (not (eqb f 0)) f b
     early f a b e = rw (ne-eqb f 0 e)

@@ -1,5 +1,6 @@
 -- The starred examples, computed from the definitions. Assumes nothing.
 use mathlib.Core.Path.{_≡_, refl, subst}
+use mathlib.Core.Bool.{false}
 use mathlib.Core.List.{List, [], _∷_}
 use mathlib.Core.Option.{none, some}
 use Prim.Native.Nat.{ℕ}
@@ -7,37 +8,37 @@ use native.Mathlib.Omega.{arith}
 use Rattle.sheet.specs.Sheet.{all, inOrder, slotsIn, sitesRun, coloursIn, sitesIn, productOf, rising, rankOf, hasRank, ranksDiffer, sheetIn, sheetFault}
 use Rattle.labelling.specs.Layout.{tiedOf, isUsed, usedFrom, leastX, slotsOf, boundsKept, backbones, siteShare, drops, tieWords, tiesIn, nextRank, slotAt, byRank, comesFirst, bestOver, bestFrom, sheetPart, best, answerOf}
 use Rattle.labelling.specs.Promise.{a, shortest, twoSided, gapThree, gapFour, boundZero, headAlone, laidOut, turnedDown, Examples}
-use Rattle.labelling.proofs.Maker.{Called, called, refused-work, refused-out}
+use Rattle.labelling.proofs.Maker.{Called, called, refused-side, refused-work, refused-out}
 
 -- a call by what is best
-lays : (ws js : List ℕ) → sheetFault ws ≡ 0 → best (sheetIn ws) ≡ some js → laidOut ws (answerOf (sheetIn ws) js)
-lays ws js f e k o w n =
-    let c : Called ws k o (some js) = subst (Called ws k o) e (called ws k o (f, w, n)) in
+lays : (ws js : List ℕ) → sheetFault ws ≡ 0 → sheetIn ws .isTwoSided ≡ false → best (sheetIn ws) ≡ some js → laidOut ws (answerOf (sheetIn ws) js)
+lays ws js f s e k o w n =
+    let c : Called ws k o (some js) = subst (Called ws k o) e (called ws k o (f, w, n, s)) in
     (c .fault, c .answer)
 
-refuses : (ws : List ℕ) → sheetFault ws ≡ 0 → best (sheetIn ws) ≡ none → turnedDown ws
-refuses ws f e k o w n =
-    let c : Called ws k o none = subst (Called ws k o) e (called ws k o (f, w, n)) in c .fault
+refuses : (ws : List ℕ) → sheetFault ws ≡ 0 → sheetIn ws .isTwoSided ≡ false → best (sheetIn ws) ≡ none → turnedDown ws
+refuses ws f s e k o w n =
+    let c : Called ws k o none = subst (Called ws k o) e (called ws k o (f, w, n, s)) in c .fault
 
 pub examples : Examples
 unfolding all inOrder slotsIn sitesRun coloursIn sitesIn productOf rising rankOf hasRank ranksDiffer tiedOf isUsed usedFrom leastX slotsOf boundsKept backbones siteShare drops tieWords tiesIn nextRank slotAt byRank comesFirst bestOver bestFrom sheetPart
 examples = (
   (refl, refl, refl, refl, refl, refl, refl, refl, refl, refl, refl, refl, refl),
   (
-    lays a (0 ∷ 0 ∷ 2 ∷ []) refl refl,
-    lays shortest (0 ∷ 1 ∷ 2 ∷ []) refl refl,
-    lays twoSided (0 ∷ 0 ∷ 2 ∷ []) refl refl,
-    lays gapThree (2 ∷ 2 ∷ 0 ∷ []) refl refl,
-    refuses gapFour refl refl,
-    refuses boundZero refl refl,
-    lays headAlone [] refl refl,
+    lays a (0 ∷ 0 ∷ 2 ∷ []) refl refl refl,
+    lays shortest (0 ∷ 1 ∷ 2 ∷ []) refl refl refl,
+    (λ k o. refused-side twoSided k o refl refl .fault-is),
+    lays gapThree (2 ∷ 2 ∷ 0 ∷ []) refl refl refl,
+    refuses gapFour refl refl refl,
+    refuses boundZero refl refl refl,
+    lays headAlone [] refl refl refl,
     (refl, refl),
     (refl, refl),
     (refl, refl),
     (refl, refl),
     refl,
     refl,
-    (λ k o l. refused-work a k o refl (omega arith) .fault-is),
-    λ k o l n. refused-out a k o refl (omega arith) (omega arith) .fault-is,
+    (λ k o l. refused-work a k o refl refl (omega arith) .fault-is),
+    λ k o l n. refused-out a k o refl refl (omega arith) (omega arith) .fault-is,
   ),
 )

@@ -26,7 +26,7 @@ use Rattle.labelling.proofs.Maker.{Called, called, begun-is, length-ans
 
 -- AREAS
 contents-unread : ContentsUnread
-contents-unread ws k o l p t u = go (best (sheetIn ws)) (best-is (sheetIn ws)) (called ws k o (t .1, t .2, t .3)) (called ws l p (u .1, u .2, u .3))
+contents-unread ws k o l p t u = go (best (sheetIn ws)) (best-is (sheetIn ws)) (called ws k o (t .1, t .2, t .3, t .4)) (called ws l p (u .1, u .2, u .3, u .4))
   where
     n : ℕ
     n = wordsFor (sheetIn ws)
@@ -68,12 +68,12 @@ refused-unchanged ws k o = go (outcome ws k o)
     clear h = same-length (replicate w 0) k w (length-replicate w 0) h
 
     go : Outcome ws k o →
-        (0 < makeFault ws k o → makeFault ws k o < 10 → (makeAnswer ws k o ≡ o) × (makeWork ws k o ≡ k)) ×
+        (0 < makeFault ws k o → (makeFault ws k o ≡ 10 → ⊥) → (makeAnswer ws k o ≡ o) × (makeWork ws k o ≡ k)) ×
         (makeFault ws k o ≡ 10 → makeAnswer ws k o ≡ o) ×
         (length (makeAnswer ws k o) ≡ length o) × (length (makeWork ws k o) ≡ length k)
     go (Outcome.refused n l u r) = ((λ p q. (r .out-is, r .work-is)), (λ e. r .out-is), ap length (r .out-is), ap length (r .work-is))
     go (Outcome.none-lawful v e r) =
-        ((λ p q. absurd (omega (arith, r .fault-is))), (λ e. r .out-is), ap length (r .out-is), ap length (r .work-is) ∙ clear (v .1))
+        ((λ p q. absurd (q (r .fault-is))), (λ e. r .out-is), ap length (r .out-is), ap length (r .work-is) ∙ clear (v .1))
     go (Outcome.laid-out js v e b r) = (
       (λ p q. absurd (omega (arith, r .fault-is))),
       (λ e. absurd (omega (arith, r .fault-is))),
@@ -109,7 +109,7 @@ beats s o js h b l d =
     (subst⁻¹ (λ (v : List ℕ). same b v ≡ false) (w .written ∙ ap (answerOf s) (obeys-same s o ks js (w .obeys) (h .0) (h .1 ks (w .obeys)) e)) d))
 
 pub best-of-all : BestOfAll
-best-of-all ws k o t = go (best (sheetIn ws)) (best-is (sheetIn ws)) (called ws k o (t .1, t .2, t .3))
+best-of-all ws k o t = go (best (sheetIn ws)) (best-is (sheetIn ws)) (called ws k o (t .1, t .2, t .3, t .4))
   where
     s : Sheet
     s = sheetIn ws

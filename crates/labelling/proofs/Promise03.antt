@@ -1,4 +1,5 @@
--- Document 03's four promises, in its own words and about its own definitions, follow from ours: ends in themselves. Assumes nothing.
+-- Document 03's four promises, in its own words and about its own definitions, follow from ours: ends in themselves. Those about the
+-- maker's calls speak of one-sided sheets, as document 02's (n) has it. Assumes nothing.
 use mathlib.Core.Path.{_≡_, refl, sym, _∙_, ap}
 use mathlib.Core.Bool.{Bool, true, false, _&&_, _||_}
 use mathlib.Core.List.{List, [], _∷_, _++_}
@@ -25,7 +26,8 @@ isBeaten03 s a b =
 
 abbrev pub takesSheet03 : (sheet work out : List ℕ) → Type 0
 takesSheet03 ws k o =
-    (areWords ws ≡ true) × (sheetFault03 ws ≡ 0) × (workFor (sheetIn ws) ≤ length k) × (length (sheetIn ws .sites) + 1 ≤ length o)
+    (areWords ws ≡ true) × (sheetFault03 ws ≡ 0) × (workFor (sheetIn ws) ≤ length k) × (length (sheetIn ws .sites) + 1 ≤ length o) ×
+    (sheetIn ws .isTwoSided ≡ false)
 
 abbrev pub begun03 : (sheet work out : List ℕ) → List ℕ
 begun03 ws k o = take (length (sheetIn ws .sites) + 1) (makeAnswer03 ws k o)
@@ -77,8 +79,8 @@ begun-agrees : (ws k o : List ℕ) → begun ws k o ≡ begun03 ws k o
 begun-agrees ws k o = ap (take (length (sheetIn ws .sites) + 1)) (answer-area-agrees ws k o)
 
 pub best-of-all-03 : BestOfAll03
-best-of-all-03 ws k o (aw, f, w, n) =
-    let t = best-of-all ws k o (aw, sheet-agrees ws ∙ f, w, n) in (
+best-of-all-03 ws k o (aw, f, w, n, e) =
+    let t = best-of-all ws k o (aw, sheet-agrees ws ∙ f, w, n, e) in (
       (λ e b ab. sym (lawful b) ∙ t .0 (fault-agrees ws k o ∙ e) b ab),
       (λ g. sym (fault-agrees ws k o) ∙ t .1 (λ b ab. lawful b ∙ g b ab)),
       λ e.
@@ -98,8 +100,8 @@ best-of-all-03 ws k o (aw, f, w, n) =
     lawful b = lawful-agrees s (sound ws (sheet-agrees ws ∙ f)) b
 
 pub areas-kept-03 : AreasKept03
-areas-kept-03 ws k o l p (aw, f, w, n) (bw, g, v, m) =
-    let t = areas-kept .0 ws k o l p (aw, sheet-agrees ws ∙ f, w, n) (bw, sheet-agrees ws ∙ g, v, m) in (
+areas-kept-03 ws k o l p (aw, f, w, n, e) (bw, g, v, m, h) =
+    let t = areas-kept .0 ws k o l p (aw, sheet-agrees ws ∙ f, w, n, e) (bw, sheet-agrees ws ∙ g, v, m, h) in (
       sym (fault-agrees ws k o) ∙ t .0 ∙ fault-agrees ws l p,
       (λ e. sym (begun-agrees ws k o) ∙ t .1 (fault-agrees ws k o ∙ e) ∙ begun-agrees ws l p),
       sym (ap (drop (length (sheetIn ws .sites) + 1)) (answer-area-agrees ws k o)) ∙ t .2,

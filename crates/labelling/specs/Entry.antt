@@ -15,17 +15,19 @@ abbrev pub isNone : Option (List ℕ) → Bool
 isNone none = true
 isNone (some x) = false
 
--- the sheet is accepted and the areas are long enough
+-- the sheet is accepted and one-sided, and the areas are long enough
 abbrev pub Serves : (sheet work out : List ℕ) → Type 0
-Serves ws k o = (sheetFault ws ≡ 0) × (workFor (sheetIn ws) ≤ length k) × (wordsFor (sheetIn ws) ≤ length o)
+Serves ws k o =
+    (sheetFault ws ≡ 0) × (workFor (sheetIn ws) ≤ length k) × (wordsFor (sheetIn ws) ≤ length o) × (sheetIn ws .isTwoSided ≡ false)
 
--- the refusal: 1 to 7 as the reader; 8, the work area is shorter than needed; 9, the answer area has fewer than n + 1 words; 10, no
+-- the refusal: 1 to 7 as the reader; 18, a two-sided sheet (document 02, (n)); 8, the work area is shorter than needed; 9, the answer area has fewer than n + 1 words; 10, no
 -- layout obeys rules 1 to 5; or 0, success
 abbrev pub makeFault : (sheet work out : List ℕ) → ℕ
 makeFault ws k o =
     cond (not (eqb (sheetFault ws) 0)) (sheetFault ws)
+    (cond (sheetIn ws .isTwoSided) 18
     (cond (ltb (length k) (workFor (sheetIn ws))) 8
-    (cond (ltb (length o) (wordsFor (sheetIn ws))) 9 (cond (isNone (best (sheetIn ws))) 10 0)))
+    (cond (ltb (length o) (wordsFor (sheetIn ws))) 9 (cond (isNone (best (sheetIn ws))) 10 0))))
 
 -- the answer area afterwards: success puts the layout in its first n + 1 words
 abbrev pub makeAnswer : (sheet work out : List ℕ) → List ℕ

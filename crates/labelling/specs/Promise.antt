@@ -43,10 +43,11 @@ isBeaten s a b =
     (ltb (statedSecond s a) (statedSecond s b) ||
     (eqb (statedSecond s a) (statedSecond s b) && comesFirst (slotsByRank s (layoutTies a)) (slotsByRank s (layoutTies b)))))
 
--- an accepted sheet, with areas long enough
+-- an accepted one-sided sheet, with areas long enough
 abbrev pub takesSheet : (sheet work out : List ℕ) → Type 0
 takesSheet ws k o =
-    (areWords ws ≡ true) × (sheetFault ws ≡ 0) × (workFor (sheetIn ws) ≤ length k) × (wordsFor (sheetIn ws) ≤ length o)
+    (areWords ws ≡ true) × (sheetFault ws ≡ 0) × (workFor (sheetIn ws) ≤ length k) × (wordsFor (sheetIn ws) ≤ length o) ×
+    (sheetIn ws .isTwoSided ≡ false)
 
 -- the answer area's first n + 1 words, after a call
 abbrev pub begun : (sheet work out : List ℕ) → List ℕ
@@ -88,11 +89,11 @@ ContentsUnread =
     (take (workFor (sheetIn ws)) (makeWork ws k o) ≡ replicate (workFor (sheetIn ws)) 0) ×
     (drop (workFor (sheetIn ws)) (makeWork ws k o) ≡ drop (workFor (sheetIn ws)) k)
 
--- on every call: 1 to 9 change neither area, 10 leaves the answer area, and no area changes its length
+-- on every call: 1 to 9 and 18 change neither area, 10 leaves the answer area, and no area changes its length
 abbrev pub RefusedUnchanged : Type 0
 RefusedUnchanged =
     (ws k o : List ℕ) →
-    (0 < makeFault ws k o → makeFault ws k o < 10 → (makeAnswer ws k o ≡ o) × (makeWork ws k o ≡ k)) ×
+    (0 < makeFault ws k o → (makeFault ws k o ≡ 10 → ⊥) → (makeAnswer ws k o ≡ o) × (makeWork ws k o ≡ k)) ×
     (makeFault ws k o ≡ 10 → makeAnswer ws k o ≡ o) ×
     (length (makeAnswer ws k o) ≡ length o) × (length (makeWork ws k o) ≡ length k)
 
@@ -176,6 +177,10 @@ laidOut ws b =
 abbrev pub turnedDown : (sheet : List ℕ) → Type 0
 turnedDown ws = (k o : List ℕ) → workFor (sheetIn ws) ≤ length k → wordsFor (sheetIn ws) ≤ length o → makeFault ws k o ≡ 10
 
+-- the maker, with any areas: a two-sided sheet is refused
+abbrev pub sideEnded : (sheet : List ℕ) → Type 0
+sideEnded ws = (k o : List ℕ) → makeFault ws k o ≡ 18
+
 -- the table of the definitions, as document 03 has it
 abbrev pub ExamplesDefined : Type 0
 ExamplesDefined =
@@ -191,7 +196,7 @@ ExamplesDefined =
 abbrev pub ExamplesCalled : Type 0
 ExamplesCalled =
     laidOut a (layoutWords 2 19 (0 ∷ 0 ∷ 2 ∷ [])) × laidOut shortest (layoutWords 3 18 (0 ∷ 1 ∷ 2 ∷ [])) ×
-    laidOut twoSided (layoutWords 2 25 (0 ∷ 0 ∷ 2 ∷ [])) × laidOut gapThree (layoutWords 2 19 (2 ∷ 2 ∷ 0 ∷ [])) ×
+    sideEnded twoSided × laidOut gapThree (layoutWords 2 19 (2 ∷ 2 ∷ 0 ∷ [])) ×
     turnedDown gapFour × turnedDown boundZero × laidOut headAlone (layoutWords 0 0 []) ×
     judgedAs (a ++ layoutWords 2 19 (0 ∷ 0 ∷ 1 ∷ [])) 4 × judgedAs (a ++ layoutWords 2 19 (0 ∷ 0 ∷ 0 ∷ [])) 1 ×
     judgedAs (a ++ layoutWords 2 19 (2 ∷ 2 ∷ 0 ∷ [])) 0 × judgedAs (a ++ layoutWords 2 18 (2 ∷ 2 ∷ 0 ∷ [])) 6 ×

@@ -1,6 +1,6 @@
 -- What the maker's branches have to show, from what the reader says. Assumes nothing.
 use mathlib.Core.Path.{_≡_, refl, sym, ap, subst, _∙_}
-use mathlib.Core.Bool.{Bool, true}
+use mathlib.Core.Bool.{Bool, true, false}
 use mathlib.Core.List.{List, [], _∷_}
 use Prim.Native.Nat.{ℕ, suc, _+_, _≤_, _<_}
 use native.Mathlib.Omega.{arith}
@@ -14,11 +14,11 @@ use Rattle.sheet.proofs.Accepted.{Sound, sound, unrefused}
 use Rattle.sheet.proofs.Binding.{sheet-binding, length-binding}
 use Rattle.labelling.specs.Entry.{makeFault, makeWork, makeAnswer, zeroed}
 use Rattle.labelling.specs.Promise.{areWords, takesSheet}
-use Rattle.labelling.proofs.Maker.{Result, Serves, refused-sheet, refused-work, refused-out}
+use Rattle.labelling.proofs.Maker.{Result, Serves, refused-sheet, refused-side, refused-work, refused-out}
 use Rattle.labelling.proofs.Kept.{areas-kept}
 use Rattle.labelling.proofs.Binding.{work-less, fault-binding, area-binding, work-zeroed, takes-binding}
-use Rattle.areas.specs.Lengths.{areaFault}
-use Rattle.areas.proofs.lengths.Lengths.{lengths-sheet, lengths-work, lengths-out, lengths-enough, by-lengths, lengths}
+use Rattle.areas.specs.Faults.{makerFault}
+use Rattle.areas.proofs.faults.Faults.{fault-sheet, fault-side, fault-work, fault-out, fault-none, by-fault, no-fault}
 use Rattle.reader.specs.declared.Sizes.{Sizes}
 use Rattle.reader.specs.Read.{readOf, readPost}
 use Rattle.reader.proofs.Reading.{reading, refusal-is}
@@ -45,28 +45,35 @@ module _ (ws k o : List ℕ) (r : Sizes) (e : r ≡ readPost ws) where
       positive : (a b : ℕ) → (a ≡ 0 → ⊥) → a ≡ b → 0 < b
       positive a b n e = omega arith
 
-  short : r .refusal ≡ 0 → length k < r .work → Result ws k o 8 o k
-  short z h = let g = reading ws r e z in refused-work ws k o (g .accepted) (omega (arith, g .work))
+  module _ (two : Bool) (side : two ≡ sheetIn ws .isTwoSided) where
+    ended : r .refusal ≡ 0 → two ≡ true → Result ws k o 18 o k
+    ended z s = let g = reading ws r e z in refused-side ws k o (g .accepted) (sym side ∙ s)
 
-  narrow : r .refusal ≡ 0 → r .work ≤ length k → length o < r .n + 1 → Result ws k o 9 o k
-  narrow z w h = let g = reading ws r e z in refused-out ws k o (g .accepted) (omega (arith, g .work)) (omega (arith, g .sites))
+    short : r .refusal ≡ 0 → two ≡ false → length k < r .work → Result ws k o 8 o k
+    short z s h = let g = reading ws r e z in refused-work ws k o (g .accepted) (sym side ∙ s) (omega (arith, g .work))
 
-  module _ (f : ℕ) (q : f ≡ areaFault (r .refusal) (r .work) (r .n) (length k) (length o)) where
-    -- refused before it is laid out
-    pub refused : (f ≡ 0 → ⊥) → (f ≡ makeFault ws k o) × ((k ≡ makeWork ws k o) × (o ≡ makeAnswer ws k o))
-    refused n =
-        by-lengths (r .refusal) (r .work) (r .n) (length k) (length o)
-        (λ z. call ws k o (r .refusal) f (q ∙ lengths-sheet (r .refusal) (r .work) (r .n) (length k) (length o) z) (unread z))
-        (λ z w. call ws k o 8 f (q ∙ lengths-work (r .refusal) (r .work) (r .n) (length k) (length o) z w) (short z w))
-        (λ z w h. call ws k o 9 f (q ∙ lengths-out (r .refusal) (r .work) (r .n) (length k) (length o) z w h) (narrow z w h))
-        (λ z w h. absurd (n (q ∙ lengths-enough (r .refusal) (r .work) (r .n) (length k) (length o) z w h)))
+    narrow : r .refusal ≡ 0 → two ≡ false → r .work ≤ length k → length o < r .n + 1 → Result ws k o 9 o k
+    narrow z s w h = let g = reading ws r e z in refused-out ws k o (g .accepted) (sym side ∙ s) (omega (arith, g .work)) (omega (arith, g .sites))
 
-    -- or taken, as it was read
-    pub taken : ((i : ℕ) → getD ws i 0 < wordTop) → f ≡ 0 → takesSheet ws k o × (r ≡ readOf (sheetIn ws))
-    taken u v =
-        let t = lengths (r .refusal) (r .work) (r .n) (length k) (length o) (sym q ∙ v) in
-        let g = reading ws r e (t .0) in
-        ((are-words ws u, g .accepted, omega (arith, g .work, t .1), omega (arith, g .sites, t .2)), rw (eq-eqb (sheetFault ws) 0 (g .accepted)) at e)
+    module _ (f : ℕ) (q : f ≡ makerFault (r .refusal) two (r .work) (r .n) (length k) (length o)) where
+      -- refused before it is laid out
+      pub refused : (f ≡ 0 → ⊥) → (f ≡ makeFault ws k o) × ((k ≡ makeWork ws k o) × (o ≡ makeAnswer ws k o))
+      refused n =
+          by-fault (r .refusal) two (r .work) (r .n) (length k) (length o)
+          (λ z. call ws k o (r .refusal) f (q ∙ fault-sheet (r .refusal) two (r .work) (r .n) (length k) (length o) z) (unread z))
+          (λ z s. call ws k o 18 f (q ∙ fault-side (r .refusal) two (r .work) (r .n) (length k) (length o) z s) (ended z s))
+          (λ z s w. call ws k o 8 f (q ∙ fault-work (r .refusal) two (r .work) (r .n) (length k) (length o) z s w) (short z s w))
+          (λ z s w h. call ws k o 9 f (q ∙ fault-out (r .refusal) two (r .work) (r .n) (length k) (length o) z s w h) (narrow z s w h))
+          (λ z s w h. absurd (n (q ∙ fault-none (r .refusal) two (r .work) (r .n) (length k) (length o) z s w h)))
+
+      -- or taken, as it was read
+      pub taken : ((i : ℕ) → getD ws i 0 < wordTop) → f ≡ 0 → takesSheet ws k o × (r ≡ readOf (sheetIn ws))
+      taken u v =
+          let t = no-fault (r .refusal) two (r .work) (r .n) (length k) (length o) (sym q ∙ v) in
+          let g = reading ws r e (t .0) in (
+            (are-words ws u, g .accepted, omega (arith, g .work, t .2), omega (arith, g .sites, t .3), sym side ∙ t .1),
+            rw (eq-eqb (sheetFault ws) 0 (g .accepted)) at e,
+          )
 
 -- THE SHEET WITHOUT THE BOUNDS THAT CAN'T BIND in place of the sheet, whose sizes are r
 module _ (ws k o ls : List ℕ) (e : ls ≡ bindingOnly ws) (t : takesSheet ws k o) (r : Sizes) (q : r ≡ readOf (sheetIn ws)) where
@@ -84,10 +91,6 @@ module _ (ws k o ls : List ℕ) (e : ls ≡ bindingOnly ws) (t : takesSheet ws k
         omega (arith, s .few-colours, ap (λ (z : Sizes). z .c) q),
         omega (arith, s .few-sites, ap (λ (z : Sizes). z .n) q),
       )
-
-  -- the side stays
-  pub side-kept : (b : Bool) → b ≡ sheetIn ws .isTwoSided → b ≡ sheetIn ls .isTwoSided
-  side-kept b h = h ∙ sym (ap (λ (s : Sheet). s .isTwoSided) kept-is)
 
   module _ (body : List ℕ) (p : ℕ) (h : body ≡ bodyOf ls) (c : p ≡ capped (productOf (coloursIn body))) where
     few-budgets : productOf (sheetIn ls .colours) ≤ mostBudgets
@@ -108,11 +111,11 @@ module _ (ws k o ls : List ℕ) (e : ls ≡ bindingOnly ws) (t : takesSheet ws k
       product-kept,
     )
 
-    module _ (two : Bool) (n : ℕ) (b : two ≡ sheetIn ws .isTwoSided) (w : n ≡ workOf two (r .m) (r .c) (r .n) p) where
+    module _ (n : ℕ) (w : n ≡ workOf false (r .m) (r .c) (r .n) p) where
       words-kept : n ≡ workFor (sheetIn (bindingOnly ws))
       words-kept =
           let z = sizes-kept in
-          w ∙ (λ i. workOf (side-kept two b i) (z .0 i) (z .1 i) (z .2 i) (z .3 i)) ∙ ap (λ (l : List ℕ). workFor (sheetIn l)) e
+          w ∙ (λ i. workOf (sym (takes-kept .4) i) (z .0 i) (z .1 i) (z .2 i) (z .3 i)) ∙ ap (λ (l : List ℕ). workFor (sheetIn l)) e
 
       words-given : r .work ≡ workFor (sheetIn ws)
       words-given = ap (λ (z : Sizes). z .work) q
@@ -130,7 +133,7 @@ module _ (ws k o ls : List ℕ) (e : ls ≡ bindingOnly ws) (t : takesSheet ws k
           }
         where
           serves : Serves ws k o
-          serves = (t .1, t .2, t .3)
+          serves = (t .1, t .2, t .3, t .4)
 
           ap₃ : {a b c d : ℕ} {u v : List ℕ} → a ≡ b → c ≡ d → u ≡ v → zeroed a c u ≡ zeroed b d v
           ap₃ x y z = rw (x, y, z) refl

@@ -1,48 +1,22 @@
-// The layout maker: refusals 1 to 9, then the half for the sheet's side, on the sheet without the bounds that can't bind.
+// The layout maker: refusals 1 to 7, 18, 8 and 9, then the table and the walk, on the sheet without the bounds that can't bind.
 // `make_layout` asks nothing of its caller. What has a `requires` below it, here and in other crates, is internal to the maker.
 ghost use mathlib.Core.Path.{_≡_};
 ghost use Rattle.sheet.specs.Sheet.{sheetIn};
 ghost use Rattle.labelling.specs.Entry.{makeFault, makeAnswer, makeWork};
 ghost use Rattle.labelling.specs.Promise.{takesSheet};
 ghost use Rattle.reader.specs.Read.{readOf};
-ghost use Rattle.onesided.specs.Laying.{SizesOf, Made};
-use areas::lengths::area_fault;
+ghost use Rattle.onesided.specs.Laying.{Made};
+use areas::faults::maker_fault;
 use areas::zero_part;
+use onesided::lay_one_sided;
 use reader::Sizes;
 use reader::binding::binding_only;
 use refusals::refusal_7::product;
+use refusals::refusal_18::is_two_sided;
 use refusals::sizes::work_for;
 use words::body::body_of;
 
-// Whether the head says two-sided.
-fn is_two_sided(sheet: &[u32]) -> bool
-    ensures { λ r. ⌜ r ≡ sheetIn (now (sheet .entry)) .isTwoSided ⌝ }
-{
-    words::same(words::side_bit(words::get(sheet, 0)), 1)
-}
-
-// The half for the side of an accepted sheet of these sizes, its areas long enough.
-fn lay_side(
-    sheet: &[u32],
-    two: bool,
-    slots: usize,
-    colours: u32,
-    sites: usize,
-    budgets: u32,
-    work: &mut [u32],
-    out: &mut [u32],
-) -> u8
-    requires { ⌜ takesSheet (now sheet) (now work) (now out) ⌝ }
-    requires { ⌜ (two ≡ sheetIn (now sheet) .isTwoSided) × SizesOf (sheetIn (now sheet)) slots colours sites budgets ⌝ }
-    ensures { λ r. ⌜ Made (now (sheet .entry)) (now (work .entry)) (now (out .entry)) r (now (work .exit)) (now (out .exit)) ⌝ }
-{
-    if two {
-        return twosided::lay_two_sided(sheet, slots, colours, sites, budgets, work, out);
-    }
-    onesided::lay_one_sided(sheet, slots, colours, sites, budgets, work, out)
-}
-
-// An accepted sheet as it was read, its areas long enough: laid out without the bounds that can't bind. These change P alone of
+// An accepted one-sided sheet as it was read, its areas long enough: laid out without the bounds that can't bind. These change P alone of
 // the sizes; where P falls, fewer work words are needed, so the rest is zeroed.
 fn lay_binding(sheet: &[u32], sizes: Sizes, work: &mut [u32], out: &mut [u32]) -> u8
     requires { ⌜ takesSheet (now sheet) (now work) (now out) ⌝ }
@@ -52,17 +26,16 @@ fn lay_binding(sheet: &[u32], sizes: Sizes, work: &mut [u32], out: &mut [u32]) -
     let words = binding_only(sheet);
     let kept = &words[..sheet.len()];
     let budgets = product(body_of(kept));
-    let two = is_two_sided(sheet);
     let slots = sizes.m as usize;
     let colours = sizes.c as u32;
     let sites = sizes.n as usize;
-    let table = work_for(two, sizes.m as u32, colours, sizes.n as u32, budgets);
-    let refusal = lay_side(kept, two, slots, colours, sites, budgets, work, out);
+    let table = work_for(false, sizes.m as u32, colours, sizes.n as u32, budgets);
+    let refusal = lay_one_sided(kept, slots, colours, sites, budgets, work, out);
     zero_part(work, table as usize, sizes.work as usize);
     refusal
 }
 
-// 0 with the best of all layouts in the first n + 1 answer words, or a refusal 1 to 10.
+// 0 with the best of all layouts in the first n + 1 answer words, or a refusal 1 to 10 or 18.
 pub fn make_layout(sheet: &[u32], work: &mut [u32], out: &mut [u32]) -> u8
     ensures { λ r. ⌜ r ≡ makeFault (now (sheet .entry)) (now (work .entry)) (now (out .entry)) ⌝ }
     ensures { λ _. ⌜ now (work .exit) ≡ makeWork (now (sheet .entry)) (now (work .entry)) (now (out .entry)) ⌝ }
@@ -70,8 +43,9 @@ pub fn make_layout(sheet: &[u32], work: &mut [u32], out: &mut [u32]) -> u8
 {
     let sizes = reader::read_sheet(sheet);
     let needed = sizes.work as usize;
-    let fault = area_fault(
+    let fault = maker_fault(
         sizes.refusal,
+        is_two_sided(sheet),
         needed,
         sizes.n as usize,
         work.len(),

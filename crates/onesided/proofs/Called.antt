@@ -32,17 +32,17 @@ use Rattle.walk.specs.Walk.{levelWords}
 use Rattle.walk.specs.Laid.{leastCost, faultBy, writtenBy, outBy, laidFault, laidOut, laidWork}
 use Rattle.onesided.specs.Laying.{Made, arraysOf}
 
-module _ (ws k out : List ℕ) (t : takesSheet ws k out) (one : sheetIn ws .isTwoSided ≡ false) where
+module _ (ws k out : List ℕ) (t : takesSheet ws k out) where
   abbrev s : Sheet
   s = sheetIn ws
 
   least-is : leastCost (instanceOf s) (productOf (s .colours)) (pointsAt s (order s)) ≡ firstCell s
-  least-is = sym (cell-value s (sound ws (t .1)) one (sites-coloured ws (t .1)))
+  least-is = sym (cell-value s (sound ws (t .1)) (t .4) (sites-coloured ws (t .1)))
 
   size-is : (length (pointsAt s (order s)) + 1) * levelSize (length (s .slots)) (length (s .colours)) (productOf (s .colours)) ≡ workFor s
   size-is =
       ap₂ (λ (n z : ℕ). (n + 1) * z) (points-long s (order s) ∙ ordered s (sound ws (t .1)) .long) (size (length (s .slots) + 2) (length (s .colours) + 1) (productOf (s .colours)))
-      ∙ sym (work-cells s one)
+      ∙ sym (work-cells s (t .4))
     where
       size : (a b n : ℕ) → a * b * a * b * n ≡ a * b * a * b * 1 * n
       size a b n = ap (λ (z : ℕ). z * n) (omega arith)
@@ -57,7 +57,7 @@ module _ (ws k out : List ℕ) (t : takesSheet ws k out) (one : sheetIn ws .isTw
   unfolding countIn lengthIn
   written-is =
       ap₂ (λ (w : ℕ) (js : List ℕ). writeTies (set out 0 (firstWordBy (measuresOf s) w)) (order s) js) least-is
-      (sym (slots-walked s (sound ws (t .1)) one (sites-coloured ws (t .1))))
+      (sym (slots-walked s (sound ws (t .1)) (t .4) (sites-coloured ws (t .1))))
 
   -- by the sheet's own instance and order
   laid-sheet : (work : List ℕ) → drop (workFor s) work ≡ drop (workFor s) k
@@ -65,10 +65,10 @@ module _ (ws k out : List ℕ) (t : takesSheet ws k out) (one : sheetIn ws .isTw
       (laidWork (arraysOf s) work) (outBy (instanceOf s) (measuresOf s) (pointsAt s (order s)) (order s) out)
   laid-sheet work e =
       by-order topWord (firstCell s)
-      (λ h. let r = call-unmade ws k out t one h in
+      (λ h. let r = call-unmade ws k out t h in
       let l : ltb (leastCost (instanceOf s) (productOf (s .colours)) (pointsAt s (order s))) topWord ≡ false = le-ltb (leastCost (instanceOf s) (productOf (s .colours)) (pointsAt s (order s))) topWord (omega (arith, least-is)) in
       record { fault-is = rw l (sym (r .fault-is)); work-is = zeroed-is work e ∙ sym (r .work-is); out-is = rw l (sym (r .out-is)) })
-      (λ h. let r = call-written ws k out t one h in
+      (λ h. let r = call-written ws k out t h in
       let l : ltb (leastCost (instanceOf s) (productOf (s .colours)) (pointsAt s (order s))) topWord ≡ true = lt-ltb (leastCost (instanceOf s) (productOf (s .colours)) (pointsAt s (order s))) topWord (omega (arith, least-is)) in
       record { fault-is = rw l (sym (r .fault-is)); work-is = zeroed-is work e ∙ sym (r .work-is); out-is = rw l (written-is ∙ sym (r .out-is)) })
 

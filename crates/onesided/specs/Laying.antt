@@ -1,6 +1,5 @@
 -- What is asked where a one-sided sheet is laid out, and what is left of a call. Definitions.
 use mathlib.Core.Path.{_≡_}
-use mathlib.Core.Bool.{false}
 use mathlib.Core.List.{List, []}
 use Prim.Native.Nat.{ℕ, _<_}
 use lib.ListN.{length}
@@ -21,7 +20,6 @@ SizesOf s m c n p =
 -- an accepted one-sided sheet of these sizes, its areas long enough
 pub record TakesOneSided (ws work out : List ℕ) (slots colours sites budgets : ℕ) : Type 0 where
   pub takes : takesSheet ws work out
-  pub oneSided : sheetIn ws .isTwoSided ≡ false
   pub sizes : SizesOf (sheetIn ws) slots colours sites budgets
 
 -- THE CALL: what it returns, and both areas after it, by what they were before

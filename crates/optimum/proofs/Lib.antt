@@ -7,9 +7,4 @@ pub mod Budgets
 pub mod Full
 pub mod Levels
 pub mod Loops
-pub mod Chain
-pub mod Fits
-pub mod CapsMonotone
-pub mod TwoSidedRows
-pub mod Ties
 pub mod Reached

@@ -1,2 +1,1 @@
 pub mod OneSided
-pub mod TwoSided

@@ -9,10 +9,3 @@ pub mod RankedPairs
 pub mod OneSidedBest
 pub mod OneSidedAnswer
 pub mod Write
-pub mod TwoSidedAnswer
-pub mod LawfulFits
-pub mod TwoSidedCall
-pub mod FitsLawful
-pub mod Caps
-pub mod Least
-pub mod Optimum

@@ -18,13 +18,6 @@ lengthLimit = 33554432
 unfoldable pub wordOf : Sheet → (count size : ℕ) → ℕ
 wordOf s c l = cond (s .isShortest) (l * countLimit + c) (c * lengthLimit + l)
 
--- what a count of one and a length of one come to in the word
-abbrev pub countUnit : Sheet → ℕ
-countUnit s = cond (s .isShortest) 1 lengthLimit
-
-abbrev pub lengthUnit : Sheet → ℕ
-lengthUnit s = cond (s .isShortest) countLimit 1
-
 -- the count and the length of a word
 unfoldable pub countIn : Sheet → (word : ℕ) → ℕ
 countIn s w = cond (s .isShortest) (w % countLimit) (w / lengthLimit)

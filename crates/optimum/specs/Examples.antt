@@ -1,22 +1,21 @@
--- The models on document 01's starred examples, and on sheets on which a misreading gives another answer.
+-- The model on document 01's starred examples, and on sheets on which a misreading gives another answer.
 use mathlib.Core.Path.{_≡_}
 use mathlib.Core.Bool.{true}
 use mathlib.Core.List.{List, [], _∷_}
-use mathlib.Core.Option.{Option, none, some}
+use mathlib.Core.Option.{none, some}
 use Prim.Native.Nat.{ℕ}
-use Rattle.sheet.specs.Sheet.{Sheet, sheetIn}
+use Rattle.sheet.specs.Sheet.{sheetIn}
 use Rattle.labelling.specs.Layout.{brokenIn, isBetter}
-use Rattle.labelling.specs.Promise.{a, shortest, gapThree, gapFour, boundZero, headAlone, twoSided as twoSidedA}
+use Rattle.labelling.specs.Promise.{a, shortest, gapThree, gapFour, boundZero, headAlone}
 use Rattle.optimum.specs.OneSided.{oneSided}
-use Rattle.optimum.specs.TwoSided.{twoSided}
 
 -- the model's answer, and a layout that a misreading gives and rule r forbids
-abbrev pub Forbidden : (model : Sheet → Option (List ℕ)) → (words right wrong : List ℕ) → (rule : ℕ) → Type 0
-Forbidden f ws js ks r = (f (sheetIn ws) ≡ some js) × (brokenIn (sheetIn ws) ks ≡ r)
+abbrev pub Forbidden : (words right wrong : List ℕ) → (rule : ℕ) → Type 0
+Forbidden ws js ks r = (oneSided (sheetIn ws) ≡ some js) × (brokenIn (sheetIn ws) ks ≡ r)
 
 -- the model's answer, and a layout that a misreading gives, lawful and worse, or equal and later
-abbrev pub Worse : (model : Sheet → Option (List ℕ)) → (words right wrong : List ℕ) → Type 0
-Worse f ws js ks = (f (sheetIn ws) ≡ some js) × (brokenIn (sheetIn ws) ks ≡ 0) × (isBetter (sheetIn ws) js ks ≡ true)
+abbrev pub Worse : (words right wrong : List ℕ) → Type 0
+Worse ws js ks = (oneSided (sheetIn ws) ≡ some js) × (brokenIn (sheetIn ws) ks ≡ 0) × (isBetter (sheetIn ws) js ks ≡ true)
 
 -- lengths rounded down to tens at each cut: shortest, gap 1, width 20, slots 0 5 20, unbounded, sites (0,20); (10,6). Right: 31, wrong: 36
 abbrev pub roundedAtCuts : List ℕ
@@ -52,30 +51,16 @@ equalsOnBothSides =
 abbrev pub joinedAlways : List ℕ
 joinedAlways = 335577092 ∷ 536870912 ∷ 536870917 ∷ 805306623 ∷ 1073741824 ∷ 1073790981 ∷ []
 
--- two-sided, the leftmost site tied well, the rest to the nearest: fewest, gap 2, width 4, slots 4 6, bound 2, sites (2,0) (4,6)
-abbrev pub restToNearestTwoSided : List ℕ
-restToNearestTwoSided = 402685956 ∷ 536870916 ∷ 536870918 ∷ 805306370 ∷ 1073774592 ∷ 1073807366 ∷ []
-
--- two-sided, the first of the equals in sheet order and not by rising x: shortest, gap 1, width 4, slots 0 6, bounds 1 and 1, sites (3,1); (1,1)
-abbrev pub inSheetOrder : List ℕ
-inSheetOrder = 469778436 ∷ 536870912 ∷ 536870918 ∷ 805306369 ∷ 1073790977 ∷ 805306369 ∷ 1073758209 ∷ []
-
 -- document 01's misreadings in its order, then what it says of joining, and of the bound that two parts share
 abbrev pub Misreadings : Type 0
 Misreadings =
-    Worse oneSided roundedAtCuts (2 ∷ 1 ∷ []) (2 ∷ 0 ∷ []) × Worse oneSided packedAtCuts (0 ∷ 0 ∷ 0 ∷ []) (1 ∷ 0 ∷ 1 ∷ []) ×
-    Forbidden oneSided otherColoursOnly (1 ∷ 1 ∷ []) (1 ∷ 0 ∷ []) 5 × Forbidden oneSided throughASite (1 ∷ 0 ∷ []) (0 ∷ 1 ∷ []) 4 ×
-    Worse oneSided restToNearest (0 ∷ 0 ∷ []) (1 ∷ 0 ∷ []) × Worse oneSided upperPartFirst (1 ∷ 3 ∷ 1 ∷ []) (1 ∷ 1 ∷ 0 ∷ []) ×
-    Worse oneSided joinedAlways (0 ∷ 1 ∷ []) (0 ∷ 0 ∷ []) × Worse oneSided equalsOnBothSides (1 ∷ 1 ∷ 1 ∷ 0 ∷ []) (1 ∷ 1 ∷ 4 ∷ 1 ∷ [])
-
-abbrev pub MisreadingsTwoSided : Type 0
-MisreadingsTwoSided = Worse twoSided restToNearestTwoSided (0 ∷ 0 ∷ []) (0 ∷ 1 ∷ []) × Worse twoSided inSheetOrder (1 ∷ 0 ∷ []) (0 ∷ 1 ∷ [])
+    Worse roundedAtCuts (2 ∷ 1 ∷ []) (2 ∷ 0 ∷ []) × Worse packedAtCuts (0 ∷ 0 ∷ 0 ∷ []) (1 ∷ 0 ∷ 1 ∷ []) ×
+    Forbidden otherColoursOnly (1 ∷ 1 ∷ []) (1 ∷ 0 ∷ []) 5 × Forbidden throughASite (1 ∷ 0 ∷ []) (0 ∷ 1 ∷ []) 4 ×
+    Worse restToNearest (0 ∷ 0 ∷ []) (1 ∷ 0 ∷ []) × Worse upperPartFirst (1 ∷ 3 ∷ 1 ∷ []) (1 ∷ 1 ∷ 0 ∷ []) ×
+    Worse joinedAlways (0 ∷ 1 ∷ []) (0 ∷ 0 ∷ []) × Worse equalsOnBothSides (1 ∷ 1 ∷ 1 ∷ 0 ∷ []) (1 ∷ 1 ∷ 4 ∷ 1 ∷ [])
 
 -- document 01's starred examples for the maker; on sheet A slots 2, 2, 0 come later
 abbrev pub Starred : Type 0
 Starred =
-    Worse oneSided a (0 ∷ 0 ∷ 2 ∷ []) (2 ∷ 2 ∷ 0 ∷ []) × (oneSided (sheetIn shortest) ≡ some (0 ∷ 1 ∷ 2 ∷ [])) × (oneSided (sheetIn gapThree) ≡ some (2 ∷ 2 ∷ 0 ∷ [])) ×
+    Worse a (0 ∷ 0 ∷ 2 ∷ []) (2 ∷ 2 ∷ 0 ∷ []) × (oneSided (sheetIn shortest) ≡ some (0 ∷ 1 ∷ 2 ∷ [])) × (oneSided (sheetIn gapThree) ≡ some (2 ∷ 2 ∷ 0 ∷ [])) ×
     (oneSided (sheetIn gapFour) ≡ none) × (oneSided (sheetIn boundZero) ≡ none) × (oneSided (sheetIn headAlone) ≡ some [])
-
-abbrev pub StarredTwoSided : Type 0
-StarredTwoSided = twoSided (sheetIn twoSidedA) ≡ some (0 ∷ 0 ∷ 2 ∷ [])

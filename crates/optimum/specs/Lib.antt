@@ -5,9 +5,4 @@ pub mod Strips
 pub mod OneSided
 pub mod Cells
 pub mod Reached
-pub mod UsedSlots
-pub mod TwoSidedRows
-pub mod CapsMonotone
-pub mod TwoSided
-pub mod Optimum
 pub mod Examples

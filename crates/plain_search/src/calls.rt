@@ -5,6 +5,7 @@ use crate::search::search;
 use crate::small_sheet::FACTOR_TOP;
 use crate::small_sheet::Sheet;
 use crate::small_sheet::at;
+use crate::small_sheet::is_two_sided;
 use crate::small_sheet::last_of;
 use crate::small_sheet::product;
 use crate::small_sheet::recipe::drawn;
@@ -90,7 +91,10 @@ fn lent_for(before: u32, needed: u32) -> Lent {
     }
 }
 
-fn fault_for(work: u32, needed: u32, out: u32, answer: u32, size: u32) -> u8 {
+fn fault_for(two_sided: bool, work: u32, needed: u32, out: u32, answer: u32, size: u32) -> u8 {
+    if two_sided {
+        return 18;
+    }
     if work < needed {
         return 8;
     }
@@ -126,7 +130,14 @@ pub fn expected_for(sheet: Sheet) -> Expected {
         words: sum(answer, sum(sheet.slots, sheet.colours)),
         work: work.words,
         out: out.words,
-        fault: fault_for(work.words, needed, out.words, answer, best.size),
+        fault: fault_for(
+            is_two_sided(sheet),
+            work.words,
+            needed,
+            out.words,
+            answer,
+            best.size,
+        ),
         needed: needed,
         answer: answer,
         best: best,

@@ -3,10 +3,12 @@ use crate::calls::Expected;
 use crate::rules::slots_of;
 use crate::small_sheet::Sheet;
 use crate::small_sheet::at;
+use crate::small_sheet::is_two_sided;
 use crate::small_sheet::joined;
 use crate::small_sheet::set_of;
 use crate::small_sheet::sum;
 
+// A two-sided sheet: refusal 18, whatever is lent.
 const TWO_SIDED: u32 = 1;
 
 const SHORTEST: u32 = 2;
@@ -52,7 +54,7 @@ fn spends_bound(sheet: Sheet, layout: u64) -> bool {
 fn sheet_kinds(sheet: Sheet) -> u32 {
     let rows = set_of(sheet.ys, sheet.sites);
     let slots = set_of(sheet.heights, sheet.slots);
-    let set = noted(1, TWO_SIDED, 2 <= sheet.flags);
+    let set = noted(1, TWO_SIDED, is_two_sided(sheet));
     let aimed = noted(set, SHORTEST, sheet.flags % 2 == 1);
     let equal = noted(aimed, EQUAL_ROWS, u32::count_ones(rows) < sheet.sites);
     noted(equal, ON_SLOTS, rows & slots != 0)
@@ -61,6 +63,9 @@ fn sheet_kinds(sheet: Sheet) -> u32 {
 // All that is met in a call: of the sheet, of the answer, and whether it differs from what it should be.
 pub fn kinds_met(sheet: Sheet, e: Expected, right: bool) -> u32 {
     let set = noted(sheet_kinds(sheet), DIFFERENCES, !right);
+    if is_two_sided(sheet) {
+        return set;
+    }
     if e.fault > BEFORE_REFUSALS {
         return joined(set, (e.fault - BEFORE_REFUSALS) as u32);
     }

@@ -42,6 +42,10 @@ pub struct Sheet {
     pub site_colours: u64,
 }
 
+pub fn is_two_sided(sheet: Sheet) -> bool {
+    2 <= sheet.flags
+}
+
 // The number at a place of a row.
 pub fn at(row: u64, i: u32) -> u32
     ensures { λ r. ⌜ r ≤ 255 ⌝ }

@@ -4,7 +4,6 @@ ghost use mathlib.Core.Bool.{cond};
 ghost use Prim.Native.Nat.{ℕ, _+_, _-_, _*_, _<_, _≤_, min};
 ghost use lib.ListN.{length, getD};
 ghost use Rattle.sheet.specs.Limits.{mostBudgets};
-ghost use Rattle.search.specs.Radix.{below};
 ghost use Rattle.costs.specs.Masks.{Divides};
 ghost use Rattle.rows.specs.Budgets.{Listed, Others, Splits, Within, partAt, splitsLength, splitBy, leftBy};
 

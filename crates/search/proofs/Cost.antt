@@ -39,10 +39,6 @@ module _ (top : ℕ) where
   unfolding plus
   plus-le a b = omega arith
 
-  pub plus-zero : (a : ℕ) → a ≤ top → plus top 0 a ≡ a
-  unfolding plus
-  plus-zero a h = omega arith
-
   pub plus-mono : (a b c : ℕ) → b ≤ c → plus top a b ≤ plus top a c
   unfolding plus
   plus-mono a b c h = omega arith

@@ -5,7 +5,7 @@ use mathlib.Core.Logic.{_≢_}
 use mathlib.Core.Bool.{true}
 use mathlib.Core.List.{List, [], _∷_}
 use Prim.Native.Nat.{ℕ, zero, suc, _+_, _-_, _*_, _/_, _%_, _<_}
-use native.Mathlib.Nat.{mod-lt, zero-mod, zero-div, mod-eq-of-lt, div-eq-of-lt, div-lt-iff-lt-mul, add-zero, mul-comm, div-div-eq-div-mul, div-one}
+use native.Mathlib.Nat.{mod-lt, zero-mod, zero-div, mod-eq-of-lt, div-eq-of-lt, div-lt-iff-lt-mul, add-zero}
 use native.Mathlib.Omega.{arith}
 use lib.Arith.{digits-div, digits-mod}
 use lib.ListN.{length, getD}
@@ -33,14 +33,6 @@ unfolding digitOf Positive
 digit-wide [] c v w h = absurd (omega arith)
 digit-wide (r ∷ rs) zero v w h = omega (arith, mod-lt v (w .0))
 digit-wide (r ∷ rs) (suc c) v w h = digit-wide rs c (v / r) (w .1) h
-
--- a digit at once, by its place
-pub digit-flat : (rs : List ℕ) (c v : ℕ) → c < length rs → digitOf rs c v ≡ v / place rs c % getD rs c 0
-unfolding digitOf place
-digit-flat [] c v h = absurd (omega arith)
-digit-flat (r ∷ rs) zero v h = ap (λ (z : ℕ). z % r) (sym (div-one v))
-digit-flat (r ∷ rs) (suc c) v h =
-    digit-flat rs c (v / r) (omega arith) ∙ ap (λ (z : ℕ). z % getD rs c 0) (div-div-eq-div-mul v r (place rs c) ∙ ap (λ (z : ℕ). v / z) (mul-comm r (place rs c)))
 
 -- ---- the number that has 1 at a digit
 

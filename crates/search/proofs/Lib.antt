@@ -8,4 +8,3 @@ pub mod Plan
 pub mod Falls
 pub mod Digits
 pub mod Sums
-pub mod CappedSums

@@ -1,14 +1,14 @@
 -- Laws of plain sums, tallies and listings.
 use mathlib.Core.Path.{_≡_, refl, ap, ap₂, _∙_}
-use mathlib.Core.Bool.{Bool, true, false, cond}
-use mathlib.Core.List.{List, [], _∷_}
+use mathlib.Core.Bool.{cond}
+use mathlib.Core.List.{List, _∷_}
 use Prim.Native.Nat.{ℕ, zero, suc, _+_, _-_, _≤_, _<_}
 use native.Mathlib.Omega.{arith}
 use lib.Dec.{eqb}
 use lib.ListN.{length, getD}
 use borrow.Author.Tests.{eq-eqb, ne-eqb}
-use Rattle.lists.proofs.Tests.{by-test, by-order, by-equal}
-use Rattle.search.specs.Sums.{listing, tally, sum}
+use Rattle.lists.proofs.Tests.{by-order, by-equal}
+use Rattle.search.specs.Sums.{listing, sum}
 
 -- ---- plain sums
 
@@ -57,43 +57,7 @@ sum-pos zero f h = absurd (omega arith)
 sum-pos (suc n) f h =
     by-order 1 (f n) (λ l. (n, omega arith, l)) (λ l. let (k, u, p) = sum-pos n f (omega arith) in (k, omega arith, p))
 
--- ---- tallies
-pub tally-mono : (t u : ℕ → Bool) (k c : ℕ) → ((j : ℕ) → k ≤ j → j < k + c → t j ≡ true → u j ≡ true) → tally t k c ≤ tally u k c
-unfolding tally
-tally-mono t u k zero h = omega arith
-tally-mono t u k (suc c) h =
-    let ih : tally t (suc k) c ≤ tally u (suc k) c = tally-mono t u (suc k) c (λ j l r. h j (omega arith) (omega arith)) in
-    by-test (t k)
-    (λ e. rw (e, h k (omega arith) (omega arith) e) (omega arith))
-    (λ e. by-test (u k) (λ f. rw (e, f) (omega arith)) (λ f. rw (e, f) (omega arith)))
-
-pub tally-in : (t : ℕ → Bool) (k c : ℕ) → t k ≡ true → tally t k (suc c) ≡ suc (tally t (suc k) c)
-unfolding tally
-tally-in t k c e = rw e (omega arith)
-
-pub tally-out : (t : ℕ → Bool) (k c : ℕ) → t k ≡ false → tally t k (suc c) ≡ tally t (suc k) c
-unfolding tally
-tally-out t k c e = rw e (omega arith)
-
 -- ---- listings
-pub listing-cong : (f g : ℕ → ℕ) (k c : ℕ) → ((j : ℕ) → k ≤ j → f j ≡ g j) → listing f k c ≡ listing g k c
-unfolding listing
-listing-cong f g k zero h = refl
-listing-cong f g k (suc c) h = ap₂ (λ (a : ℕ) (b : List ℕ). a ∷ b) (h k (omega arith)) (listing-cong f g (suc k) c (λ j l. h j (omega arith)))
-
-pub listing-of : (us : List ℕ) (k : ℕ) → listing (λ j. getD us (j - k) 0) k (length us) ≡ us
-unfolding listing
-listing-of [] k = refl
-listing-of (u ∷ us) k =
-    ap₂ (λ (a : ℕ) (b : List ℕ). a ∷ b) start
-    (listing-cong (λ j. getD (u ∷ us) (j - k) 0) (λ j. getD us (j - suc k) 0) (suc k) (length us) (λ j l. shift j l) ∙ listing-of us (suc k))
-  where
-    start : getD (u ∷ us) (k - k) 0 ≡ u
-    start = let e : k - k ≡ 0 = omega arith in rw e
-
-    shift : (j : ℕ) → suc k ≤ j → getD (u ∷ us) (j - k) 0 ≡ getD us (j - suc k) 0
-    shift j l = let e : j - k ≡ suc (j - suc k) = omega arith in rw e
-
 pub listing-at : (f : ℕ → ℕ) (k c i : ℕ) → i < c → getD (listing f k c) i 0 ≡ f (k + i)
 unfolding listing
 listing-at f k zero i h = absurd (omega arith)
@@ -119,8 +83,3 @@ unfolding listing
 listing-same f g k zero h = refl
 listing-same f g k (suc c) h =
     ap₂ (λ (a : ℕ) (b : List ℕ). a ∷ b) (h k (omega arith) (omega arith)) (listing-same f g (suc k) c (λ j l u. h j (omega arith) (omega arith)))
-
-pub tally-le : (t : ℕ → Bool) (k c : ℕ) → tally t k c ≤ c
-unfolding tally
-tally-le t k zero = omega arith
-tally-le t k (suc c) = let ih = tally-le t (suc k) c in by-test (t k) (λ e. rw e (omega arith)) (λ e. rw e (omega arith))

@@ -1,7 +1,7 @@
 -- The one-sided table, level by level: level j, where the first j sites are tied, stands from word j * levelOf on. Definitions.
 use mathlib.Core.Path.{_≡_}
 use mathlib.Core.List.{List}
-use Prim.Native.Nat.{ℕ, _+_, _*_, _<_, _≤_}
+use Prim.Native.Nat.{ℕ, _+_, _*_, _<_}
 use lib.ListN.{length, getD, drop}
 use Rattle.search.specs.Plan.{T}
 use Rattle.optimum.specs.Strips.{Point, Strip, Instance, rulesOf}

@@ -1,5 +1,4 @@
 -- A one-sided sheet laid out from its arrays: the answer and both areas, by the least cost and the walk. Definitions.
-use mathlib.Core.Path.{_≡_}
 use mathlib.Core.Bool.{cond}
 use mathlib.Core.List.{List}
 use Prim.Native.Nat.{ℕ, suc, _+_, _-_, _*_, _<_}

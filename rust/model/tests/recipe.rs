@@ -75,7 +75,7 @@ impl Recipe {
     }
 
     fn sheet(&mut self) -> Sheet {
-        let (two_sided, shortest) = (self.draw(2) == 1, self.draw(2) == 1);
+        let (two_sided, shortest) = (self.draw(8) == 7, self.draw(2) == 1);
         let (gap, width) = (self.low(3), self.draw(4) + 5);
         let (m, colours, n) = (self.size(4, 2), self.draw(4).div_ceil(2) + 1, self.size(3, 3));
         let slots = self.slots(m);
@@ -91,7 +91,7 @@ impl Recipe {
     }
 
     /// How many words a call is lent: one too few one time in 32, else up to two too many.
-    fn room(&mut self, needed: u64) -> u64 {
+    fn lent(&mut self, needed: u64) -> u64 {
         if self.draw(32) == 0 {
             needed - 1
         } else {
@@ -123,7 +123,7 @@ fn spends_bound(sheet: &Sheet, found: &Found) -> bool {
 /// What the program prints beside each count.
 const LINES: [&str; 11] = [
     "sheets",
-    "two-sided",
+    "two-sided, refused 18",
     "with the aim shortest",
     "with two sites at one y",
     "with a site at a slot's height",
@@ -139,9 +139,11 @@ const LINES: [&str; 11] = [
 fn met(recipe: &mut Recipe) -> [bool; 11] {
     let sheet = recipe.sheet();
     let (needed, words) = (sheet.work_words(), sheet.sites.len() as u64 + 1);
-    let (short_work, short_answer) = (recipe.room(needed) < needed, recipe.room(words) < words);
+    let (short_work, short_answer) = (recipe.lent(needed) < needed, recipe.lent(words) < words);
     recipe.draw(65_536); // what the areas hold before the call
-    let (lent, found) = (!short_work && !short_answer, find(&sheet));
+    // a two-sided sheet is refused whatever is lent
+    let (served, found) = (!sheet.two_sided, find(&sheet));
+    let lent = served && !short_work && !short_answer;
     let answer = found.as_ref().filter(|_| lent);
     [
         true,
@@ -149,8 +151,8 @@ fn met(recipe: &mut Recipe) -> [bool; 11] {
         sheet.shortest,
         has_two_sites_at_one_y(&sheet),
         has_site_at_slot(&sheet),
-        short_work,
-        !short_work && short_answer,
+        served && short_work,
+        served && !short_work && short_answer,
         lent && found.is_none(),
         answer.is_some(),
         answer.is_some_and(|found| found.equals > 1),

@@ -3,7 +3,7 @@ use Rattle.sheet.proofs.Accepted.{few-words}
 use Rattle.sheet.specs.Binding.{bindingOnly}
 use Rattle.sheet.proofs.Binding.{length-kept}
 use Rattle.reader.proofs.Reading.{binding-front}
-use Rattle.maker.proofs.Calls.{takes-kept, small, few, side-kept, sizes-kept, needs-less, laid}
+use Rattle.maker.proofs.Calls.{takes-kept, small, few, sizes-kept, needs-less, laid}
 use mathlib.Core.Path.{_≡_, ap, sym, _∙_}
 use native.Mathlib.Omega.{arith}
 use lib.ListN.{length, take}
@@ -11,12 +11,12 @@ use borrow.Author.Needs.{needs}
 use Rattle.maker.proofs.lay_binding.Statement.{statement}
 use Rattle.maker.proofs.lay_binding.Tie as tie
 
--- where the function starts, seen from where P is known; and that place, seen from where the half for the side has ended
+-- where the function starts, seen from where P is known; and that place, seen from where the sheet is laid out
 abbrev begin : tie.After-product → tie.Start
 begin m = m .before .before .before .before .before .before .before
 
-abbrev product-known : tie.After-lay-side → tie.After-product
-product-known s = s .before .before .before .before .before .before .before .before .before .before
+abbrev product-known : tie.After-lay-one-sided → tie.After-product
+product-known s = s .before .before .before .before .before .before .before .before .before
 
 -- the words that are laid out: the sheet's, without the bounds that can't bind
 kept : (m : tie.After-product) → take (length (begin m .args .sheet .now)) (m .before .before .before .binding-only .result) ≡ bindingOnly (begin m .args .sheet .now)
@@ -39,9 +39,6 @@ body-of-requires c κs = search needs
 product-requires : tie.Need-product-requires
 product-requires c κs = search needs
 
-is-two-sided-requires : tie.Need-is-two-sided-requires
-is-two-sided-requires c κs = search needs
-
 cast-slots : tie.Need-cast-slots
 cast-slots c = search needs
 
@@ -59,25 +56,23 @@ cast-work-for-2 c = search needs
 
 work-for-requires : tie.Need-work-for-requires
 work-for-requires c κs =
-    let m = c .before .before .before .before .before .before in
+    let m = c .before .before .before .before .before in
     let a = begin m .args in
     let p = begin m .pre in
     let e = kept m in
     let z = small (a .sheet .now) (a .work .now) (a .out .now) _ e (p .0) (a .sizes) (p .1) in
     (z .0, z .1, z .2, few (a .sheet .now) (a .work .now) (a .out .now) _ e (p .0) (a .sizes) (p .1) _ _ (m .before .body-of .ensures) (m .product .ensures))
 
-lay-side-requires : tie.Need-lay-side-requires
-lay-side-requires c κs =
-    let m = c .before .before .before .before .before .before .before .before .before in
+lay-one-sided-requires : tie.Need-lay-one-sided-requires
+lay-one-sided-requires c κs =
+    let m = c .before .before .before .before .before .before .before .before in
     let a = begin m .args in
     let p = begin m .pre in
-    let e = kept m in (
-      takes-kept (a .sheet .now) (a .work .now) (a .out .now) _ e (p .0) (a .sizes) (p .1),
-      (
-        side-kept (a .sheet .now) (a .work .now) (a .out .now) _ e (p .0) (a .sizes) (p .1) _ (c .before .before .before .before .before .before .before .before .is-two-sided .ensures),
-        sizes-kept (a .sheet .now) (a .work .now) (a .out .now) _ e (p .0) (a .sizes) (p .1) _ _ (m .before .body-of .ensures) (m .product .ensures),
-      ),
-    )
+    let e = kept m in
+    record {
+      takes = takes-kept (a .sheet .now) (a .work .now) (a .out .now) _ e (p .0) (a .sizes) (p .1);
+      sizes = sizes-kept (a .sheet .now) (a .work .now) (a .out .now) _ e (p .0) (a .sizes) (p .1) _ _ (m .before .body-of .ensures) (m .product .ensures);
+    }
 
 cast-zero-part : tie.Need-cast-zero-part
 cast-zero-part c = search needs
@@ -93,7 +88,7 @@ zero-part-requires c κs =
     let p = begin m .pre in
     let e = kept m in
     needs-less (a .sheet .now) (a .work .now) (a .out .now) _ e (p .0) (a .sizes) (p .1) _ _ (m .before .body-of .ensures) (m .product .ensures)
-    _ _ (s .before .before .before .before .before .before .before .before .before .is-two-sided .ensures) (s .before .before .before .work-for .ensures) _ (s .lay-side .ensures .work-is)
+    _ (s .before .before .before .work-for .ensures) _ (s .lay-one-sided .ensures .work-is)
 
 same-length : tie.Need-same-length
 same-length c = search needs
@@ -108,9 +103,9 @@ returns c =
     let a = begin m .args in
     let p = begin m .pre in
     let e = kept m in
-    let f = s .lay-side .ensures in
+    let f = s .lay-one-sided .ensures in
     laid (a .sheet .now) (a .work .now) (a .out .now) _ e (p .0) (a .sizes) (p .1) _ _ (m .before .body-of .ensures) (m .product .ensures)
-    _ _ (s .before .before .before .before .before .before .before .before .before .is-two-sided .ensures) (s .before .before .before .work-for .ensures) _ _ _ _ (f .fault-is) (f .work-is) (f .out-is) (c .before .before .zero-part .ensures)
+    _ (s .before .before .before .work-for .ensures) _ _ _ _ (f .fault-is) (f .work-is) (f .out-is) (c .before .before .zero-part .ensures)
 
 pub lay-binding-spec : {M : Type 1} → statement M
 lay-binding-spec =
@@ -121,14 +116,13 @@ lay-binding-spec =
     slice-aggregate-kept
     body-of-requires
     product-requires
-    is-two-sided-requires
     cast-slots
     cast-colours
     cast-sites
     cast-work-for
     cast-work-for-2
     work-for-requires
-    lay-side-requires
+    lay-one-sided-requires
     cast-zero-part
     cast-zero-part-2
     zero-part-requires

@@ -11,26 +11,31 @@ read-sheet-requires c κs = search needs
 cast-needed : tie.Need-cast-needed
 cast-needed c = search needs
 
-cast-area-fault : tie.Need-cast-area-fault
-cast-area-fault c = search needs
+is-two-sided-requires : tie.Need-is-two-sided-requires
+is-two-sided-requires c κs = search needs
 
-area-fault-requires : tie.Need-area-fault-requires
-area-fault-requires c κs = search needs
+cast-maker-fault : tie.Need-cast-maker-fault
+cast-maker-fault c = search needs
+
+maker-fault-requires : tie.Need-maker-fault-requires
+maker-fault-requires c κs = search needs
 
 returns : tie.Need-returns
 returns c =
-    let a = c .before .before .before .before .before .before .before .before .args in
-    let r = c .before .before .before .before .read-sheet in
-    let f = c .before .area-fault in
-    refused (a .sheet .now) (a .work .now) (a .out .now) (r .result) (r .ensures) (f .result) (f .ensures) (λ (z : f .result ≡ 0). omega (arith, z, c .if1 .taken))
+    let a = c .before .before .before .before .before .before .before .before .before .args in
+    let r = c .before .before .before .before .before .read-sheet in
+    let d = c .before .before .before .is-two-sided in
+    let f = c .before .maker-fault in
+    refused (a .sheet .now) (a .work .now) (a .out .now) (r .result) (r .ensures) (d .result) (d .ensures) (f .result) (f .ensures) (λ (z : f .result ≡ 0). omega (arith, z, c .if1 .taken))
 
 lay-binding-requires : tie.Need-lay-binding-requires
 lay-binding-requires c κs =
-    let a = c .before .before .before .before .before .before .before .before .before .before .args in
-    let w = c .before .before .before .before .before .before .before .before .before .shared-slice-known in
-    let r = c .before .before .before .before .before .before .read-sheet in
-    let f = c .before .before .before .area-fault in
-    taken (a .sheet .now) (a .work .now) (a .out .now) (r .result) (r .ensures) (f .result) (f .ensures) (λ i. omega (arith, w .given i)) (omega (arith, c .before .before .if1 .left))
+    let a = c .before .before .before .before .before .before .before .before .before .before .before .args in
+    let w = c .before .before .before .before .before .before .before .before .before .before .shared-slice-known in
+    let r = c .before .before .before .before .before .before .before .read-sheet in
+    let d = c .before .before .before .before .before .is-two-sided in
+    let f = c .before .before .before .maker-fault in
+    taken (a .sheet .now) (a .work .now) (a .out .now) (r .result) (r .ensures) (d .result) (d .ensures) (f .result) (f .ensures) (λ i. omega (arith, w .given i)) (omega (arith, c .before .before .if1 .left))
 
 same-length : tie.Need-same-length
 same-length c = search needs
@@ -48,8 +53,9 @@ make-layout-spec =
     (tie.spec
     read-sheet-requires
     cast-needed
-    cast-area-fault
-    area-fault-requires
+    is-two-sided-requires
+    cast-maker-fault
+    maker-fault-requires
     returns
     lay-binding-requires
     same-length

@@ -4,7 +4,7 @@ use Rattle.sheet.proofs.Accepted.{sound}
 use Rattle.arrays.specs.Arrays.{xsOf, ysOf, coloursOf, gathered}
 use Rattle.optimum.specs.OneSided.{order}
 use Rattle.onesided.proofs.Parts.{IsFront, xs, ys, colours, orders, ranked, stands}
-use mathlib.Core.Path.{_≡_, sym, _∙_}
+use mathlib.Core.Path.{sym, _∙_}
 use Prim.Native.Nat.{_-_, _≤_}
 use native.Mathlib.Omega.{arith}
 use lib.ListN.{length, take}
@@ -109,7 +109,7 @@ lay-sites-requires c κs =
     let p = begin (c .before .before .before .before .before .before .before .before .before .before .before) .pre in
     let s = p .sizes in
     let o = order-is (c .before .before .before .before .before .before .before .before .before .before .before) in (
-      record { takes = p .takes; oneSided = p .oneSided; sizes = (s .0, s .1, sym (o .1) ∙ s .2, s .3) },
+      record { takes = p .takes; sizes = (s .0, s .1, sym (o .1) ∙ s .2, s .3) },
       record {
         xsIs = ranked-xs-are (c .before .before .before .before .before .before .before .before .before) .0;
         ysIs = ranked-ys-are (c .before .before .before .before .before .before .before) .0;

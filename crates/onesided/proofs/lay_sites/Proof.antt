@@ -9,7 +9,7 @@ use mathlib.Core.List.{[]}
 use Rattle.arrays.specs.Given.{given}
 use Rattle.onesided.specs.Laying.{arraysOf}
 use Prim.Native.Nat.{_-_}
-use lib.ListN.{length, take}
+use lib.ListN.{take}
 use borrow.Author.Needs.{needs}
 use Rattle.onesided.proofs.lay_sites.Statement.{statement}
 use Rattle.onesided.proofs.lay_sites.Tie as tie
@@ -82,13 +82,13 @@ slice-aggregate-lay-ranked-3 c = draws-are (c .before .before .before) .1
 lay-ranked-requires : tie.Need-lay-ranked-requires
 lay-ranked-requires c κs =
     let p = begin c .pre .0 in
-    lays-is (begin c .args .sheet .now) (p .takes .1) _ _ _ (sheet-is c) (p .oneSided) (p .takes .2) (p .takes .3)
+    lays-is (begin c .args .sheet .now) (p .takes .1) _ _ _ (sheet-is c) (p .takes .4) (p .takes .2) (p .takes .3)
 
 returns : tie.Need-returns
 returns c =
     let a = begin (c .before .before .before .before .before) .args in
     let p = begin (c .before .before .before .before .before) .pre .0 in
-    let m = laid-is (a .sheet .now) (a .work .now) (a .out .now) (p .takes) (p .oneSided) _ _ (sheet-is (c .before .before .before .before .before)) refl in
+    let m = laid-is (a .sheet .now) (a .work .now) (a .out .now) (p .takes) _ _ (sheet-is (c .before .before .before .before .before)) refl in
     let e = c .before .before .before .before .lay-ranked .ensures in
     record { fault-is = e .0 ∙ m .fault-is; work-is = e .1 .0 ∙ m .work-is; out-is = e .1 .1 ∙ m .out-is }
 

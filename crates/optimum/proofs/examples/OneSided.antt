@@ -1,17 +1,13 @@
 -- The one-sided model on document 01's starred examples and on the sheets that show a misreading, computed. An end in itself.
-use mathlib.Core.Path.{_≡_, refl}
-use mathlib.Core.List.{[], _∷_}
-use mathlib.Core.Option.{some}
+use mathlib.Core.Path.{refl}
 use Rattle.search.specs.Cost.{plus, least, first}
 use Rattle.search.specs.Semi.{sum, prod}
 use Rattle.search.specs.Split.{conv, cheaper, never, just}
 use Rattle.search.specs.Strips.{table, rest}
 use Rattle.search.specs.Radix.{below, place}
-use Rattle.search.specs.Sums.{listing}
 use Rattle.search.specs.Plan.{weight, T, Rest}
 use Rattle.search.specs.Walk.{chooseBy, walkBy, answerBy}
-use Rattle.sheet.specs.Sheet.{all, rankOf, sheetIn, slotsIn, coloursIn, sitesRun, sitesIn, productOf}
-use Rattle.labelling.specs.Promise.{a}
+use Rattle.sheet.specs.Sheet.{all, rankOf, slotsIn, coloursIn, sitesRun, sitesIn, productOf}
 use Rattle.labelling.specs.Layout.{siteShare, tiedOf, isUsed, usedFrom, leastX, slotsOf, boundsKept, backbones, drops, byRank, slotAt, comesFirst}
 use Rattle.optimum.specs.Slots.{over, under, farFrom, clearFrom, farEnough}
 use Rattle.optimum.specs.Strips.{marked, inside, opens, joinsUp, joinsDown, cost, draw, children, stripsFrom, strips, holdFrom, hold, price, next, value, walked}

@@ -10,7 +10,7 @@ use Rattle.sheet.proofs.Accepted.{Sound}
 use Rattle.labelling.specs.Layout.{countOf, lengthOf}
 use Rattle.labelling.specs.Lawful.{Earlier, Better}
 use Rattle.labelling.proofs.Words.{count-low, length-low}
-use Rattle.optimum.specs.CostWord.{topWord, countLimit, lengthLimit, wordOf, countUnit, lengthUnit, countIn, lengthIn, layoutCost}
+use Rattle.optimum.specs.CostWord.{topWord, countLimit, lengthLimit, wordOf, countIn, lengthIn, layoutCost}
 
 -- the word for an aim: shortest, or fewest
 abbrev word : Bool → (count size : ℕ) → ℕ
@@ -31,14 +31,6 @@ unfolding wordOf
 word-adds s a b c d = go (s .isShortest)
   where
     go : (t : Bool) → word t (a + c) (b + d) ≡ word t a b + word t c d
-    go true = omega arith
-    go false = omega arith
-
-pub word-units : (s : Sheet) (c l : ℕ) → wordOf s c l ≡ c * countUnit s + l * lengthUnit s
-unfolding wordOf
-word-units s c l = go (s .isShortest)
-  where
-    go : (b : Bool) → word b c l ≡ c * cond b 1 lengthLimit + l * cond b countLimit 1
     go true = omega arith
     go false = omega arith
 

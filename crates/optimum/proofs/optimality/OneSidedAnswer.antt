@@ -3,11 +3,11 @@ use mathlib.Core.Path.{_≡_, refl, sym, ap, ap₂, _∙_, subst}
 use mathlib.Core.Bool.{Bool, true, false, cond}
 use mathlib.Core.List.{List, [], _∷_, _++_}
 use mathlib.Core.Option.{none, some}
-use Prim.Native.Nat.{ℕ, zero, suc, _+_, _*_, _≤_, _<_, _^_}
+use Prim.Native.Nat.{ℕ, suc, _+_, _*_, _≤_, _<_, _^_}
 use native.Mathlib.Omega.{arith}
 use native.Mathlib.Nat.{pow-suc, pow-zero}
 use lib.ListN.{length, getD, replicate, drop}
-use borrow.Author.Tests.{ltb-true, lt-ltb, le-ltb, eq-eqb}
+use borrow.Author.Tests.{ltb-true, lt-ltb, le-ltb}
 use Rattle.search.specs.Plan.{T, Rest}
 use Rattle.search.proofs.Plan.{Rest-one}
 use Rattle.search.specs.Walk.{answerBy, walkBy}
@@ -17,7 +17,7 @@ use Rattle.labelling.specs.Layout.{countOf, lengthOf, layoutWords, best, isUsed
 use Rattle.labelling.specs.Promise.{takesSheet}
 use Rattle.labelling.proofs.Members.{noSite, all-at, used-head, used-tail}
 use Rattle.labelling.proofs.Maker.{First, best-none-iff, Result, made, unmade, cleared}
-use Rattle.optimum.specs.Strips.{Strip, Instance, rulesOf, stripsFrom, strips, labels, value, walked}
+use Rattle.optimum.specs.Strips.{Strip, rulesOf, strips, labels, value, walked}
 use Rattle.optimum.specs.CostWord.{layoutCost}
 use Rattle.optimum.specs.OneSided.{topWord, instanceOf, order, pointsAt, tiesOf, oneSided}
 use Rattle.optimum.specs.Cells.{cells, cellOf, level, valueCells}
@@ -29,7 +29,7 @@ use Rattle.optimum.proofs.optimality.Order.{ordered}
 use Rattle.optimum.proofs.optimality.Distances.{good}
 use Rattle.optimum.proofs.optimality.Instance.{turn-low}
 use Rattle.optimum.proofs.optimality.OneSidedBest.{fullBudget, putBack, found-long, found-first, found-cost, one-sided-best}
-use Rattle.optimum.proofs.Levels.{Coloured, level-holds, Kept, walk-cells, answer-cells}
+use Rattle.optimum.proofs.Levels.{Coloured, level-holds, Kept, walk-cells}
 use Rattle.optimum.proofs.Reached.{empty-strips}
 unfoldable pub use Rattle.optimum.specs.CostWord.{countIn, lengthIn}
 
@@ -133,7 +133,7 @@ work-cells s one =
     squares a b n r = rw (pow-suc a 1, pow-suc a 0, pow-zero a, pow-suc b 1, pow-suc b 0, pow-zero b) (omega arith)
 
 -- ---- THE CALL on a one-sided sheet, whatever the areas held
-module _ (ws k out : List ℕ) (t : takesSheet ws k out) (one : sheetIn ws .isTwoSided ≡ false) where
+module _ (ws k out : List ℕ) (t : takesSheet ws k out) where
   pub call-made : firstCell (sheetIn ws) < topWord →
       Result ws k out 0 (layoutWords (countIn (sheetIn ws) (firstCell (sheetIn ws))) (lengthIn (sheetIn ws) (firstCell (sheetIn ws))) (tiesWalked (sheetIn ws))
       ++ drop (length (sheetIn ws .sites) + 1) out) (cleared ws k)
@@ -142,7 +142,7 @@ module _ (ws k out : List ℕ) (t : takesSheet ws k out) (one : sheetIn ws .isTw
       let o = sound ws (t .1) in
       let c = sites-coloured ws (t .1) in
       subst (λ (a : List ℕ). Result ws k out 0 (a ++ drop (length (s .sites) + 1) out) (cleared ws k))
-      (ap₂ (λ (c l : ℕ). layoutWords c l (tiesWalked s)) (sym (walk-count s o one c h)) (sym (walk-length s o one c h))) (made ws k out _ t (walk-first s o one c h))
+      (ap₂ (λ (c l : ℕ). layoutWords c l (tiesWalked s)) (sym (walk-count s o (t .4) c h)) (sym (walk-length s o (t .4) c h))) (made ws k out _ t (walk-first s o (t .4) c h))
 
   pub call-unmade : topWord ≤ firstCell (sheetIn ws) → Result ws k out 10 out (cleared ws k)
-  call-unmade h = unmade ws k out t (best-none-iff (sheetIn ws) .0 (walk-none (sheetIn ws) (sound ws (t .1)) one (sites-coloured ws (t .1)) h))
+  call-unmade h = unmade ws k out t (best-none-iff (sheetIn ws) .0 (walk-none (sheetIn ws) (sound ws (t .1)) (t .4) (sites-coloured ws (t .1)) h))

@@ -1,4 +1,9 @@
--- ONE-SIDED: the best of an accepted sheet is what the walk over the table finds. Theorems 0 to 4 put together.
+-- THE OPTIMUM: for every accepted one-sided sheet the best layout of all is what the walk over the table finds. What stands behind it:
+--   0 rules are about pairs       labelling/proofs/Pairs rules-are-pairs; by rank: RankedPairs pairs-rising, rising-pairs
+--   1 steps are rules             Pairs steps-e, steps-i; Steps run-e, run-i; Pays pays-e, pays-i; Counts; here obeys-steps, steps-obey
+--   2 neighbours are enough       Neighbours open-step, up-step, down-step and back step-open, step-join
+--   3 strips are independent      search/proofs/Plan strips-independent (Strips independent); StripsHeld value-best
+--   4 the walk gives the first    search/proofs/Walk answer-first, answer-none; StripsHeld walked-first, walked-none
 use mathlib.Core.Path.{_≡_, refl, sym, ap, ap₂, _∙_, subst, subst⁻¹}
 use mathlib.Core.Logic.{_⊎_, inl, inr}
 use mathlib.Core.Bool.{true, false, false≢true}
@@ -226,6 +231,6 @@ module _ (s : Sheet) (o : Sound s) (one : s .isTwoSided ≡ false) where
           omega (arith, obeys-cost s o one js (b .long) b, walked-none (instanceOf s) (good s o .rising) (fullBudget s) (pointsAt s (order s)) e (gather js (order s)), layout-low s o js))
       go (some ks) e = best-some-iff s o _ .1 (found-first ks (walked-first (instanceOf s) (good s o .rising) (fullBudget s) (pointsAt s (order s)) ks e))
 
--- for accepted words
+-- for accepted words, an end in itself
 pub one-sided-made : (ws : List ℕ) → sheetFault ws ≡ 0 → (sheetIn ws) .isTwoSided ≡ false → best (sheetIn ws) ≡ oneSided (sheetIn ws)
 one-sided-made ws h one = one-sided-best (sheetIn ws) (sound ws h) one

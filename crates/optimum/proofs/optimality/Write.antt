@@ -98,13 +98,13 @@ write-all s o ks lk c l (w ∷ out) h =
         ∙ scatter-words (order s) ks (replicate n 0)
 
 -- ---- THE CALL on a one-sided sheet, as the code makes it: the first word from the first cell, then a tie for each site by rising x
-pub call-written : (ws k out : List ℕ) (t : takesSheet ws k out) → sheetIn ws .isTwoSided ≡ false → firstCell (sheetIn ws) < topWord →
+pub call-written : (ws k out : List ℕ) (t : takesSheet ws k out) → firstCell (sheetIn ws) < topWord →
     Result ws k out 0
     (writeTies (set out 0 (firstWord (countIn (sheetIn ws) (firstCell (sheetIn ws))) (lengthIn (sheetIn ws) (firstCell (sheetIn ws)))))
     (order (sheetIn ws)) (slotsWalked (sheetIn ws))) (cleared ws k)
-call-written ws k out t one h =
+call-written ws k out t h =
     let s = sheetIn ws in
     let o = sound ws (t .1) in
     subst⁻¹ (λ (a : List ℕ). Result ws k out 0 a (cleared ws k))
-    (write-all s o (slotsWalked s) (walk-long s o one (sites-coloured ws (t .1)) h) (countIn s (firstCell s)) (lengthIn s (firstCell s)) out (t .3))
-    (call-made ws k out t one h)
+    (write-all s o (slotsWalked s) (walk-long s o (t .4) (sites-coloured ws (t .1)) h) (countIn s (firstCell s)) (lengthIn s (firstCell s)) out (t .3))
+    (call-made ws k out t h)

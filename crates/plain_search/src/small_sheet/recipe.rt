@@ -38,7 +38,7 @@ fn size(seed: u32, few: u32, more: u32) -> u32 {
     sum(drawn(second, more), sum(few, 1))
 }
 
-// Side, aim, gap and width; four or five slots, two colours more often than one or three, three to five sites.
+// Side, two-sided one time in eight, aim, gap and width; four or five slots, two colours more often than one or three, three to five sites.
 // The heights stay those of the sheet before: where there is no slot, the sites are drawn by them.
 fn make_head(before: Sheet) -> Sheet {
     let a = next(before.seed);
@@ -51,7 +51,7 @@ fn make_head(before: Sheet) -> Sheet {
     let h = next(g);
     Sheet {
         seed: next(h),
-        flags: 2 * drawn(a, 1) + drawn(b, 1),
+        flags: 2 * (drawn(a, 7) / 7) + drawn(b, 1),
         gap: sum(lesser(drawn(c, 2), drawn(d, 2)), 1),
         width: drawn(e, 3) + 5,
         slots: size(f, 3, 1),

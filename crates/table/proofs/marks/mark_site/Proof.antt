@@ -3,7 +3,7 @@ use Rattle.table.proofs.marks.Levels.{next-level, level-within}
 use Rattle.table.proofs.marks.Points.{point-at}
 use Rattle.arrays.specs.Given.{SiteIn}
 use Rattle.arrays.proofs.Narrowed.{on-slots}
-use mathlib.Core.Path.{refl, sym, _∙_, subst}
+use mathlib.Core.Path.{sym, _∙_, subst}
 use Prim.Native.Nat.{_-_}
 use native.Mathlib.Omega.{arith}
 use lib.ListN.{length}

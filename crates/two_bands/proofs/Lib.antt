@@ -1,2 +1,0 @@
-pub mod Bands
-pub mod Lost

@@ -1,4 +1,0 @@
-mod Marks
-pub mod Lower
-pub mod MarkedRows
-pub mod Search

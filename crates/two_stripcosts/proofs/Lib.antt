@@ -1,4 +1,0 @@
-pub mod Costs
-pub mod Strips
-pub mod Links
-pub mod Entries
