@@ -1,3 +1,1 @@
-mod Loops
-mod RulesKept
 mod Ruled

@@ -1,18 +1,11 @@
 // The judge: a refusal, or the least broken rule of a stored sheet.
-mod labels;
-mod least_broken;
-mod pairs;
-mod refusal_11;
-mod rule_2;
-mod rule_6;
-mod ties;
+pub mod refusal_11;
 
 ghost use mathlib.Core.Path.{_≡_};
 ghost use mathlib.Core.Bool.{true};
 ghost use Rattle.sheet.specs.Sheet.{sheetIn, sheetFault};
 ghost use Rattle.labelling.specs.Layout.{isLayout, brokenBy};
 ghost use Rattle.judge.specs.Judge.{judgePost, partsPost};
-use crate::least_broken::broken_by;
 use crate::refusal_11::is_layout;
 use crate::refusal_11::layout_start;
 use decoding::bounds_of;
@@ -21,6 +14,7 @@ use decoding::head_of;
 use decoding::heights_of;
 use decoding::xs_of;
 use decoding::ys_of;
+use layouts::least_broken::broken_by;
 use reader::faults::sheet_fault;
 use words::COLOUR;
 use words::body::body_of;

@@ -17,3 +17,4 @@ pub mod Promise03
 pub mod Rules
 pub mod Verdict
 pub mod Words
+pub mod Twin

@@ -4,3 +4,4 @@ pub mod Pairs
 pub mod Counted
 pub mod Promise
 pub mod Entry
+pub mod Twin

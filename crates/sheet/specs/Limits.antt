@@ -26,6 +26,10 @@ unbounded = 255
 abbrev pub kindTop : ℕ
 kindTop = 268435456
 
+-- the side is bit 27 of a head (2^27)
+abbrev pub sidePlace : ℕ
+sidePlace = 134217728
+
 -- a word is below 2^32
 abbrev pub wordTop : ℕ
 wordTop = 4294967296

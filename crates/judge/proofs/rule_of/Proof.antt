@@ -1,6 +1,7 @@
 use Rattle.lists.proofs.Places.{part-from}
 use Rattle.sheet.specs.Words.{countKind}
-use Rattle.judge.proofs.Ruled.{some, bounds-part, fits, low, ruled}
+use Rattle.layouts.proofs.Fitting.{some, fits, low}
+use Rattle.judge.proofs.Ruled.{bounds-part, ruled}
 use mathlib.Core.Path.{refl, ap, _∙_}
 use native.Mathlib.Omega.{arith}
 use borrow.Author.Needs.{needs}

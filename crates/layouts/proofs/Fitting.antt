@@ -1,0 +1,57 @@
+-- The decoded numbers of an accepted sheet and the ties of a layout of it fit what the loops ask. Assumes nothing.
+use mathlib.Core.Path.{_≡_}
+use mathlib.Core.Bool.{true}
+use mathlib.Core.List.{List, [], _∷_}
+use Prim.Native.Nat.{ℕ, zero, suc, _<_}
+use native.Mathlib.Omega.{arith}
+use lib.ListN.{length, getD, drop, length-drop}
+use borrow.Author.Tests.{ltb-true}
+use Rattle.lists.specs.Arrays.{padded}
+use Rattle.lists.proofs.Tests.{and-l, and-r}
+use Rattle.lists.proofs.Arrays.{padded-at, padded-long}
+use Rattle.sheet.specs.Limits.{mostSlots, mostSites, numberTop}
+use Rattle.sheet.specs.Sheet.{all, Site, Sheet, sheetIn, sheetFault}
+use Rattle.sheet.proofs.Accepted.{sound, lowY}
+use Rattle.labelling.specs.Layout.{noSite, isLayout}
+use Rattle.labelling.proofs.Words.{height-low, formed}
+use Rattle.decoding.specs.Decoding.{headBy, xsOf, ysOf, coloursOf}
+use Rattle.decoding.proofs.Fields.{xs-long, ys-long, colours-long}
+use Rattle.decoding.proofs.Places.{ys-at}
+use Rattle.words.specs.declared.tied.Head.{Head}
+use Rattle.layouts.specs.Model.{Fits, Low}
+
+y-low : (ss : List Site) (i : ℕ) → all lowY ss ≡ true → (getD ss i noSite) .y < numberTop
+unfolding all
+y-low [] i h = omega arith
+y-low (s ∷ ss) zero h = ltb-true (s .y) numberTop (and-l (lowY s) (all lowY ss) h)
+y-low (s ∷ ss) (suc i) h = y-low ss i (and-r (lowY s) (all lowY ss) h)
+
+module _ (ss ls : List ℕ) (ok : sheetFault ss ≡ 0) (form : isLayout (sheetIn ss) ls ≡ true) where
+  abbrev s : Sheet
+  s = sheetIn ss
+
+  -- as many ties as sites
+  pub long : length (drop 1 ls) ≡ length (s .sites)
+  long = omega (arith, formed s ls form .long, length-drop 1 ls)
+
+  pub some : 0 < length ls
+  some = omega (arith, formed s ls form .long)
+
+  pub fits : (xs ys cs ws : List ℕ) → xs ≡ padded mostSites (xsOf (s .sites)) → ys ≡ padded mostSites (ysOf (s .sites)) → cs ≡ padded mostSites (coloursOf (s .sites)) → ws ≡ drop 1 ls → Fits xs ys cs ws
+  fits xs ys cs ws ex ey ec ew =
+      rw (ex, ey, ec, ew)
+      (record {
+        xs-long = omega (arith, long, xs-long (s .sites), padded-long mostSites (xsOf (s .sites)));
+        ys-long = omega (arith, long, ys-long (s .sites), padded-long mostSites (ysOf (s .sites)));
+        colours-long = omega (arith, long, colours-long (s .sites), padded-long mostSites (coloursOf (s .sites)));
+        few = omega (arith, long, sound ss ok .few-sites);
+      })
+
+  pub low : (h : Head) (hs ys : List ℕ) → h ≡ headBy s → hs ≡ padded mostSlots (s .slots) → ys ≡ padded mostSites (ysOf (s .sites)) → Low h hs ys
+  low h hs ys eh es ey =
+      rw (eh, es, ey)
+      (record {
+        width = sound ss ok .narrow;
+        heights = λ k. rw (padded-at mostSlots (s .slots) k) (height-low (s .slots) k (sound ss ok .heights));
+        ys = λ i. rw (padded-at mostSites (ysOf (s .sites)) i, ys-at (s .sites) i) (y-low (s .sites) i (sound ss ok .ys));
+      })
