@@ -1,6 +1,8 @@
--- THE THREE DEMANDS, each as one statement about any call that meets the contract of the reader, the layout maker or the judge.
+-- THE THREE DEMANDS, each as one statement about any call that meets the contract of the reader, the layout maker or the judge; and
+-- beside them what is promised of the twin tool's.
 -- What a demand concludes of one call is a record; the contracts of the C interface (crate cabi) state these records of their calls.
--- ws: the sheet's words (the stored sheet's, for the judge), ws' after the call; k, o: work and answer area, k', o' after it; r: what it returns.
+-- ws: the sheet's words (the stored sheet's, for the judge and the twin), ws' after the call; k, o: work and answer area, k', o' after it;
+-- r: what it returns.
 -- Assumes nothing: these are definitions; the proofs stand in proofs/Demands.
 use mathlib.Core.Path.{_≡_}
 use mathlib.Core.Logic.{_⊎_, _↔_}
@@ -9,14 +11,17 @@ use mathlib.Core.List.{List}
 use Prim.Native.Nat.{ℕ, _≤_, _<_}
 use lib.ListN.{length, take, drop}
 use Rattle.sheet.specs.Sheet.{Sheet, sheetIn, sheetFault, productOf, workFor}
-use Rattle.labelling.specs.Layout.{wordsFor, isLawful, sheetPart, layoutPart, layoutTies}
+use Rattle.labelling.specs.Layout.{wordsFor, isLawful, sheetPart, layoutPart, layoutTies, judgeFault}
 use Rattle.labelling.specs.Lawful.{Ties, Rules, LayoutOf, Lawful, LeastBroken, Better}
 use Rattle.labelling.specs.Entry.{Serves, cleared, makeFault, makeAnswer, makeWork}
 use Rattle.labelling.specs.Promise.{areWords, same, isBeaten, PartsFound}
+use Rattle.labelling.specs.Twin.{twinArea, TwinOf, TwinOfTwin, BestNotWorse}
 use Rattle.reader.specs.declared.Sizes.{Sizes}
 use Rattle.reader.specs.Read.{readPost, refusedOf, eightOf}
 use Rattle.judge.specs.declared.Verdict.{Verdict}
 use Rattle.judge.specs.Judge.{judgePost}
+use Rattle.twin.specs.declared.Written.{Written}
+use Rattle.twin.specs.Twin.{twinPost}
 
 -- CALLS: what the contracts say of one call of the reader, the maker and the judge
 abbrev pub WasRead : (ws : List ℕ) → Sizes → (ws' : List ℕ) → Type 0
@@ -27,6 +32,9 @@ WasMade ws k o r k' o' = (r ≡ makeFault ws k o) × (k' ≡ makeWork ws k o) ×
 
 abbrev pub WasJudged : (ws : List ℕ) → Verdict → (ws' : List ℕ) → Type 0
 WasJudged ws r ws' = (r ≡ judgePost ws) × (ws' ≡ ws)
+
+abbrev pub WasTwinned : (ws o : List ℕ) → Written → (o' : List ℕ) → Type 0
+WasTwinned ws o r o' = (r ≡ twinPost ws o) × (o' ≡ twinArea ws o)
 
 -- the layout in the answer area: its first n + 1 words
 abbrev pub layoutIn : (ws o : List ℕ) → List ℕ
@@ -130,3 +138,19 @@ DemandThreeByTests =
     (r ≡ 0) × (isLawful (sheetIn ws) (layoutIn ws o') ≡ true) ×
     ((b : List ℕ) → areWords b ≡ true → isLawful (sheetIn ws) b ≡ true → same b (layoutIn ws o') ≡ false →
     isBeaten (sheetIn ws) (layoutIn ws o') b ≡ true))
+
+-- THE TWIN (document 02, (n)), of one call, by its outcome: 1 to 7 or 11 as the judge; 13, the layout isn't lawful; 9, the area is shorter
+-- than the stored sheet; each leaves the area. Or the twin stands in front, and what lies past it is as before
+pub record ServedByTwin (ws o : List ℕ) (r : Written) (o' : List ℕ) : Type 0 where
+  pub judge : 0 < judgeFault ws → (r .refusal ≡ judgeFault ws) × (r .written ≡ 0) × (o' ≡ o)
+  pub unlawful : judgeFault ws ≡ 0 → (Lawful (storedSheet ws) (layoutPart ws) → ⊥) → (r .refusal ≡ 13) × (r .written ≡ 0) × (o' ≡ o)
+  pub short : judgeFault ws ≡ 0 → Lawful (storedSheet ws) (layoutPart ws) → length o < length ws → (r .refusal ≡ 9) × (r .written ≡ 0) × (o' ≡ o)
+  pub given : judgeFault ws ≡ 0 → Lawful (storedSheet ws) (layoutPart ws) → length ws ≤ length o →
+      (r .refusal ≡ 0) × (r .written ≡ length ws) × TwinOf ws (take (length ws) o') × (drop (length ws) o' ≡ drop (length ws) o)
+  pub kept : length o' ≡ length o
+
+-- of every call; the twin of a twin is itself; and the one-sided best is never worse than the two-sided one was
+pub record TwinPromised : Type 0 where
+  pub served : (ws o : List ℕ) (r : Written) (o' : List ℕ) → WasTwinned ws o r o' → ServedByTwin ws o r o'
+  pub again : TwinOfTwin
+  pub best : BestNotWorse

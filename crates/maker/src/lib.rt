@@ -11,7 +11,7 @@ use areas::zero_part;
 use onesided::lay_one_sided;
 use reader::Sizes;
 use reader::binding::binding_only;
-use refusals::refusal_7::product;
+use reader::refusal_7::product;
 use refusals::refusal_18::is_two_sided;
 use refusals::sizes::work_for;
 use words::body::body_of;

@@ -1,3 +1,5 @@
 mod Filled
 mod WithinLimits
 pub mod Reading
+mod Steps
+mod Wordwise

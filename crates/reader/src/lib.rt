@@ -1,6 +1,11 @@
 // The reader: the refusal of any list of words, or the sizes of the sheet in it.
 pub mod binding;
 pub mod faults;
+mod refusal_2;
+mod refusal_4;
+mod refusal_5;
+mod refusal_6;
+pub mod refusal_7;
 
 ghost use mathlib.Core.Path.{_≡_};
 ghost use Prim.Native.Nat.{_<_, _≤_};
@@ -10,7 +15,7 @@ ghost use Rattle.sheet.specs.Sheet.{coloursIn, sheetIn, sheetFault};
 ghost use Rattle.sheet.specs.Words.{countKind};
 ghost use Rattle.reader.specs.Read.{absent, eightOf, readOf, refusedOf, readPost};
 use crate::faults::sheet_fault;
-use refusals::refusal_7::product;
+use crate::refusal_7::product;
 use refusals::sizes::bound_of;
 use refusals::sizes::work_for;
 use words::COLOUR;

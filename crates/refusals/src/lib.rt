@@ -1,4 +1,5 @@
-// The test of each refusal of a sheet, whole, in the module of its number. Each is total: it takes any list of words.
+// What decides each refusal, in the module of its number: of a word, of numbers, of a head. Each is total. Where a refusal is looked for
+// through a whole sheet, the loop is in reader, in the module of the same number.
 // The order of 1 to 7 is reader's (faults), that of the maker's own, 18, 8 and 9, is areas' (faults), with the tests of 8 and 9. Of 11 and
 // 12 the test on one word and on a length is here, the rest in judge and report; 10 is the walk's.
 pub mod refusal_1;

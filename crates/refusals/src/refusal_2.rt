@@ -1,6 +1,6 @@
-// Refusal 2: a word of another kind, out of its order, or with a spare bit set. `body`: a sheet's words after its head.
+// Refusal 2: a word of another kind, out of its order, or with a spare bit set. The test on a word; through a whole sheet: reader, `refusal_2`.
 ghost use mathlib.Core.Path.{_≡_};
-ghost use Rattle.sheet.specs.Sheet.{hasSpare, inOrder};
+ghost use Rattle.sheet.specs.Sheet.{hasSpare};
 ghost use Rattle.refusals.specs.Wordwise.{stageAfter};
 use words::COLOUR;
 use words::SITE;
@@ -11,11 +11,11 @@ use words::kind_of;
 use words::spare_field;
 
 // The stages: slots may come; a colour has come; a word was out of its order.
-const SLOTS: u32 = 0;
+pub const SLOTS: u32 = 0;
 
 const COLOURS: u32 = 1;
 
-const WRONG: u32 = 2;
+pub const WRONG: u32 = 2;
 
 // A bit that has no name.
 fn has_spare(w: u32) -> bool
@@ -32,7 +32,7 @@ fn has_spare(w: u32) -> bool
 }
 
 // The stage after a word.
-fn stage_after(z: u32, w: u32) -> u32
+pub fn stage_after(z: u32, w: u32) -> u32
     ensures { λ r. ⌜ r ≡ stageAfter z w ⌝ }
 {
     if has_spare(w) {
@@ -49,19 +49,4 @@ fn stage_after(z: u32, w: u32) -> u32
         return choose(z == COLOURS, COLOURS, WRONG);
     }
     WRONG
-}
-
-pub fn in_order(body: &[u32]) -> bool
-    ensures { λ r. ⌜ r ≡ inOrder 0 (now (body .entry)) ⌝ }
-{
-    let mut z: u32 = SLOTS;
-    let mut i: usize = 0;
-    while i < body.len() {
-        z = stage_after(z, body[i]);
-        if z == WRONG {
-            return false;
-        }
-        i += 1;
-    }
-    true
 }

@@ -1,6 +1,5 @@
-// Refusal 4: slot heights not strictly rising. `body`: a sheet's words after its head.
+// Refusal 4: slot heights not strictly rising. The test on a word; through a whole sheet: reader, `refusal_4`.
 ghost use mathlib.Core.Path.{_≡_};
-ghost use Rattle.sheet.specs.Sheet.{slotsIn, rising};
 ghost use Rattle.refusals.specs.Wordwise.{lowOk, lowNext};
 use words::SLOT;
 use words::choose;
@@ -9,7 +8,7 @@ use words::kind_of;
 use words::low_field;
 
 // Whether a word is no slot, or one no lower than the least height that may come.
-fn low_ok(low: u32, w: u32) -> bool
+pub fn low_ok(low: u32, w: u32) -> bool
     ensures { λ r. ⌜ r ≡ lowOk low w ⌝ }
 {
     let other = kind_of(w) != SLOT;
@@ -18,25 +17,9 @@ fn low_ok(low: u32, w: u32) -> bool
 }
 
 // The least height that may come after a word.
-fn low_next(low: u32, w: u32) -> u32
+pub fn low_next(low: u32, w: u32) -> u32
     ensures { λ r. ⌜ r ≡ lowNext low w ⌝ }
 {
     let slot = kind_of(w) == SLOT;
     choose(slot, w % words::NUMBER_TOP + 1, low)
-}
-
-pub fn rises(body: &[u32]) -> bool
-    ensures { λ r. ⌜ r ≡ rising (slotsIn (now (body .entry))) ⌝ }
-{
-    let mut low: u32 = 0;
-    let mut i: usize = 0;
-    while i < body.len() {
-        let w = body[i];
-        if !low_ok(low, w) {
-            return false;
-        }
-        low = low_next(low, w);
-        i += 1;
-    }
-    true
 }

@@ -1,9 +1,8 @@
-// Refusal 7: P, the product of the bounds plus one, above 64. `body`: a sheet's words after its head.
+// Refusal 7: P, the product of the bounds plus one, above 64. What a word multiplies, and the test on P; through a whole sheet: reader, `refusal_7`.
 ghost use mathlib.Core.Path.{_≡_};
 ghost use lib.Dec.{ltb};
 ghost use Rattle.sheet.specs.Limits.{mostBudgets};
-ghost use Rattle.sheet.specs.Sheet.{coloursIn, productOf};
-ghost use Rattle.refusals.specs.Wordwise.{factorOf, capped};
+ghost use Rattle.refusals.specs.Wordwise.{factorOf};
 use words::COLOUR;
 use words::MOST_BUDGETS;
 use words::UNBOUNDED;
@@ -11,7 +10,7 @@ use words::choose;
 use words::kind_of;
 
 // What a word multiplies P by.
-fn factor(w: u32) -> u32
+pub fn factor(w: u32) -> u32
     ensures { λ r. ⌜ r ≡ factorOf w ⌝ }
 {
     let bound = w % words::BYTE_TOP;
@@ -20,24 +19,9 @@ fn factor(w: u32) -> u32
     choose(colour, times, 1)
 }
 
-// P, or one more than the most where it is above that: it stops there, so that no product is too large.
-pub fn product(body: &[u32]) -> u32
-    ensures { λ r. ⌜ r ≡ capped (productOf (coloursIn (now (body .entry)))) ⌝ }
+// Whether P is above what is served.
+pub fn is_too_many(p: u32) -> bool
+    ensures { λ r. ⌜ r ≡ ltb mostBudgets p ⌝ }
 {
-    let mut p: u32 = 1;
-    let mut i: usize = 0;
-    while i < body.len() {
-        p = p * factor(body[i]);
-        if MOST_BUDGETS < p {
-            return MOST_BUDGETS + 1;
-        }
-        i += 1;
-    }
-    p
-}
-
-pub fn exceeds_budgets(body: &[u32]) -> bool
-    ensures { λ r. ⌜ r ≡ ltb mostBudgets (productOf (coloursIn (now (body .entry)))) ⌝ }
-{
-    MOST_BUDGETS < product(body)
+    MOST_BUDGETS < p
 }

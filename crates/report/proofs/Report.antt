@@ -72,23 +72,27 @@ lines-few ls i c (w ∷ ws) p q =
     (simp length-append (omega (arith, few i (omega arith), few (c - 1) (omega arith), few (slotAt ls i) (omega arith), lines-few ls (suc i) c ws (omega arith) (omega arith)))))
     λ f. rw (e, f) (lines-few ls i c ws (omega arith) (omega arith))
 
--- a refusal's number is small
-fault-few : (ws k o : List ℕ) → makeFault ws k o ≤ 10
+-- no refusal of the maker or the program has a greater number
+abbrev mostFault : ℕ
+mostFault = 18
+
+fault-few : (ws k o : List ℕ) → makeFault ws k o ≤ mostFault
 fault-few ws k o =
-    chain (sheetFault ws) (not (eqb (sheetFault ws) 0)) (ltb (length k) (workFor (sheetIn ws))) (ltb (length o) (length (sheetIn ws .sites) + 1))
-    (isNone (best (sheetIn ws))) (fault-seven ws)
+    chain (sheetFault ws) (not (eqb (sheetFault ws) 0)) (sheetIn ws .isTwoSided) (ltb (length k) (workFor (sheetIn ws)))
+    (ltb (length o) (length (sheetIn ws .sites) + 1)) (isNone (best (sheetIn ws))) (fault-seven ws)
   where
-    chain : (n : ℕ) (a b c d : Bool) → n ≤ 7 → cond a n (cond b 8 (cond c 9 (cond d 10 0))) ≤ 10
-    chain n true b c d h = omega arith
-    chain n false true c d h = omega arith
-    chain n false false true d h = omega arith
-    chain n false false false true h = omega arith
-    chain n false false false false h = omega arith
+    chain : (n : ℕ) (a t b c d : Bool) → n ≤ 7 → cond a n (cond t 18 (cond b 8 (cond c 9 (cond d 10 0)))) ≤ mostFault
+    chain n true t b c d h = omega arith
+    chain n false true b c d h = omega arith
+    chain n false false true c d h = omega arith
+    chain n false false false true d h = omega arith
+    chain n false false false false true h = omega arith
+    chain n false false false false false h = omega arith
 
 none-first : (f x : ℕ) → cond (not (eqb f 0)) f x ≡ 0 → f ≡ 0
 none-first f x h = by-test (eqb f 0) (λ e. eqb-true f 0 e) λ e. rw e at h
 
-refused-few : (n : ℕ) → n ≤ 12 → length (refusedLine n) ≤ textBound
+refused-few : (n : ℕ) → n ≤ mostFault → length (refusedLine n) ≤ textBound
 refused-few n h = simp length-append (omega (arith, few n (omega arith)))
 
 layout-few : (ws ls : List ℕ) → length ws ≤ inputWords → length (sitesIn 0 (drop 1 ws)) ≤ mostSites → length (layoutText (sheetIn ws) ls) ≤ textBound

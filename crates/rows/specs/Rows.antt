@@ -2,13 +2,14 @@
 use mathlib.Core.Path.{_≡_}
 use mathlib.Core.Bool.{Bool, cond}
 use mathlib.Core.List.{List}
-use Prim.Native.Nat.{ℕ, _+_, _*_, _<_}
+use Prim.Native.Nat.{ℕ, _+_, _*_, _<_, _≤_}
 use lib.Dec.{eqb, ltb}
 use lib.ListN.{length, getD}
 use Rattle.optimum.specs.Strips.{Point, Strip}
 use Rattle.arrays.specs.declared.Measures.{Measures}
 use Rattle.rows.specs.declared.Strip as held
 use Rattle.rows.specs.declared.Site as tied
+use Rattle.sheet.specs.Limits.{mostSlots, mostColours, mostBudgets}
 
 -- the strip and the site of the model; a strip carries no mark yet
 abbrev pub stripOf : held.Strip → Strip
@@ -67,3 +68,11 @@ endWords q hs = endPlace (q .colours) (length hs + 2) 0 * q .budgets
 -- an upper end: the top edge has no colour, a label has one
 unfoldable pub upperEnd : (slot colour : ℕ) → Bool
 upperEnd slot colour = cond (eqb slot 0) (eqb colour 0) (ltb 0 colour)
+
+-- rows of a level that begins at the word `low` lie in an area of so many words
+pub record LevelFits (q : Measures) (m low area : ℕ) : Type 0 where
+  pub fewSlots : m ≤ mostSlots
+  pub fewColours : q .colours ≤ mostColours
+  pub fewBudgets : q .budgets ≤ mostBudgets
+  pub someBudget : 0 < q .budgets
+  pub within : low + rowsOf m (q .colours) * q .budgets ≤ area

@@ -1,6 +1,5 @@
 // Strips of a one-sided sheet and where their rows stand: a level has a row of words for each strip, by the ends above and below it.
 pub mod budgets;
-pub mod parts;
 pub mod rest;
 
 ghost use mathlib.Core.Path.{_≡_};
@@ -11,8 +10,7 @@ ghost use Rattle.sheet.specs.Limits.{mostSlots, mostColours, mostBudgets};
 ghost use Rattle.optimum.specs.Strips as model;
 ghost use Rattle.arrays.specs.Arrays.{instanceBy};
 ghost use Rattle.arrays.specs.declared.Measures as measured;
-ghost use Rattle.rows.specs.Rows.{stripOf, pointOf, rowOf, rowsOf, mostPlace, Lies, upperPart, lowerPart, endPlace, upperEnd};
-ghost use Rattle.rows.specs.Parts.{LevelFits};
+ghost use Rattle.rows.specs.Rows.{stripOf, pointOf, rowOf, rowsOf, mostPlace, Lies, upperPart, lowerPart, endPlace, upperEnd, LevelFits};
 use arrays::Measures;
 
 // A strip: the labels above and below it (0: the top edge, k + 1: slot k, m + 1: the bottom edge) and their colours (0: none, c + 1: colour c).

@@ -27,7 +27,7 @@ use Rattle.rows.specs.Rows.{rowOf, rowsOf, rowIn, levelOf, upperPart, lowerPart
 use Rattle.rows.proofs.Places.{row-low, row-fits}
 use Rattle.table.proofs.entries.Entries.{Falls, cell-row, entry-by}
 use Rattle.table.specs.Marks.{Shaped, ReachMarked}
-use Rattle.rows.specs.Parts.{Marked}
+use Rattle.parts.specs.Parts.{Marked}
 use Rattle.table.proofs.marks.Levels.{next-level, level-within, row-within}
 use Rattle.table.proofs.marks.Points.{points-long, point-at, drop-point}
 use Rattle.table.proofs.marks.Asked.{asks-parts}

@@ -13,8 +13,8 @@ use Rattle.optimum.specs.Cells.{cellOf, stepCell}
 use Rattle.arrays.specs.declared.Measures.{Measures}
 use Rattle.arrays.specs.Arrays.{slotsBy}
 use Rattle.arrays.specs.Given.{Given, given, OfSheet, SiteIn}
-use Rattle.rows.specs.Rows.{rowIn, Lies, upperPart, lowerPart}
-use Rattle.rows.specs.Parts.{partsCost, LevelFits}
+use Rattle.rows.specs.Rows.{rowIn, Lies, upperPart, lowerPart, LevelFits}
+use Rattle.parts.specs.Parts.{partsCost}
 use Rattle.rows.specs.Budgets.{Others, Within, splitBy}
 use Rattle.strips.specs.Strips.{joinLeast, instanceOn, gapLeft, siteOpens, openCost}
 use Rattle.strips.specs.declared.Window.{Window}

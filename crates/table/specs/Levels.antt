@@ -11,7 +11,7 @@ use Rattle.arrays.specs.Given.{Given, instanceOf, pointsOf, OfSheet, Bounded}
 use Rattle.rows.specs.declared.End.{End}
 use Rattle.rows.specs.Budgets.{Others, Splits}
 use Rattle.rows.specs.Rows.{rowOf, levelOf, rowIn, endPlace, endWords}
-use Rattle.rows.specs.Parts.{Marked}
+use Rattle.parts.specs.Parts.{Marked}
 use Rattle.table.specs.Marks.{Shaped, Level, slotsIn, coloursIn, wordsIn, Ready, HasEnd, TableFits}
 use Rattle.table.specs.Entries.{BudgetsListed, entryBy}
 

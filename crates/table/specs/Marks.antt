@@ -11,8 +11,8 @@ use Rattle.arrays.specs.Given.{Given, given, pointsOf, OfSheet, SiteIn, Bounded
 use Rattle.strips.specs.Strips.{instanceOn}
 use Rattle.strips.specs.declared.Window.{Window}
 use Rattle.rows.specs.declared.End.{End}
-use Rattle.rows.specs.Parts.{Marked, Marking, PartsMarked, LevelFits}
-use Rattle.rows.specs.Rows.{upperEnd, rowsOf, levelOf, Lies, endPlace}
+use Rattle.parts.specs.Parts.{Marked, Marking, PartsMarked}
+use Rattle.rows.specs.Rows.{upperEnd, rowsOf, levelOf, Lies, endPlace, LevelFits}
 
 -- what the whole sheet leads to has this shape: its upper end stands above its lower end
 pub record Shaped (m C : ℕ) (p : Strip) : Type 0 where

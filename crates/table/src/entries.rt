@@ -168,7 +168,7 @@ fn least_open(
     let mut k = window.from;
     while k < window.to {
         let cost = strips::open_cost(q, heights, s, k);
-        let parts = rows::parts::parts_cost(work, q, m, p, s, low, k);
+        let parts = parts::parts_cost(work, q, m, p, s, low, k);
         best = lesser(best, words::plus_of(cost, parts));
         k += 1;
     }

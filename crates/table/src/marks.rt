@@ -43,7 +43,7 @@ fn mark_window(
 {
     let mut k = window.from;
     while k < window.to {
-        rows::parts::mark_parts(work, q, m, p, s, low, k);
+        parts::mark_parts(work, q, m, p, s, low, k);
         k += 1;
     }
 }

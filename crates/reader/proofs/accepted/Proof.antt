@@ -7,7 +7,7 @@ use borrow.Author.Needs.{needs}
 use Rattle.sheet.specs.Sheet.{coloursIn, bodyOf, productOf}
 use Rattle.sheet.specs.Words.{countKind}
 use Rattle.sheet.proofs.Counts.{slots-count, colours-count, sites-count}
-use Rattle.refusals.proofs.refusal_7.Factors.{capped-same}
+use Rattle.reader.proofs.refusal_7.Factors.{capped-same}
 use Rattle.reader.proofs.WithinLimits.{WithinLimits, within}
 use Rattle.reader.proofs.accepted.Statement.{statement}
 use Rattle.reader.proofs.accepted.Tie as tie

@@ -6,9 +6,8 @@ use native.Mathlib.Omega.{arith}
 use Rattle.optimum.specs.Strips.{Strip}
 use Rattle.arrays.proofs.Narrowed.{on-slots}
 use Rattle.rows.specs.Budgets.{Others}
-use Rattle.rows.specs.Rows.{rowOf, rowIn, Lies, upperPart, lowerPart}
+use Rattle.rows.specs.Rows.{rowOf, rowIn, Lies, upperPart, lowerPart, LevelFits}
 use Rattle.rows.proofs.Places.{row-fits, upper-lies, lower-lies}
-use Rattle.rows.specs.Parts.{LevelFits}
 use Rattle.table.specs.Marks.{Level, level, slotsIn, coloursIn, budgetsIn, Ready}
 use Rattle.table.specs.Entries.{onRows, RowReady, PartsFit}
 use Rattle.table.proofs.marks.Levels.{level-fits}

@@ -19,7 +19,7 @@ use Rattle.strips.specs.declared.Window.{Window}
 use Rattle.rows.specs.Rows.{Lies, upperPart, lowerPart}
 use Rattle.rows.proofs.Places.{upper-is, lower-is}
 use Rattle.strips.proofs.Joining.{Opening, opening, up-least, down-least, join-low}
-use Rattle.rows.specs.Parts.{Marked, PartsMarked}
+use Rattle.parts.specs.Parts.{Marked, PartsMarked}
 
 module _ (q : Measures) (hs bs : List ℕ) (p : Strip) (s : Point) where
   abbrev P : Instance

@@ -11,12 +11,12 @@ use Rattle.optimum.specs.Strips.{Point, Strip, Instance}
 use Rattle.optimum.specs.Reached.{Asks}
 use Rattle.arrays.specs.declared.Measures.{Measures}
 use Rattle.strips.specs.Strips.{instanceOn}
-use Rattle.rows.specs.Rows.{rowOf, levelOf, Lies, endPlace, upperEnd}
+use Rattle.rows.specs.Rows.{rowOf, levelOf, Lies, endPlace, upperEnd, LevelFits}
 use Rattle.rows.proofs.Places.{row-fits}
 use Rattle.table.proofs.marks.Levels.{level-fits}
 use Rattle.table.specs.Marks.{Ready, Shaped, Led, Level, slotsIn, coloursIn, budgetsIn, wordsIn}
-use Rattle.rows.specs.Parts.{Marked, Marking, LevelFits}
-use Rattle.rows.proofs.parts.Marking.{marking-none, marking-join}
+use Rattle.parts.specs.Parts.{Marked, Marking}
+use Rattle.parts.proofs.Marking.{marking-none, marking-join}
 
 -- ---- ends by their places
 

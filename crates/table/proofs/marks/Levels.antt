@@ -6,8 +6,7 @@ use native.Mathlib.Omega.{arith}
 use lib.ListN.{length}
 use Rattle.sheet.specs.Limits.{mostBudgets, mostSites, mostRows, mostLevel, mostTable}
 use Rattle.arrays.specs.Given.{Given, OfSheet}
-use Rattle.rows.specs.Rows.{levelOf}
-use Rattle.rows.specs.Parts.{LevelFits}
+use Rattle.rows.specs.Rows.{levelOf, LevelFits}
 use Rattle.rows.proofs.Places.{rows-few}
 
 pub next-level : (j size : ℕ) → (j + 1) * size ≡ j * size + size

@@ -19,7 +19,7 @@ use Rattle.strips.specs.Strips.{instanceOn}
 use Rattle.rows.specs.Rows.{rowOf, levelOf, upperPart, lowerPart, upperEnd}
 use Rattle.rows.proofs.Places.{upper-lies, lower-lies}
 use Rattle.table.specs.Marks.{Shaped, Led, ReachMarked}
-use Rattle.rows.specs.Parts.{Marked, Marking}
+use Rattle.parts.specs.Parts.{Marked, Marking}
 use Rattle.table.proofs.marks.Asked.{asked-out, asked-in}
 use Rattle.table.proofs.marks.Points.{point-at}
 

@@ -14,7 +14,7 @@ use Rattle.table.proofs.entries.least_open.Statement.{statement}
 use Rattle.table.proofs.entries.least_open.Tie as tie
 use Rattle.table.proofs.entries.least_open.Reads as reads
 use Rattle.table.proofs.entries.least_open.Lts as lts
-use Rattle.rows.proofs.parts.parts_cost.Reads as parts-cost-reads
+use Rattle.parts.proofs.parts_cost.Reads as parts-cost-reads
 use Rattle.strips.proofs.open_cost.Reads as open-cost-reads
 use Rattle.words.proofs.lesser.Reads as lesser-reads
 use Rattle.words.proofs.plus_of.Reads as plus-of-reads

@@ -2,7 +2,7 @@ use Prim.Native.Nat.{min, _+_, _-_}
 use Rattle.rows.specs.Rows.{stripOf, pointOf}
 use Rattle.table.proofs.entries.Places.{parts-fit, last-in, below-fits}
 use Rattle.table.specs.Entries.{PartsFit}
-use Rattle.rows.proofs.parts.Marking.{fits-place}
+use Rattle.parts.proofs.Marking.{fits-place}
 use Rattle.arrays.proofs.Narrowed.{on-slots}
 use Rattle.table.proofs.entries.Terms.{slot-none, slot-open}
 use mathlib.Core.Path.{refl, ap, sym, _∙_}

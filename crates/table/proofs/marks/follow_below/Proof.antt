@@ -2,7 +2,7 @@ use mathlib.Core.Path.{ap₂, _≡_, refl, ap, sym, _∙_}
 use Rattle.rows.specs.Rows.{Lies, stripOf, pointOf, rowOf, endPlace}
 use Rattle.lists.proofs.Tests.{not-f}
 use Rattle.rows.proofs.Places.{row-fits}
-use Rattle.rows.proofs.parts.Marking.{marking-none}
+use Rattle.parts.proofs.Marking.{marking-none}
 use Rattle.table.proofs.marks.Followed.{ended, Followed, followed-none, followed-more, followed-all, next-row, next-slot, later-end, start-lies, lies-at, fits-of, at-low}
 use Prim.Native.Nat.{ℕ, _+_, _-_, _*_, _≤_}
 use native.Mathlib.Omega.{arith}

@@ -1,5 +1,5 @@
 use Rattle.lists.proofs.Tests.{not-f, clash}
-use Rattle.rows.proofs.parts.Marking.{marking-none, own-within, own-marking, own-marked}
+use Rattle.parts.proofs.Marking.{marking-none, own-within, own-marking, own-marked}
 use mathlib.Core.Path.{refl, ap}
 use Prim.Native.Nat.{ℕ, _+_, _-_}
 use native.Mathlib.Omega.{arith}

@@ -2,7 +2,7 @@ use lib.Dec.{ltb}
 use Rattle.lists.proofs.Tests.{not-e, not-f, clash}
 use Rattle.optimum.specs.OneSided.{topWord}
 use Rattle.rows.specs.Rows.{stripOf, pointOf}
-use Rattle.rows.proofs.parts.Marking.{marking-none, marking-join}
+use Rattle.parts.proofs.Marking.{marking-none, marking-join}
 use Rattle.arrays.proofs.Narrowed.{on-slots}
 use Rattle.table.proofs.marks.Asked.{marked-out, marked-in}
 use mathlib.Core.Path.{refl, ap, sym, _∙_}

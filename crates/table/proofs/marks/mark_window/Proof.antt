@@ -1,8 +1,8 @@
 use mathlib.Core.Logic.{_⊎_, inl, inr}
 use Rattle.lists.proofs.Tests.{by-equal}
 use Rattle.rows.specs.Rows.{stripOf, pointOf, rowsOf}
-use Rattle.rows.specs.Parts.{Marking, PartsMarked}
-use Rattle.rows.proofs.parts.Marking.{marking-none, marking-join, parts-kept}
+use Rattle.parts.specs.Parts.{Marking, PartsMarked}
+use Rattle.parts.proofs.Marking.{marking-none, marking-join, parts-kept}
 use mathlib.Core.Path.{_≡_, refl, _∙_}
 use Prim.Native.Nat.{ℕ, _-_, _*_, _<_, _≤_}
 use native.Mathlib.Omega.{arith}
@@ -11,7 +11,7 @@ use Rattle.table.proofs.marks.mark_window.Statement.{statement}
 use Rattle.table.proofs.marks.mark_window.Tie as tie
 use Rattle.table.proofs.marks.mark_window.Reads as reads
 use Rattle.table.proofs.marks.mark_window.Lts as lts
-use Rattle.rows.proofs.parts.mark_parts.Reads as mark-parts-reads
+use Rattle.parts.proofs.mark_parts.Reads as mark-parts-reads
 
 abbrev Inv-loop : tie.InvT-loop
 Inv-loop work₀ q m p s low window k₀ work k = (window .from ≤ k) × (k ≤ window .from ⊎ k ≤ window .to) × Marking work₀ work low (rowsOf m (q .colours) * q .budgets) × (length work ≡ length work₀) × ((i : ℕ) → window .from ≤ i → i < k → PartsMarked q work low m (stripOf p) (pointOf s) i)

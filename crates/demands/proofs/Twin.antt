@@ -1,0 +1,91 @@
+-- What is promised of the twin tool, an end in itself; and of one call, for the contract of crate cabi. Assumes nothing.
+use mathlib.Core.Path.{_≡_, refl, sym, ap, subst⁻¹, _∙_}
+use mathlib.Core.List.{List, _++_}
+use Prim.Native.Nat.{ℕ, _≤_, _<_}
+use native.Mathlib.Omega.{arith}
+use lib.ListN.{length, take, drop}
+use lib.Seq.{take-at, drop-at, length-front, length-take-le}
+use borrow.Author.Tests.{lt-ltb, le-ltb, eq-eqb, ne-eqb}
+use Rattle.lists.proofs.Tests.{by-order, by-equal}
+use Rattle.labelling.specs.Layout.{layoutPart, judgeFault, judged}
+use Rattle.labelling.specs.Lawful.{Lawful}
+use Rattle.labelling.specs.Twin.{twinFault, twinWords, TwinOf}
+use Rattle.labelling.proofs.Kept.{judged-so}
+use Rattle.labelling.proofs.Twin.{twin-kept}
+use Rattle.twin.specs.declared.Written.{Written}
+use Rattle.demands.specs.Demands.{WasTwinned, storedSheet, ServedByTwin, TwinPromised}
+
+-- THE REFUSAL by its causes
+module _ (ws o : List ℕ) where
+  fault-judge : 0 < judgeFault ws → twinFault ws o ≡ judgeFault ws
+  fault-judge l = rw (ne-eqb (judgeFault ws) 0 (λ e. omega arith)) refl
+
+  module _ (h : judgeFault ws ≡ 0) where
+    fault-unlawful : (judged ws ≡ 0 → ⊥) → twinFault ws o ≡ 13
+    fault-unlawful n = rw (eq-eqb (judgeFault ws) 0 h, ne-eqb (judged ws) 0 n) refl
+
+    fault-short : judged ws ≡ 0 → length o < length ws → twinFault ws o ≡ 9
+    fault-short v l = rw (eq-eqb (judgeFault ws) 0 h, eq-eqb (judged ws) 0 v, lt-ltb (length o) (length ws) l) refl
+
+    fault-none : judged ws ≡ 0 → length ws ≤ length o → twinFault ws o ≡ 0
+    fault-none v l = rw (eq-eqb (judgeFault ws) 0 h, eq-eqb (judged ws) 0 v, le-ltb (length o) (length ws) l) refl
+
+-- ONE CALL
+module _ (ws o : List ℕ) (r : Written) (o' : List ℕ) (m : WasTwinned ws o r o') where
+  refused : (f : ℕ) → twinFault ws o ≡ f → 0 < f → (r .refusal ≡ f) × (r .written ≡ 0) × (o' ≡ o)
+  refused f e l =
+      let n : (f ≡ 0 → ⊥) = λ q. omega arith in (
+        ap (λ (v : Written). v .refusal) (m .0) ∙ e,
+        ap (λ (v : Written). v .written) (m .0) ∙ rw (e, ne-eqb f 0 n) refl,
+        m .1 ∙ rw (e, ne-eqb f 0 n) refl,
+      )
+
+  module _ (h : judgeFault ws ≡ 0) (v : judged ws ≡ 0) (l : length ws ≤ length o) where
+    twin-is : TwinOf ws (twinWords ws)
+    twin-is = twin-kept .0 ws h v .0
+
+    area-is : o' ≡ twinWords ws ++ drop (length ws) o
+    area-is = m .1 ∙ rw (fault-none ws o h v l) refl
+
+    front-is : take (length ws) o' ≡ twinWords ws
+    front-is = ap (take (length ws)) area-is ∙ take-at (twinWords ws) (drop (length ws) o) (length ws) (twin-is .long)
+
+    given : (r .refusal ≡ 0) × (r .written ≡ length ws) × TwinOf ws (take (length ws) o') × (drop (length ws) o' ≡ drop (length ws) o)
+    given = (
+      ap (λ (z : Written). z .refusal) (m .0) ∙ fault-none ws o h v l,
+      ap (λ (z : Written). z .written) (m .0) ∙ rw (fault-none ws o h v l) refl,
+      subst⁻¹ (TwinOf ws) front-is twin-is,
+      ap (drop (length ws)) area-is ∙ drop-at (twinWords ws) (drop (length ws) o) (length ws) (twin-is .long),
+    )
+
+    given-long : length o' ≡ length o
+    given-long = ap length area-is ∙ length-front o (twinWords ws) (length ws) (twin-is .long ∙ sym (length-take-le (length ws) o l))
+
+  lawful-so : judgeFault ws ≡ 0 → Lawful (storedSheet ws) (layoutPart ws) → judged ws ≡ 0
+  lawful-so h = judged-so .1 ws .5 h .1 .1
+
+  unlawful-so : judgeFault ws ≡ 0 → (Lawful (storedSheet ws) (layoutPart ws) → ⊥) → judged ws ≡ 0 → ⊥
+  unlawful-so h n v = n (judged-so .1 ws .5 h .1 .0 v)
+
+  kept-long : length o' ≡ length o
+  kept-long =
+      by-equal (judgeFault ws) 0
+      (λ h. by-equal (judged ws) 0
+      (λ v. by-order (length ws) (length o)
+      (λ l. given-long h v l)
+      (λ l. ap length (refused 9 (fault-short ws o h v l) (omega arith) .2)))
+      (λ v. ap length (refused 13 (fault-unlawful ws o h v) (omega arith) .2)))
+      (λ h. let p : 0 < judgeFault ws = omega arith in ap length (refused (judgeFault ws) (fault-judge ws o p) p .2))
+
+pub served-by-twin : (ws o : List ℕ) (r : Written) (o' : List ℕ) → WasTwinned ws o r o' → ServedByTwin ws o r o'
+served-by-twin ws o r o' m =
+    record {
+      judge = λ l. refused ws o r o' m (judgeFault ws) (fault-judge ws o l) l;
+      unlawful = λ h n. refused ws o r o' m 13 (fault-unlawful ws o h (unlawful-so ws o r o' m h n)) (omega arith);
+      short = λ h a l. refused ws o r o' m 9 (fault-short ws o h (lawful-so ws o r o' m h a) l) (omega arith);
+      given = λ h a l. given ws o r o' m h (lawful-so ws o r o' m h a) l;
+      kept = kept-long ws o r o' m;
+    }
+
+pub twin-promised : TwinPromised
+twin-promised = record { served = served-by-twin; again = twin-kept .1; best = twin-kept .2 }

@@ -1,0 +1,67 @@
+-- `refusal_6::some_ranked` meets its contract.
+use mathlib.Core.Path.{_≡_, refl, sym, _∙_}
+use Prim.Native.Nat.{_-_}
+use lib.ListN.{drop-of-length-le, length, drop}
+use borrow.Author.Needs.{needs}
+use Rattle.lists.proofs.Places.{found, on}
+use Rattle.refusals.specs.Wordwise.{someRanked}
+use Rattle.reader.proofs.Steps.{some-at}
+use Rattle.reader.proofs.refusal_6.some_ranked.Statement.{statement}
+use Rattle.reader.proofs.refusal_6.some_ranked.Tie as tie
+
+abbrev Inv-loop : tie.InvT-loop
+Inv-loop words from rank i₀ i = someRanked rank (drop from words) ≡ someRanked rank (drop i words)
+
+abbrev μ-loop : tie.MeasureT-loop
+μ-loop words from rank i₀ i = length words - i
+
+loop-holds : tie.Need-loop-holds Inv-loop μ-loop
+loop-holds c = search needs
+
+mul-is-ranked : tie.Need-mul-is-ranked Inv-loop μ-loop
+mul-is-ranked c = search needs
+
+shared-slice-read-is-ranked : tie.Need-shared-slice-read-is-ranked Inv-loop μ-loop
+shared-slice-read-is-ranked c = search needs
+
+is-ranked-requires : tie.Need-is-ranked-requires Inv-loop μ-loop
+is-ranked-requires c κs = search needs
+
+returns : tie.Need-returns Inv-loop μ-loop
+returns c =
+    let a = c .before .before .before .before .before .before .args in
+    let l = c .before .before .before .before .loop in
+    rw (l .inv) (found _ (some-at (a .words .now) (l .i) (c .before .before .before .loop-test .taken) (a .rank)) (sym (c .before .is-ranked .ensures) ∙ c .if1 .taken))
+
+add-i : tie.Need-add-i Inv-loop μ-loop
+add-i c = search needs
+
+loop-less : tie.Need-loop-less Inv-loop μ-loop
+loop-less c = search needs
+
+loop-again : tie.Need-loop-again Inv-loop μ-loop
+loop-again c =
+    let a = c .before .before .before .before .before .before .args in
+    let l = c .before .before .before .before .loop in
+    l .inv ∙ on _ (some-at (a .words .now) (l .i) (c .before .before .before .loop-test .taken) (a .rank)) (sym (c .before .is-ranked .ensures) ∙ c .if1 .left)
+
+returns-2 : tie.Need-returns-2 Inv-loop μ-loop
+unfolding someRanked
+returns-2 c =
+    rw (c .before .loop .inv, drop-of-length-le (c .before .before .before .args .words .now) (c .loop-test .left)) refl
+
+pub some-ranked-spec : {M : Type 1} → statement M
+some-ranked-spec =
+    tie.close
+    (tie.spec
+    Inv-loop
+    μ-loop
+    loop-holds
+    mul-is-ranked
+    shared-slice-read-is-ranked
+    is-ranked-requires
+    returns
+    add-i
+    loop-less
+    loop-again
+    returns-2)
