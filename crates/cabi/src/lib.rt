@@ -1,12 +1,16 @@
-// The C interface: reader, judge and layout maker. Their structs are laid out as C has them.
-// Each contract has the call's equations, and then what demands 1, 2 and 3 conclude of it (demands/specs/Demands).
+// The C interface: reader, judge, layout maker and twin tool. Their structs are laid out as C has them.
+// Each contract has the call's equations, and then what demands 1, 2 and 3, or the promises about the twin, conclude of it
+// (demands/specs/Demands).
 ghost use mathlib.Core.Path.{_≡_};
 ghost use Rattle.reader.specs.Read.{readPost};
 ghost use Rattle.judge.specs.Judge.{judgePost};
 ghost use Rattle.labelling.specs.Entry.{makeFault, makeAnswer, makeWork};
-ghost use Rattle.demands.specs.Demands.{ServedByReader, ServedByJudge, TrueVerdict, Served, ContentsApart, BestOfLawful};
+ghost use Rattle.labelling.specs.Twin.{twinArea};
+ghost use Rattle.twin.specs.Twin.{twinPost};
+ghost use Rattle.demands.specs.Demands.{ServedByReader, ServedByJudge, TrueVerdict, Served, ContentsApart, BestOfLawful, ServedByTwin};
 use judge::Verdict;
 use reader::Sizes;
+use twin::Written;
 
 #[no_mangle]
 pub extern "C" fn backbone_read(sheet: &[u32]) -> Sizes
@@ -36,4 +40,14 @@ pub extern "C" fn backbone_make(sheet: &[u32], work: &mut [u32], out: &mut [u32]
     ensures { λ r. ⌜ BestOfLawful (now (sheet .entry)) (now (work .entry)) (now (out .entry)) r (now (out .exit)) ⌝ }
 {
     maker::make_layout(sheet, work, out) as u32
+}
+
+#[no_mangle]
+pub extern "C" fn backbone_twin(stored: &[u32], out: &mut [u32]) -> Written
+    ensures { λ r. ⌜ r ≡ twinPost (now (stored .entry)) (now (out .entry)) ⌝ }
+    ensures { λ _. ⌜ now (out .exit) ≡ twinArea (now (stored .entry)) (now (out .entry)) ⌝ }
+    ensures { λ _. ⌜ now (stored .exit) ≡ now (stored .entry) ⌝ }
+    ensures { λ r. ⌜ ServedByTwin (now (stored .entry)) (now (out .entry)) r (now (out .exit)) ⌝ }
+{
+    twin::make_twin(stored, out)
 }
