@@ -37,7 +37,9 @@ enum {
     BACKBONE_ANSWER_TOO_SHORT = 9,  /* the answer area is shorter than needed */
     BACKBONE_NO_LAYOUT = 10,        /* no layout obeys rules 1 to 5 */
     BACKBONE_BAD_LAYOUT = 11,       /* the stored sheet has no layout, or one that is not in its form */
-    BACKBONE_BAD_INPUT = 12         /* more than 1,024 bytes or not whole words */
+    BACKBONE_BAD_INPUT = 12,        /* more than 1,024 bytes or not whole words */
+    BACKBONE_UNLAWFUL = 13,         /* the layout breaks a rule: the judge's answer is not 0 */
+    BACKBONE_TWO_SIDED = 18         /* the sheet is two-sided: such sheets are no longer laid out */
 };
 
 /* A colour's label bound and its number of sites; both 0 for a colour that the sheet doesn't have. */
@@ -53,7 +55,7 @@ typedef struct {
     uint8_t m;     /* slots */
     uint8_t c;     /* colours */
     uint8_t p;     /* budgets: the product of bound plus one over the bounded colours */
-    uint32_t work; /* work words that backbone_make needs */
+    uint32_t work; /* work words that backbone_make needs; a two-sided sheet has a number too, though it is not laid out */
     backbone_colour colours[BACKBONE_MOST_COLOURS];
 } backbone_sizes;
 
@@ -63,16 +65,28 @@ typedef struct {
     uint8_t rule;
 } backbone_verdict;
 
-/* Reads a sheet: refusals 1 to 7. */
+/* What the twin's writer gives: how many words it wrote. Beside a refusal it is 0. */
+typedef struct {
+    uint8_t refusal;
+    uint32_t written;
+} backbone_written;
+
+/* Reads a sheet, one-sided or two-sided: refusals 1 to 7. */
 backbone_sizes backbone_read(const uint32_t *sheet, size_t len);
 
 /* Judges a stored sheet, which is a sheet followed by a layout: refusals 1 to 7 and 11. */
 backbone_verdict backbone_judge(const uint32_t *stored, size_t len);
 
-/* Lays out a sheet: refusals 1 to 10, or 0 with the best layout in the first n + 1 words of out.
- * Refusals 1 to 9 change neither area. On 0 and on 10 the needed work words are all zero afterwards. */
+/* Lays out a one-sided sheet: refusals 1 to 7, then 18, then 8 to 10, or 0 with the best layout in the first n + 1 words
+ * of out. Refusals other than 10 change neither area. On 0 and on 10 the needed work words are all zero afterwards. */
 uint32_t backbone_make(const uint32_t *sheet, size_t len, uint32_t *work, size_t work_len, uint32_t *out,
                        size_t out_len);
+
+/* Writes the one-sided twin of a stored sheet, as many words as it has, to the start of out: refusals 1 to 7 and 11 as the
+ * judge gives them, then 13, then 9 where out is shorter than the stored sheet. Of a lawful two-sided sheet only the side
+ * and the length differ, and the length is the true one; a lawful one-sided sheet comes back word for word. A refusal
+ * changes nothing in out; words past the twin stay as they were. */
+backbone_written backbone_twin(const uint32_t *stored, size_t len, uint32_t *out, size_t out_len);
 
 #ifdef __cplusplus
 }

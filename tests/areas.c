@@ -13,6 +13,11 @@ static const uint32_t sheet[WORDS] = {0x10008008, 0x20000002, 0x20000005, 0x2000
                                       0x40008004, 0x40018006, 0x300000FF, 0x40010005};
 static const uint32_t best[ANSWER] = {0x80400013, 0x90000000, 0x90000000, 0x90000002};
 
+/* Sheet A two-sided with its best layout, and the twin of that: sheet A with the layout above. */
+static const uint32_t two_sided[WORDS + ANSWER] = {0x18008008, 0x20000002, 0x20000005, 0x20000008, 0x300000FF,
+                                                   0x40008004, 0x40018006, 0x300000FF, 0x40010005, 0x80400019,
+                                                   0x90000000, 0x90000000, 0x90000002};
+
 static int failures = 0;
 
 static void expect(int holds, const char *what) {
@@ -50,6 +55,7 @@ static void null_lists(void) {
     expect(backbone_read(NULL, 0).refusal == BACKBONE_NO_HEAD, "the reader refuses a null list with 1");
     expect(backbone_judge(NULL, 0).refusal == BACKBONE_NO_HEAD, "the judge refuses a null list with 1");
     expect(backbone_make(NULL, 0, NULL, 0, NULL, 0) == BACKBONE_NO_HEAD, "the maker refuses a null list with 1");
+    expect(backbone_twin(NULL, 0, NULL, 0).refusal == BACKBONE_NO_HEAD, "the twin of a null list is refused with 1");
 }
 
 /* What malloc gives for no words is null or not; both serve. */
@@ -90,6 +96,39 @@ static void areas_with_spare(size_t spare) {
     free(answer);
 }
 
+static void two_sided_sheet(void) {
+    uint32_t *work = dirty(WORK), *answer = dirty(ANSWER);
+    expect(backbone_read(two_sided, WORDS).work == 15, "the reader gives two-sided work words");
+    expect(backbone_make(two_sided, WORDS, NULL, 0, NULL, 0) == BACKBONE_TWO_SIDED, "18 comes before 8 and 9");
+    expect(backbone_make(two_sided, WORDS, work, WORK, answer, ANSWER) == BACKBONE_TWO_SIDED, "18");
+    expect(is_dirty(work, 0, WORK) && is_dirty(answer, 0, ANSWER), "18 leaves both areas");
+    free(work);
+    free(answer);
+}
+
+static void twin_with_spare(size_t spare) {
+    uint32_t *area = dirty(WORDS + ANSWER + spare);
+    backbone_written made = backbone_twin(two_sided, WORDS + ANSWER, area, WORDS + ANSWER + spare);
+    expect(made.refusal == BACKBONE_ACCEPTED && made.written == WORDS + ANSWER, "the twin has as many words");
+    expect(memcmp(area, sheet, sizeof sheet) == 0 && memcmp(area + WORDS, best, sizeof best) == 0, "the twin of A two-sided");
+    expect(is_dirty(area, WORDS + ANSWER, WORDS + ANSWER + spare), "what is past the twin is left");
+    free(area);
+}
+
+static void refused_twins(void) {
+    uint32_t false_length[WORDS + ANSWER], *area = dirty(WORDS + ANSWER);
+    memcpy(false_length, two_sided, sizeof two_sided);
+    false_length[WORDS]--;
+    backbone_written lone = backbone_twin(two_sided, WORDS, area, WORDS + ANSWER);
+    backbone_written unlawful = backbone_twin(false_length, WORDS + ANSWER, NULL, 0);
+    backbone_written tight = backbone_twin(two_sided, WORDS + ANSWER, area, WORDS + ANSWER - 1);
+    expect(lone.refusal == BACKBONE_BAD_LAYOUT && lone.written == 0, "a sheet without a layout has no twin: 11");
+    expect(unlawful.refusal == BACKBONE_UNLAWFUL && unlawful.written == 0, "13 comes before 9");
+    expect(tight.refusal == BACKBONE_ANSWER_TOO_SHORT && tight.written == 0, "9 with an area of a word less");
+    expect(is_dirty(area, 0, WORDS + ANSWER), "refusals leave the area");
+    free(area);
+}
+
 int main(void) {
     null_lists();
     no_words();
@@ -97,5 +136,9 @@ int main(void) {
     short_areas();
     areas_with_spare(0);
     areas_with_spare(SPARE);
+    two_sided_sheet();
+    twin_with_spare(0);
+    twin_with_spare(SPARE);
+    refused_twins();
     return failures == 0 ? 0 : 1;
 }

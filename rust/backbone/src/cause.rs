@@ -1,7 +1,8 @@
 //! Where a refusal comes from. The library says which refusal applies; this says by which words, slots, colours or
 //! sites, in words.
 
-use crate::{split_stored, Refusal, Word, MOST_BUDGETS, MOST_COLOURS, MOST_SITES, MOST_SLOTS};
+use crate::{faults, judge, split_stored, Fault, Refusal, Rule, Stored, Word};
+use crate::{MOST_BUDGETS, MOST_COLOURS, MOST_SITES, MOST_SLOTS};
 use std::fmt;
 
 /// One thing that a refusal comes from. Words, slots, colours and sites are numbered from 0.
@@ -31,10 +32,14 @@ pub enum Cause {
     Ties { ties: usize, sites: usize },
     /// Refusal 11: a tie to a slot that the sheet doesn't have.
     NoSlot { site: usize, slot: u8, slots: usize },
+    /// Refusal 13: the judge's rule, and a place at which it is broken.
+    Broken { rule: Rule, fault: Fault },
+    /// Refusal 18: the head.
+    TwoSided { head: u32 },
 }
 
-/// What a refusal comes from: of a sheet for refusals 1 to 7, of a stored sheet for 11; nothing for the others, which
-/// come from areas, from bytes or from the sheet as a whole.
+/// What a refusal comes from: of a sheet for refusals 1 to 7 and 18, of a stored sheet for 11 and 13; nothing for the
+/// others, which come from areas, from bytes or from the sheet as a whole.
 ///
 /// ```
 /// use backbone::{causes, read, Word};
@@ -52,6 +57,8 @@ pub fn causes(words: &[u32], refusal: Refusal) -> Vec<Cause> {
         Refusal::EqualX => equal_x(&Parts::of(words)),
         Refusal::TooManyBudgets => budgets(&Parts::of(words)),
         Refusal::BadLayout => bad_layout(words),
+        Refusal::Unlawful => broken(words),
+        Refusal::TwoSided => words.first().map(|head| Cause::TwoSided { head: *head }).into_iter().collect(),
         Refusal::WorkTooShort | Refusal::AnswerTooShort | Refusal::NoLayout | Refusal::BadInput => Vec::new(),
     }
 }
@@ -174,12 +181,20 @@ fn bad_layout(stored: &[u32]) -> Vec<Cause> {
     causes
 }
 
+fn broken(stored: &[u32]) -> Vec<Cause> {
+    let (Ok(Some(rule)), Ok(Stored { sheet, layout })) = (judge(stored), Stored::from_words(stored)) else {
+        return Vec::new();
+    };
+    faults(&sheet, &layout, rule).into_iter().map(|fault| Cause::Broken { rule, fault }).collect()
+}
+
 impl Cause {
     /// The sites that it is about.
     pub fn sites(&self) -> Vec<usize> {
         match self {
             Cause::BeyondWidth { site, .. } | Cause::NoSlot { site, .. } => vec![*site],
             Cause::EqualX { sites, .. } => sites.to_vec(),
+            Cause::Broken { fault, .. } => fault.sites(),
             _ => Vec::new(),
         }
     }
@@ -189,6 +204,7 @@ impl Cause {
         match self {
             Cause::NotRising { slots, .. } => slots.to_vec(),
             Cause::NoSlot { slot, .. } => vec![usize::from(*slot)],
+            Cause::Broken { fault, .. } => fault.slots(),
             _ => Vec::new(),
         }
     }
@@ -218,6 +234,8 @@ impl fmt::Display for Cause {
             Cause::NoSlot { site, slot, slots } => {
                 write!(out, "site {site} is tied to slot {slot}, and the sheet has {slots} slots")
             }
+            Cause::Broken { rule, fault } => write!(out, "rule {}: {fault}", rule.number()),
+            Cause::TwoSided { head } => write!(out, "word 0 is 0x{head:08X}, a two-sided head"),
         }
     }
 }

@@ -45,15 +45,3 @@ impl fmt::Display for Layout {
         write!(out, "labels {} length {}", self.labels, self.length)
     }
 }
-
-/// Parts a stored sheet at the first word of a layout: the words of the sheet, and those of the layout, which
-/// are none if there is no such word.
-///
-/// ```
-/// let (sheet, layout) = backbone::split_stored(&[0x10008008, 0x80000000]);
-/// assert_eq!((sheet, layout), (&[0x10008008][..], &[0x80000000][..]));
-/// ```
-pub fn split_stored(stored: &[u32]) -> (&[u32], &[u32]) {
-    let is_layout = |word: &u32| matches!(Word::decode(*word), Some(Word::Layout { .. }));
-    stored.split_at(stored.iter().position(is_layout).unwrap_or(stored.len()))
-}

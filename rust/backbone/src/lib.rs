@@ -22,10 +22,13 @@
 //! # Ok::<(), Box<dyn std::error::Error>>(())
 //! ```
 //!
-//! [`read`], [`make`] and [`judge`] are the library's own operations, on lists of words. [`Sheet`] builds such
-//! lists, [`Layout`] takes answers apart, [`Word`] names the fields of one word. [`labels`] are a layout's used slots,
-//! [`faults`] the places at which it breaks a rule, [`causes`] the words that a refusal comes from. [`WorkArea`] lays out
-//! many sheets in one area.
+//! [`read`], [`make`], [`judge`] and [`twin`] are the library's own operations, on lists of words. [`Sheet`] builds such
+//! lists, [`Layout`] takes answers apart, [`Stored`] is a sheet with a layout, [`Word`] names the fields of one word.
+//! [`labels`] are a layout's used slots, [`faults`] the places at which it breaks a rule, [`causes`] the words that a
+//! refusal comes from. [`WorkArea`] lays out many sheets in one area.
+//!
+//! Two-sided sheets, whose backbones reach from edge to edge, are read and judged, but no longer laid out. [`twin`] turns
+//! a stored one into a one-sided one.
 //!
 //! One unit of length is an eighth of a printer's point. x counts from the left edge, heights downwards from the
 //! top.
@@ -39,17 +42,19 @@ mod numbered;
 mod refusal;
 mod rule;
 mod sheet;
+mod stored;
 mod word;
 mod work_area;
 
 pub use cause::{causes, Cause};
 pub use fault::{faults, Fault};
 pub use label::{labels, true_numbers, Label};
-pub use layout::{split_stored, Layout};
-pub use library::{judge, lay_out, make, read, ColourSizes, Sizes};
+pub use layout::Layout;
+pub use library::{judge, lay_out, make, read, twin, twin_words, ColourSizes, Sizes};
 pub use refusal::Refusal;
 pub use rule::Rule;
 pub use sheet::{Sheet, Site};
+pub use stored::{split_stored, Stored};
 pub use word::{Aim, FormError, Side, Word};
 pub use work_area::{NotLaidOut, WorkArea};
 

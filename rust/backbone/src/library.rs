@@ -27,6 +27,12 @@ struct RawVerdict {
     rule: u8,
 }
 
+#[repr(C)]
+struct RawWritten {
+    refusal: u8,
+    written: u32,
+}
+
 extern "C" {
     fn backbone_read(sheet: *const u32, len: usize) -> RawSizes;
     fn backbone_judge(stored: *const u32, len: usize) -> RawVerdict;
@@ -38,6 +44,7 @@ extern "C" {
         out: *mut u32,
         out_len: usize,
     ) -> u32;
+    fn backbone_twin(stored: *const u32, len: usize, out: *mut u32, out_len: usize) -> RawWritten;
 }
 
 /// What the reader says of a sheet that it accepts.
@@ -65,7 +72,7 @@ impl Sizes {
 fn refusal(number: u32) -> Result<(), Refusal> {
     match number {
         0 => Ok(()),
-        _ => Err(Refusal::from_number(number).expect("the library gives refusals 1 to 11")),
+        _ => Err(Refusal::from_number(number).expect("the library gives refusals 1 to 11, 13 and 18")),
     }
 }
 
@@ -113,7 +120,7 @@ pub fn judge(stored: &[u32]) -> Result<Option<Rule>, Refusal> {
     }
 }
 
-/// Lays out a sheet in the caller's areas, or gives one of the refusals 1 to 10.
+/// Lays out a one-sided sheet in the caller's areas, or gives one of the refusals 1 to 10 and, for a two-sided sheet, 18.
 ///
 /// On success the layout is in the first [`Sizes::answer_words`] of `answer`. Refusals but 10 change neither
 /// area; on success and on 10 the needed work words are all zero. What stood in the areas plays no part.
@@ -136,8 +143,8 @@ pub fn make(sheet: &[u32], work: &mut [u32], answer: &mut [u32]) -> Result<(), R
     refusal(number)
 }
 
-/// Lays out a sheet in areas of its own: the best layout, or one of the refusals 1 to 7 and 10, and 8 where there is
-/// no memory for the work area.
+/// Lays out a sheet in areas of its own: the best layout, or one of the refusals 1 to 7, 10 and 18, and 8 where there
+/// is no memory for the work area.
 ///
 /// The work area of the largest sheets is 427 million words. [`WorkArea`] serves many sheets, and says what it lacks.
 pub fn lay_out(sheet: &[u32]) -> Result<Layout, Refusal> {
@@ -145,4 +152,34 @@ pub fn lay_out(sheet: &[u32]) -> Result<Layout, Refusal> {
         NotLaidOut::Refused(refusal) => refusal,
         NotLaidOut::NoMemory { .. } => Refusal::WorkTooShort,
     })
+}
+
+/// Writes the one-sided twin of a stored sheet to the start of the caller's area and gives the number of words written,
+/// as many as the stored sheet has; or one of the refusals 1 to 7, 11, 13 and 9, in this order.
+///
+/// A lawful two-sided sheet's twin differs from it in the side and in the length, which is the true one of the same ties
+/// on the one-sided sheet. It is lawful, and no longer. A lawful one-sided sheet is its own twin. A refusal leaves the
+/// area as it was, and places past the twin keep what they hold.
+///
+/// ```
+/// use backbone::{twin, Refusal};
+/// let stored = [0x18008008, 0x20000002, 0x300000FF, 0x40008004, 0x8020000A, 0x90000000];
+/// let mut area = [0; 7];
+/// assert_eq!(twin(&stored, &mut area), Ok(6));
+/// assert_eq!(area, [0x10008008, 0x20000002, 0x300000FF, 0x40008004, 0x80200008, 0x90000000, 0]);
+/// assert_eq!(twin(&stored, &mut area[..5]), Err(Refusal::AnswerTooShort));
+/// ```
+pub fn twin(stored: &[u32], area: &mut [u32]) -> Result<usize, Refusal> {
+    // SAFETY: pointers and lengths are those of two slices that Rust keeps apart.
+    let written = unsafe { backbone_twin(stored.as_ptr(), stored.len(), area.as_mut_ptr(), area.len()) };
+    refusal(u32::from(written.refusal))?;
+    Ok(written.written as usize)
+}
+
+/// The words of a stored sheet's one-sided twin, or one of the refusals 1 to 7, 11 and 13: see [`twin`].
+pub fn twin_words(stored: &[u32]) -> Result<Vec<u32>, Refusal> {
+    let mut words = vec![0; stored.len()];
+    let written = twin(stored, &mut words)?;
+    words.truncate(written);
+    Ok(words)
 }

@@ -1,4 +1,4 @@
-/// An enum whose cases have numbers from 1 on and a meaning in words.
+/// An enum whose cases have rising numbers and a meaning in words.
 macro_rules! numbered {
     ($(#[$about:meta])* $name:ident, $count:literal: $($case:ident = $number:literal, $meaning:literal;)*) => {
         $(#[$about])*

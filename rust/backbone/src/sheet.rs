@@ -45,7 +45,7 @@ impl Sheet {
     ///
     /// ```
     /// use backbone::{Aim, Sheet, Side};
-    /// let mut sheet = Sheet::new(Side::Two, Aim::Shortest, 1, 100)?;
+    /// let mut sheet = Sheet::new(Side::One, Aim::Shortest, 1, 100)?;
     /// sheet.add_slot(16383)?;
     /// assert!(sheet.add_slot(16384).is_err());
     /// # Ok::<(), backbone::FormError>(())
@@ -154,7 +154,7 @@ impl Sheet {
         Ok(sheet)
     }
 
-    /// The best layout, or one of the refusals 3 to 7 and 10.
+    /// The best layout, or one of the refusals 3 to 7, 10 and 18.
     pub fn lay_out(&self) -> Result<Layout, Refusal> {
         lay_out(&self.words())
     }

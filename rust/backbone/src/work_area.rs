@@ -18,7 +18,7 @@ pub struct WorkArea {
 /// Why a sheet is not laid out.
 #[derive(Clone, Copy, Debug, PartialEq, Eq)]
 pub enum NotLaidOut {
-    /// One of the refusals 1 to 7 and 10.
+    /// One of the refusals 1 to 7, 10 and 18.
     Refused(Refusal),
     /// There is no memory for so many work words.
     NoMemory { words: usize },

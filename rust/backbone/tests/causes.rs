@@ -1,6 +1,6 @@
 //! Every refusal of words has its causes, and each cause is there in the words.
 
-use backbone::{causes, judge, read, split_stored, Cause, Refusal};
+use backbone::{causes, judge, read, split_stored, Cause, Refusal, Rule};
 use model::random::{any_list, damage, invented_layout, small_sheet, Random};
 
 /// The words of a kind, as they come.
@@ -35,6 +35,8 @@ fn holds(cause: &Cause, words: &[u32]) -> bool {
         Cause::NoSlot { site, slot, slots } => {
             split_stored(words).1[site + 1] == 9 << 28 | u32::from(*slot) && usize::from(*slot) >= *slots
         }
+        Cause::Broken { rule, .. } => model::rules::judge(words) == (0, rule.number()),
+        Cause::TwoSided { head } => words[0] == *head && head >> 27 & 1 == 1,
     }
 }
 
@@ -92,6 +94,23 @@ fn layouts_out_of_form_have_their_causes() {
     assert!(met > 5_000, "{met}");
 }
 
+/// The places themselves are held to the layout in `faults`.
+#[test]
+fn unlawful_layouts_have_their_causes() {
+    let mut random = Random::new(94);
+    let mut met = [0; 7];
+    for _ in 0..20_000 {
+        let sheet = small_sheet(&mut random);
+        let stored = [sheet.words(), invented_layout(&sheet, &mut random)].concat();
+        let Ok(rule) = judge(&stored) else { continue };
+        let causes = causes(&stored, Refusal::Unlawful);
+        assert_eq!(causes.is_empty(), rule.is_none(), "{stored:x?}");
+        assert!(causes.iter().all(|cause| holds(cause, &stored)), "{causes:?} {stored:x?}");
+        met[usize::from(rule.map_or(0, Rule::number))] += 1;
+    }
+    assert!(met[..6].iter().all(|times| *times > 100), "{met:?}");
+}
+
 #[test]
 fn causes_in_words() {
     let first = |words: &[u32], refusal: Refusal| causes(words, refusal)[0].to_string();
@@ -117,4 +136,9 @@ fn causes_in_words() {
     assert_eq!(first(&stored[..5], Refusal::BadLayout), "words after the layout's first: 0; sites: 1");
     assert_eq!(first(&stored[..4], Refusal::BadLayout), "there is no word of a layout");
     assert_eq!(causes(&stored, Refusal::NoLayout), []);
+    let two_sided = [0x18008008, 0x20000002, 0x300000FF, 0x40008004, 0x80200008, 0x90000000];
+    assert_eq!(first(&two_sided[..4], Refusal::TwoSided), "word 0 is 0x18008008, a two-sided head");
+    let text = "rule 6: the layout states 1 label and length 8, but has 1 label and length 10";
+    assert_eq!(first(&two_sided, Refusal::Unlawful), text);
+    assert_eq!(causes(&two_sided[..4], Refusal::Unlawful), []);
 }

@@ -24,28 +24,20 @@ fn compare(sheet: &Sheet, work_words: usize) {
 }
 
 #[test]
-fn two_sided() {
-    let bounds = [1, 1, 1, 1, 1, 1, 255, 255];
-    compare(&banded_sheet(true, 48, 32, &bounds, 1), 50 * 9 * 64);
-    compare(&banded_sheet(true, 48, 32, &[63, 255, 255, 255, 255, 255, 255, 255], 2), 50 * 9 * 64);
-    compare(&banded_sheet(true, 48, 32, &[3, 3, 3], 3), 50 * 4 * 64);
+fn most_sites_and_slots() {
+    compare(&banded_sheet(48, 32, &[255, 255], 4), 50 * 50 * 9 * 33);
+    compare(&banded_sheet(48, 32, &[7], 5), 50 * 50 * 4 * 33 * 8);
 }
 
 #[test]
-fn one_sided_of_most_sites_and_slots() {
-    compare(&banded_sheet(false, 48, 32, &[255, 255], 4), 50 * 50 * 9 * 33);
-    compare(&banded_sheet(false, 48, 32, &[7], 5), 50 * 50 * 4 * 33 * 8);
-}
-
-#[test]
-fn one_sided_of_most_colours_and_budgets() {
-    compare(&banded_sheet(false, 16, 16, &[1, 1, 1, 1, 1, 1, 255, 255], 6), 18 * 18 * 81 * 17 * 64);
+fn most_colours_and_budgets() {
+    compare(&banded_sheet(16, 16, &[1, 1, 1, 1, 1, 1, 255, 255], 6), 18 * 18 * 81 * 17 * 64);
 }
 
 /// 427 million work words, 1.7 GB: the plain table is made in the same words.
 #[test]
-fn one_sided_largest_of_all() {
-    let sheet = banded_sheet(false, 48, 32, &[1, 1, 1, 1, 1, 1, 255, 255], 7);
+fn largest_of_all() {
+    let sheet = banded_sheet(48, 32, &[1, 1, 1, 1, 1, 1, 255, 255], 7);
     let words = sheet.words();
     let mut work = vec![0; 50 * 50 * 81 * 33 * 64];
     let (mut answer, mut plain) = (vec![0; 33], vec![0; 33]);

@@ -1,4 +1,4 @@
-//! The library's layouts against a search over all layouts and against a plain table and walk.
+//! The library's layouts of one-sided sheets against a search over all layouts and against a plain table and walk.
 
 mod common;
 
@@ -39,8 +39,8 @@ fn checked(sheet: &Sheet, random: &mut Random) -> Result<Vec<u32>, u8> {
 /// What the random sheets must have had among them.
 #[derive(Debug, Default)]
 struct Met {
-    laid_out: [[usize; 2]; 2],
-    no_layout: [[usize; 2]; 2],
+    laid_out: [usize; 2],
+    no_layout: [usize; 2],
     bound_shared: usize,
     equal_y: usize,
     site_on_slot: usize,
@@ -49,7 +49,7 @@ struct Met {
 impl Met {
     fn note(&mut self, sheet: &Sheet, laid_out: bool) {
         let kind = if laid_out { &mut self.laid_out } else { &mut self.no_layout };
-        kind[usize::from(sheet.two_sided)][usize::from(sheet.shortest)] += 1;
+        kind[usize::from(sheet.shortest)] += 1;
         let y = |i: usize| sheet.sites[i].y;
         let level = |i: usize| (0..i).any(|j| y(i) == y(j));
         let own = |colour: usize| sheet.sites.iter().filter(|site| site.colour == colour).count();
@@ -60,7 +60,7 @@ impl Met {
     }
 
     fn least(&self) -> usize {
-        let counts = self.laid_out.into_iter().chain(self.no_layout).flatten();
+        let counts = self.laid_out.into_iter().chain(self.no_layout);
         counts.chain([self.bound_shared, self.equal_y, self.site_on_slot]).min().unwrap_or(0)
     }
 }
@@ -71,7 +71,7 @@ fn compare(sheets: usize, seed: u64, draw: fn(&mut Random) -> Sheet, check: fn(&
         let mut random = Random::new(seed + index as u64);
         let mut met = Met::default();
         for _ in 0..sheets.div_ceil(THREADS) {
-            let sheet = draw(&mut random);
+            let sheet = draw(&mut random).one_sided();
             let laid_out = check(&sheet, &mut random);
             met.note(&sheet, laid_out);
         }

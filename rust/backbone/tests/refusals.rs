@@ -132,15 +132,25 @@ fn the_lowest_comes_first() {
 #[test]
 fn areas_too_short() {
     let mut random = Random::new(8);
-    let two_sided = [&[0x18008008], &SHEET_A[1..]].concat();
-    for (sheet, needed) in [(&SHEET_A[..], 900), (&two_sided, 15)] {
-        let mut made = |work, answer| make_in_dirt(sheet, work, answer, &mut random).err();
-        assert_eq!(made(needed, 4), None);
-        assert_eq!(made(needed - 1, 4), Some(Refusal::WorkTooShort));
-        assert_eq!(made(needed - 1, 0), Some(Refusal::WorkTooShort));
-        assert_eq!(made(needed, 3), Some(Refusal::AnswerTooShort));
-        assert_eq!(made(needed + 100, 0), Some(Refusal::AnswerTooShort));
+    let mut made = |work, answer| make_in_dirt(&SHEET_A, work, answer, &mut random).err();
+    assert_eq!(made(900, 4), None);
+    assert_eq!(made(899, 4), Some(Refusal::WorkTooShort));
+    assert_eq!(made(899, 0), Some(Refusal::WorkTooShort));
+    assert_eq!(made(900, 3), Some(Refusal::AnswerTooShort));
+    assert_eq!(made(1000, 0), Some(Refusal::AnswerTooShort));
+}
+
+/// 18 comes after 7 and before 8, so no area plays a part. The reader gives the work words that the table once had.
+#[test]
+fn two_sided() {
+    let sheet = [&[0x18008008], &SHEET_A[1..]].concat();
+    assert_eq!(read(&sheet).map(|sizes| sizes.work_words), Ok(15));
+    let mut random = Random::new(10);
+    for (work, answer) in [(0, 0), (14, 4), (15, 3), (15, 4), (900, 4), (2000, 40)] {
+        assert_eq!(make_in_dirt(&sheet, work, answer, &mut random), Err(Refusal::TwoSided), "{work} {answer}");
     }
+    let above_64 = [0x18008008, 0x30000007, 0x30000008];
+    assert_eq!(make_in_dirt(&above_64, 0, 0, &mut random), Err(Refusal::TooManyBudgets));
 }
 
 #[test]
@@ -148,11 +158,8 @@ fn no_layout() {
     let no_slot = [0x10008008, UNBOUNDED, 0x40004001];
     let bound_0 = [0x10008008, 0x20000001, 0x30000000, 0x40004001];
     for sheet in [&no_slot[..], &bound_0] {
-        for side in [0, 1 << 27] {
-            let sheet = [&[sheet[0] | side], &sheet[1..]].concat();
-            let made = make_in_dirt(&sheet, 100, 10, &mut Random::new(9));
-            assert_eq!(made, Err(Refusal::NoLayout), "{sheet:x?}");
-        }
+        let made = make_in_dirt(sheet, 100, 10, &mut Random::new(9));
+        assert_eq!(made, Err(Refusal::NoLayout), "{sheet:x?}");
     }
 }
 
@@ -179,10 +186,11 @@ fn bad_layout() {
 
 #[test]
 fn numbers_and_words() {
-    for (index, refusal) in Refusal::ALL.into_iter().enumerate() {
-        assert_eq!(usize::from(refusal.number()), index + 1);
-        assert_eq!(Refusal::from_number(index as u32 + 1), Some(refusal));
+    let numbers = Refusal::ALL.map(Refusal::number);
+    assert_eq!(numbers, [1, 2, 3, 4, 5, 6, 7, 8, 9, 10, 11, 12, 13, 18]);
+    for refusal in Refusal::ALL {
+        assert_eq!(Refusal::from_number(refusal.number().into()), Some(refusal));
         assert!(!refusal.to_string().is_empty());
     }
-    assert_eq!(Refusal::from_number(13), None);
+    assert_eq!([0, 14, 17, 19].map(Refusal::from_number), [None; 4]);
 }

@@ -143,9 +143,8 @@ impl<'a> Program<'a> {
         }
     }
 
-    /// The variable that says that a label is open at a slot; two-sided backbones are open from the start.
+    /// The variable that says that a label is open at a slot.
     fn open(&self, rank: usize, slot: usize) -> String {
-        let rank = if self.sheet.two_sided { 0 } else { rank };
         format!("open_{rank}_{slot}")
     }
 
@@ -173,13 +172,9 @@ impl<'a> Program<'a> {
             for (rank, site) in self.order.iter().enumerate() {
                 let drop = sites[*site].y.abs_diff(self.sheet.slots[slot]);
                 let _ = write!(terms, " + {} tie_{site}_{slot}", length * drop);
-                if self.sheet.two_sided && rank > 0 {
-                    continue;
-                }
                 let next = self.order.get(rank + 1).map_or(self.sheet.width, |next| sites[*next].x);
-                let reach = if self.sheet.two_sided { self.sheet.width } else { next - sites[*site].x };
-                let last = self.sheet.two_sided || rank + 1 == sites.len();
-                let weight = length * reach + if last { label } else { 0 };
+                let reach = next - sites[*site].x;
+                let weight = length * reach + if rank + 1 == sites.len() { label } else { 0 };
                 let _ = writeln!(terms, " + {weight} {}", self.open(rank, slot));
             }
         }
@@ -194,7 +189,7 @@ impl<'a> Program<'a> {
             for slot in 0..self.sheet.slots.len() {
                 let open = self.open(rank, slot);
                 let _ = writeln!(self.text, " {open} - tie_{site}_{slot} >= 0");
-                if !self.sheet.two_sided && rank > 0 {
+                if rank > 0 {
                     let _ = writeln!(self.text, " {open} - {} >= 0", self.open(rank - 1, slot));
                 }
             }

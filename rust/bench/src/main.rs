@@ -2,7 +2,7 @@
 //! program. Writes Markdown to standard output.
 //!
 //! Answers are compared as they come: where two differ, the run ends with an error. Sections are left out by naming
-//! those that are wanted: maker, growth, program, judge.
+//! those that are wanted: maker, growth, program, judge, twin.
 
 mod integer_program;
 mod machine;
@@ -14,8 +14,8 @@ mod word_loops;
 use integer_program::{Outcome, Solver};
 use model::program::WORK_WORDS;
 use model::sheet::Sheet;
-use model::{maker, rules, search};
-use sheets::Named;
+use model::{maker, rules, search, twin};
+use sheets::{Named, NamedStored};
 use std::hint::black_box;
 use std::time::Duration;
 use timing::{race, show, timed};
@@ -141,6 +141,23 @@ fn print_judges(named: &[Named]) {
     }
 }
 
+fn print_twins() {
+    println!("\n## The twin\n");
+    println!("| stored sheet | n | m | words | library | safe Rust | library / Rust |");
+    println!("|---|---|---|---|---|---|---|");
+    for NamedStored { name, sheet, words } in sheets::two_sided() {
+        let (mut area, mut plain_area) = (vec![1; words.len()], vec![1; words.len()]);
+        let [library, plain] =
+            race([&mut || assert_eq!(backbone::twin(black_box(&words), &mut area), Ok(words.len())), &mut || {
+                assert_eq!(twin::twin(black_box(&words), &mut plain_area), (0, words.len()))
+            }]);
+        assert_eq!(area, plain_area, "the library and plain Rust differ: {name}");
+        let (sites, slots, words) = (sheet.sites.len(), sheet.slots.len(), words.len());
+        let times = format!("{} | {} | {}", show(library), show(plain), ratio(library, plain));
+        println!("| {name} | {sites} | {slots} | {words} | {times} |");
+    }
+}
+
 /// The program's work area is the limit here, so these are the longest that a user of the program waits.
 fn print_program() {
     println!("\n## The program's largest sheets\n");
@@ -165,7 +182,7 @@ fn main() {
     println!("The integer programs give the cost alone, not the first of the equals; their times have the solver's start in them.\n");
     let asked: Vec<String> = std::env::args().skip(1).collect();
     let is_asked = |section: &str| asked.is_empty() || asked.iter().any(|name| name == section);
-    let named = sheets::dozen();
+    let named = sheets::by_size();
     if is_asked("maker") {
         print_makers(&named, &Solver::installed());
     }
@@ -177,5 +194,8 @@ fn main() {
     }
     if is_asked("judge") {
         print_judges(&named);
+    }
+    if is_asked("twin") {
+        print_twins();
     }
 }

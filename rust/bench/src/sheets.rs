@@ -1,7 +1,8 @@
 //! The sheets that are timed.
 
 use model::random::banded_sheet;
-use model::sheet::{read, Sheet};
+use model::rules::{layout_words, split};
+use model::sheet::{read, Sheet, Site};
 
 pub struct Named {
     pub name: String,
@@ -12,13 +13,12 @@ const FREE: u32 = 255;
 
 fn example(name: &str, text: &str) -> Named {
     let words = sheet::encode(text).expect("an example is a sheet's text");
-    Named { name: name.to_string(), sheet: read(&words).expect("an example is a sheet") }
+    let sheet = read(&words).or_else(|_| split(&words).map(|(sheet, ..)| sheet));
+    Named { name: name.to_string(), sheet: sheet.expect("an example is a sheet or a stored one") }
 }
 
 fn banded(name: &str, sites: u32, slots: u32, bounds: &[u32]) -> Named {
-    let two_sided = name.starts_with("two-sided");
-    let sheet = banded_sheet(two_sided, slots, sites, bounds, u64::from(sites));
-    Named { name: name.to_string(), sheet }
+    Named { name: name.to_string(), sheet: banded_sheet(slots, sites, bounds, u64::from(sites)) }
 }
 
 fn fewest(mut named: Named) -> Named {
@@ -26,22 +26,20 @@ fn fewest(mut named: Named) -> Named {
     named
 }
 
-/// From 3 to 32 sites, the largest sheets of both sides last.
-pub fn dozen() -> Vec<Named> {
+/// From 3 to 32 sites, the largest sheet last.
+pub fn by_size() -> Vec<Named> {
     vec![
         example("A, fewest", include_str!("../../../examples/a.txt")),
         example("shared bound", include_str!("../../../examples/shared_bound.txt")),
         fewest(banded("fewest", 5, 6, &[FREE, FREE])),
         banded("shortest", 6, 8, &[2, FREE, FREE]),
-        banded("two-sided", 7, 8, &[FREE, FREE]),
         example("eight sites", include_str!("eight_sites.txt")),
         fewest(banded("fewest", 10, 12, &[3, 1, FREE])),
-        example("gearbox, two-sided", include_str!("../../../examples/gearbox.txt")),
+        example("gearbox, shortest", include_str!("../../../examples/gearbox_twin.txt")),
         banded("shortest", 16, 24, &[7, FREE, FREE, FREE]),
         example("tractor, fewest", include_str!("../../../examples/tractor.txt")),
         banded("shortest", 24, 32, &[3, 3, FREE, FREE, FREE, FREE]),
-        banded("two-sided, largest", 32, 48, &[1, 1, 1, 1, 1, 1, FREE, FREE]),
-        banded("one-sided, largest", 32, 48, &[1, 1, 1, 1, 1, 1, FREE, FREE]),
+        banded("largest", 32, 48, &[1, 1, 1, 1, 1, 1, FREE, FREE]),
     ]
 }
 
@@ -63,18 +61,61 @@ pub fn growing() -> Vec<Named> {
 /// Sheets that need nearly all of the program's 16,384 work words, none more, each with much of another number.
 pub fn largest_of_program() -> Vec<Named> {
     vec![
-        banded("one-sided, most slots", 1, 43, &[FREE]),
-        banded("one-sided, most sites", 32, 9, &[FREE]),
-        banded("one-sided, sites and slots", 15, 14, &[FREE]),
-        banded("one-sided, colours", 15, 6, &[FREE, FREE, FREE]),
-        banded("one-sided, most colours", 3, 6, &[FREE; 7]),
-        banded("one-sided, bound", 31, 6, &[1]),
-        banded("one-sided, budgets", 7, 6, &[7]),
-        banded("one-sided, most budgets", 3, 2, &[63]),
-        banded("two-sided, colours", 32, 48, &[3, 2, 2, FREE, FREE, FREE, FREE, FREE]),
-        banded("two-sided, budgets", 32, 48, &[3, 3, 3, FREE]),
-        banded("two-sided, colours and budgets", 32, 26, &[1, 1, 1, 1, 1, 1, FREE, FREE]),
+        banded("most slots", 1, 43, &[FREE]),
+        banded("most sites", 32, 9, &[FREE]),
+        banded("sites and slots", 15, 14, &[FREE]),
+        banded("colours", 15, 6, &[FREE, FREE, FREE]),
+        banded("most colours", 3, 6, &[FREE; 7]),
+        banded("bound", 31, 6, &[1]),
+        banded("budgets", 7, 6, &[7]),
+        banded("most budgets", 3, 2, &[63]),
     ]
+}
+
+/// A stored sheet.
+pub struct NamedStored {
+    pub name: &'static str,
+    pub sheet: Sheet,
+    pub words: Vec<u32>,
+}
+
+/// Lawful two-sided sheets with their layouts, the largest last.
+pub fn two_sided() -> Vec<NamedStored> {
+    let example = |name: &'static str, text: &str| {
+        let words = sheet::encode(text).expect("an example is a stored sheet's text");
+        let (sheet, ..) = split(&words).expect("an example is a stored sheet");
+        NamedStored { name, sheet, words }
+    };
+    vec![
+        example("A, two-sided", include_str!("../../../examples/a_two_sided.txt")),
+        example("gearbox, two-sided", include_str!("../../../examples/gearbox.txt")),
+        wide_bars(),
+    ]
+}
+
+/// 32 sites beside 32 of 48 slots, each within the gap of its own and of no other: the layout is lawful.
+pub fn wide_bars() -> NamedStored {
+    const APART: u32 = 10;
+    let colours = [1, 1, 1, 1, 1, 1, FREE, FREE];
+    let slots: Vec<u32> = (0..48).map(|slot| APART * slot + 5).collect();
+    // One label for each bounded colour, the rest by turns for the others.
+    let colour = |site: usize| if site < 6 { site } else { 6 + site % 2 };
+    let site = |site: usize| Site { x: 18 * site as u32, y: slots[site] + site as u32 % 3, colour: colour(site) };
+    let mut sites: Vec<(usize, Site)> = (0..32).map(|slot| (slot, site(slot))).collect();
+    sites.sort_by_key(|(_, site)| site.colour);
+    let slot_of: Vec<usize> = sites.iter().map(|(slot, _)| *slot).collect();
+    let sites = sites.into_iter().map(|(_, site)| site).collect();
+    let (bounds, width) = (colours.to_vec(), 600);
+    let sheet = Sheet { two_sided: true, shortest: true, gap: 3, width, slots, bounds, sites };
+    let words = [sheet.words(), layout_words(&sheet, &slot_of)].concat();
+    NamedStored { name: "most sites, slots and colours", sheet, words }
+}
+
+#[test]
+fn two_sided_sheets_have_lawful_layouts() {
+    for NamedStored { name, words, .. } in two_sided() {
+        assert_eq!(model::rules::judge(&words), (0, 0), "{name}");
+    }
 }
 
 #[test]

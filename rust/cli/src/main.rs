@@ -11,6 +11,7 @@ mod input;
 mod maker;
 mod output;
 mod progress;
+mod refused;
 mod shard;
 mod shrink;
 mod streams;

@@ -57,6 +57,8 @@ mod tests {
         for index in 0..4_000 {
             let sheet = if index % 4 == 0 { medium_sheet(&mut random) } else { small_sheet(&mut random) };
             assert_eq!(maker.lay_out(&sheet), Ok(backbone::lay_out(&sheet.words())), "{sheet:?}");
+            let sheet = sheet.one_sided();
+            assert_eq!(maker.lay_out(&sheet), Ok(backbone::lay_out(&sheet.words())), "{sheet:?}");
             reduced_sheets += u32::from(reduced(&sheet) != sheet);
         }
         assert!(reduced_sheets > 1_000, "{reduced_sheets}");

@@ -40,6 +40,54 @@ fn findings_of_lawful_layouts_and_of_claims() {
     ]);
 }
 
+/// Sheet A two-sided has 2 labels and length 25 with slots 0, 0, 2; whether that is best is not said.
+#[test]
+fn findings_of_two_sided_sheets() {
+    let two_sided = |text: String| text.replace("one-sided", "two-sided");
+    let meaning =
+        "the sheet is two-sided, and such sheets are no longer laid out: word 0 is 0x18008008, a two-sided head";
+    hold(&[
+        (
+            two_sided(stored_a(2, 25, [0, 0, 2])),
+            0,
+            "lawful: two-sided sheets are no longer laid out, so that it is best is not said",
+        ),
+        (
+            two_sided(stored_a(2, 25, [0, 0, 1])),
+            1,
+            "unlawful: rule 4: the vertical of site 1 meets the backbone at slot 1, at x 6; \
+             two-sided sheets are no longer laid out",
+        ),
+        (
+            two_sided(stored_a(2, 19, [0, 0, 2])),
+            1,
+            "unlawful: rule 6: the layout states 2 labels and length 19, but has 2 labels and length 25; \
+             two-sided sheets are no longer laid out",
+        ),
+        (two_sided(format!("{SHEET_A}refused 10\n")), 1, &format!("refused 18: {meaning}")),
+        (two_sided(format!("{SHEET_A}refused 10\n").replace("gap 2", "gap 4")), 1, &format!("refused 18: {}", meaning.replace("18008008", "18010008"))),
+        (
+            two_sided(SHEET_A.to_string()),
+            1,
+            "refused 11: there is no layout, or it is not one tie to a slot for each site: there is no word of a layout",
+        ),
+    ]);
+    let strict = run(["check", "--strict", "-"], two_sided(stored_a(2, 25, [0, 0, 2])).as_bytes());
+    assert_eq!(strict.code, Some(0), "a lawful layout is no finding");
+}
+
+/// What an engine would say of a two-sided sheet is not asked: the file would be there if it were.
+#[test]
+fn engines_are_not_asked_about_two_sided_sheets() {
+    let folder = Folder::new("not-asked");
+    let (sheet, marker) = (stored_a(2, 25, [0, 0, 2]).replace("one-sided", "two-sided"), folder.path("asked"));
+    let engine = format!("touch '{marker}'; echo refused 10");
+    let run = run(["check", "--engine", &engine, "-"], sheet.as_bytes());
+    assert_eq!(run.code, Some(1));
+    assert!(run.text().starts_with("standard input: refused 18: the sheet is two-sided"), "{}", run.text());
+    assert!(!std::path::Path::new(&marker).exists());
+}
+
 /// Each rule and refusal that sheet A can show.
 #[test]
 fn findings_of_unlawful_layouts_and_of_refusals() {
@@ -176,6 +224,9 @@ fn wanted(record: &Record) -> Wanted {
         Ok(sheet) => sheet,
     };
     let best = search::find(&sheet);
+    if record.claims_no_layout && sheet.two_sided {
+        return ("refused", 18, (0, 0));
+    }
     if record.claims_no_layout {
         return (if best.is_some() { "false no layout" } else { "true no layout" }, 0, (0, 0));
     }
@@ -186,6 +237,7 @@ fn wanted(record: &Record) -> Wanted {
     let ties = Ties::new(&sheet, &slot_of);
     match (ties.broken(), best) {
         (0, _) if ties.numbers() != stated => ("unlawful", 6, (0, 0)),
+        (0, _) if sheet.two_sided => ("lawful", 0, (0, 0)),
         (0, Some(best)) if best.slot_of == slot_of => ("best", 0, (0, 0)),
         (0, Some(best)) => {
             let least = Ties::new(&sheet, &best.slot_of).numbers();
@@ -232,10 +284,16 @@ fn findings_are_those_of_a_plain_search() {
         assert_eq!(found(json), (name.to_string(), number, more), "{record:x?} {json:?}");
         *met.entry((name, number)).or_default() += 1;
     }
-    for (name, count) in
-        [("best", 300), ("equal", 30), ("not best", 300), ("false no layout", 100), ("true no layout", 100)]
-    {
-        assert!(met.get(&(name, 0)).is_some_and(|times| *times >= count), "{name}: {met:?}");
+    for (name, number, count) in [
+        ("best", 0, 150),
+        ("equal", 0, 15),
+        ("lawful", 0, 300),
+        ("not best", 0, 150),
+        ("false no layout", 0, 50),
+        ("true no layout", 0, 50),
+        ("refused", 18, 100),
+    ] {
+        assert!(met.get(&(name, number)).is_some_and(|times| *times >= count), "{name}: {met:?}");
     }
     for rule in 1..=6 {
         assert!(met.get(&("unlawful", rule)).is_some_and(|times| *times >= 5), "rule {rule}: {met:?}");
@@ -357,6 +415,7 @@ fn junit_has_a_case_for_each_sheet() {
     let counts = counts_of(json.member("sheets").and_then(Json::items).unwrap());
     let count = |names: &[&str]| names.iter().map(|name| counts.get(*name).copied().unwrap_or(0)).sum::<u64>();
     let failures = count(&["not best", "unlawful", "false no layout", "refused"]);
+    assert!(count(&["lawful"]) > 10, "two-sided sheets pass: {counts:?}");
     let tags = tags(&in_format("junit"));
     let of_name = |name: &str| tags.iter().filter(|(tag, _)| tag == name).count() as u64;
     assert_eq!((of_name("testcase"), of_name("failure"), of_name("error")), (203, failures, 1));
@@ -384,9 +443,10 @@ fn files_are_told_in_the_order_of_the_command_line() {
     assert!(findings[2].contains("a.bin: not best"), "{findings:?}");
     assert_eq!(run.code, Some(1));
     let table: Vec<(String, u64)> = run.text().lines().skip(4).map(row_of_table).collect();
-    let wanted =
-        [("best", 1), ("equal", 0), ("not best", 1), ("unlawful", 0), ("false no layout", 1), ("true no layout", 0)];
-    let wanted = wanted.into_iter().chain([("no answer", 0), ("refused", 0), ("unreadable", 0), ("all", 3)]);
+    let lawful = [("best", 1), ("equal", 0), ("lawful", 0), ("not best", 1)];
+    let claims = [("unlawful", 0), ("false no layout", 1), ("true no layout", 0)];
+    let others = [("no answer", 0), ("refused", 0), ("unreadable", 0), ("all", 3)];
+    let wanted = lawful.into_iter().chain(claims).chain(others);
     assert_eq!(table, wanted.map(|(name, count)| (name.to_string(), count)).collect::<Vec<_>>());
 }
 

@@ -110,7 +110,7 @@ fn a_claim_that_there_is_no_layout_is_told() {
 #[test]
 fn rounding_says_what_it_cannot_do() {
     let (code, said) = failure(&["--rounded", &example("a_two_sided.txt")]);
-    assert!(code == 1 && said.contains("one-sided sheets alone"), "{said}");
+    assert!(code == 2 && said.contains("take the layout out of the file"), "{said}");
     let (code, said) = failure(&["--rounded", &example("no_layout.txt")]);
     assert!(code == 1 && said.contains("no layout (refused 10)"), "{said}");
     let (code, said) = failure(&["--rounded", &example("crossing.txt")]);
@@ -120,6 +120,26 @@ fn rounding_says_what_it_cannot_do() {
     // Bounds are served.
     let drawn = picture(&["--rounded", "--step", "0.1pt", &example("shared_bound.txt")]);
     assert!(drawn.contains("rounded to 0.1 pt at each cut"), "{drawn}");
+}
+
+/// With its layout a two-sided sheet is drawn as it is; without one there is none to draw.
+#[test]
+fn two_sided_sheets_are_drawn_with_their_layout() {
+    let folder = Folder::new("two-sided");
+    let stored = std::fs::read_to_string(example("a_two_sided.txt")).unwrap();
+    let drawn = picture(&[&example("a_two_sided.txt")]);
+    assert!(drawn.contains("two-sided") && drawn.matches("class=\"backbone\"").count() == 2, "{drawn}");
+    assert_eq!(drawn, std::fs::read_to_string(example("a_two_sided.svg")).unwrap());
+    let sheet = &stored[..stored.find("layout labels").unwrap()];
+    for text in [sheet.to_string(), format!("{sheet}refused 10\n")] {
+        let alone = folder.file("alone.txt", &text);
+        for arguments in
+            [&[&alone[..]][..], &["--rounded", &alone], &[&alone, "--compare", &example("a_two_sided.txt")]]
+        {
+            let (code, said) = failure(arguments);
+            assert!(code == 1 && said.contains("refused 18: ") && said.contains("`backbone twin`"), "{said}");
+        }
+    }
 }
 
 #[test]

@@ -39,6 +39,9 @@ fn wrong_use_is_2() {
         &["convert", "--to", "pdf", "-"],
         &["convert", "--to", "text"],
         &["convert", "--to=text", "--to=text", "-"],
+        &["twin"],
+        &["twin", "a", "b"],
+        &["twin", "--to", "pdf", "-"],
         &["draw"],
         &["draw", "-o"],
         &["draw", "--rounded=yes", "-"],
@@ -78,7 +81,7 @@ fn texts_with_errors_are_3_with_line_and_column() {
         (b"<svg xmlns=\"http://www.w3.org/2000/svg\"/>", "line 1, column 1"),
     ];
     for (input, message) in cases {
-        for arguments in [&["lay-out", "-"][..], &["draw", "-"], &["convert", "--to", "json", "-"]] {
+        for arguments in [&["lay-out", "-"][..], &["draw", "-"], &["twin", "-"], &["convert", "--to", "json", "-"]] {
             let run = run(arguments, input);
             assert_unreadable(&run, message);
             assert!(run.err.contains("standard input: ") && run.out.is_empty(), "{run:?}");
@@ -108,7 +111,7 @@ fn files_that_cannot_be_read_are_3() {
         cases.push((closed, "Permission denied"));
     }
     for (file, message) in cases {
-        for arguments in [&["lay-out"][..], &["draw"], &["convert", "--to", "text"]] {
+        for arguments in [&["lay-out"][..], &["draw"], &["twin"], &["convert", "--to", "text"]] {
             let run = run(arguments.iter().copied().chain([&file[..]]), b"");
             assert_unreadable(&run, message);
             assert!(run.err.contains(&file), "{run:?}");

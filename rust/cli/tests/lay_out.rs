@@ -25,11 +25,8 @@ fn sheet_a_in_every_form() {
 /// Document 01's drawn examples: changes to sheet A, and what the program prints first.
 #[test]
 fn drawn_examples() {
-    let cases = [
-        ("fewest", "shortest", "labels 3 length 18", [0, 1, 2]),
-        ("one-sided", "two-sided", "labels 2 length 25", [0, 0, 2]),
-        ("gap 2", "gap 3", "labels 2 length 19", [2, 2, 0]),
-    ];
+    let cases =
+        [("fewest", "shortest", "labels 3 length 18", [0, 1, 2]), ("gap 2", "gap 3", "labels 2 length 19", [2, 2, 0])];
     for (old, new, first, [a, b, c]) in cases {
         let run = run(["lay-out", "-"], SHEET_A.replace(old, new).as_bytes());
         let lines = format!("{first}\nsite 0 colour 0 slot {a}\nsite 1 colour 0 slot {b}\nsite 2 colour 1 slot {c}\n");
@@ -87,6 +84,7 @@ fn refusals_have_number_meaning_and_cause() {
         (format!("{head}colour unbounded\nsite 2 4\nsite 2 5\n"), 6, "sites 0 and 1 both have x 2"),
         (format!("{head}colour bound 7\ncolour bound 8\n"), 7, "the bounds 7 of colour 0, 8 of colour 1 give 72"),
         (format!("{head}colour unbounded\nsite 2 4\n"), 10, "no layout obeys rules 1 to 5"),
+        (SHEET_A.replace("one-sided", "two-sided"), 18, "word 0 is 0x18008008, a two-sided head"),
     ];
     for (text, number, cause) in cases {
         let plain = run(["lay-out", "-"], text.as_bytes());
@@ -94,6 +92,20 @@ fn refusals_have_number_meaning_and_cause() {
         assert!(plain.err.contains(cause), "{cause}: {}", plain.err);
         let json = sheet::json::Json::parse(&run(["lay-out", "--format=json", "-"], text.as_bytes()).text()).unwrap();
         assert_eq!(json.member("refused").and_then(|refused| refused.whole()), Some(number));
+    }
+}
+
+/// Stored or not, whether it has a layout or not; and what can be done is said.
+#[test]
+fn two_sided_sheets_are_no_longer_laid_out() {
+    for sheet in [SHEET_A.to_string(), stored_a(2, 25, [0, 0, 2]), SHEET_A.replace("gap 2", "gap 4")] {
+        let run = run(["lay-out", "-"], sheet.replace("one-sided", "two-sided").as_bytes());
+        assert_eq!((run.code, &run.text()[..]), (Some(1), "refused 18\n"));
+        assert!(
+            run.err.contains("refused 18: the sheet is two-sided") && run.err.contains("`backbone twin`"),
+            "{}",
+            run.err
+        );
     }
 }
 

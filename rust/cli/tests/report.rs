@@ -33,6 +33,21 @@ fn the_page_has_every_sheet_and_every_fault() {
     assert!(html.contains("1 label more, 1 unit (0.125 points, 0.044 mm) shorter"), "{html}");
 }
 
+/// A two-sided layout has no best one beside it: what is unlawful is drawn alone, what is lawful not at all.
+#[test]
+fn two_sided_layouts_are_shown_alone() {
+    let folder = Folder::new("two-sided");
+    let two_sided = |text: String| text.replace("one-sided", "two-sided");
+    let lawful = folder.file("lawful.txt", two_sided(stored_a(2, 25, [0, 0, 2])));
+    let unlawful = folder.file("unlawful.txt", two_sided(stored_a(2, 25, [0, 0, 1])));
+    let report = folder.path("report");
+    assert_eq!(run(["check", "--report", &report, &lawful, &unlawful], b"").code, Some(1));
+    let html = std::fs::read_to_string(report + "/index.html").unwrap();
+    assert!(html.contains("<td>lawful</td>") && html.contains("so that it is best is not said"), "{html}");
+    assert_eq!(html.matches("<svg ").count(), 1, "{html}");
+    assert!(html.contains("engine: labels 2 length 25") && !html.contains("best: no layout"), "{html}");
+}
+
 #[test]
 fn the_page_loads_nothing() {
     let folder = Folder::new("alone");

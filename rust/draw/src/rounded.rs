@@ -12,7 +12,6 @@ const MOST_WORDS: usize = 60_000_000;
 #[derive(Clone, Debug, PartialEq, Eq)]
 pub enum CannotRound {
     Refused(Refusal),
-    TwoSided,
     NoLayout,
     TooLarge { words: usize },
     NothingRounded,
@@ -22,10 +21,6 @@ impl fmt::Display for CannotRound {
     fn fmt(&self, out: &mut fmt::Formatter) -> fmt::Result {
         match self {
             CannotRound::Refused(refusal) => write!(out, "refused {}: {refusal}", refusal.number()),
-            CannotRound::TwoSided => out.write_str(
-                "a two-sided sheet is not laid out by cuts, so there is nothing to round at them: \
-                 rounded lengths are drawn for one-sided sheets alone",
-            ),
             CannotRound::NoLayout => {
                 out.write_str("the sheet has no layout (refused 10), with exact lengths or with rounded ones")
             }
@@ -53,11 +48,11 @@ pub fn rounded(
     if rounding == Rounding::None {
         return Err(CannotRound::NothingRounded);
     }
-    if sheet.side == backbone::Side::One && words > MOST_WORDS {
+    if words > MOST_WORDS {
         return Err(CannotRound::TooLarge { words });
     }
     let (taken, lengths) = rival(sheet, best, rounding).map_err(|unserved| match unserved {
-        Unserved::TwoSided => CannotRound::TwoSided,
+        Unserved::TwoSided => CannotRound::Refused(Refusal::TwoSided),
         Unserved::NoLayout => CannotRound::NoLayout,
     })?;
     let titles = titles(best, &taken, rounding, lengths);

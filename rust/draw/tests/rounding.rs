@@ -33,9 +33,10 @@ fn both_layouts_are_drawn() {
 fn what_cannot_be_drawn_is_said() {
     let small = "slot 2\nslot 5\nslot 8\ncolour unbounded\nsite 2 4\nsite 6 6\ncolour unbounded\nsite 4 5\n";
     let sheet = |head: &str| format!("{head}\n{small}");
-    let two_sided = drawn(&sheet("head two-sided fewest gap 2 width 8"), Rounding::TenthMillimetre);
-    assert_eq!(two_sided, Err(CannotRound::TwoSided));
-    assert!(CannotRound::TwoSided.to_string().contains("one-sided sheets alone"));
+    let two_sided = Sheet::from_words(&sheet::encode(&sheet("head two-sided fewest gap 2 width 8")).unwrap()).unwrap();
+    let layout = backbone::Layout { labels: 2, length: 25, slots: vec![0, 0, 2] };
+    let two_sided = rounded(&two_sided, Some(&layout), Rounding::TenthMillimetre, &Options::default());
+    assert_eq!(two_sided, Err(CannotRound::Refused(Refusal::TwoSided)));
     let none = drawn(&sheet("head one-sided fewest gap 4 width 8"), Rounding::TenthMillimetre);
     assert_eq!(none, Err(CannotRound::NoLayout));
     assert!(CannotRound::NoLayout.to_string().contains("refused 10"));

@@ -13,8 +13,6 @@ pub struct Budgets {
     pub count: usize,
     /// What opening a label of a colour takes from a budget: the place value of its digit, 0 if unbounded.
     pub draw: [usize; MOST_COLOURS],
-    /// For each colour, the run of budgets in which its digit takes each value once; all budgets if unbounded.
-    pub block: [usize; MOST_COLOURS],
     /// For each colour, the budgets that allow one more label of it, one bit each.
     pub allowing: [u64; MOST_COLOURS],
     /// For each budget, where its shares begin.
@@ -24,12 +22,12 @@ pub struct Budgets {
 }
 
 impl Budgets {
-    pub fn of(sheet: &Sheet) -> Budgets {
+    /// The budgets, without a list of their shares.
+    fn unshared(sheet: &Sheet) -> Budgets {
         let count = sheet.budgets() as usize;
         let mut budgets = Budgets {
             count,
             draw: [0; MOST_COLOURS],
-            block: [count; MOST_COLOURS],
             allowing: [0; MOST_COLOURS],
             starts: [0; MOST + 1],
             shares: Vec::new(),
@@ -42,16 +40,12 @@ impl Budgets {
             budgets.allowing[colour] = mask.sum();
             budgets.draw[colour] = if *bound == UNBOUNDED { 0 } else { place };
             place *= radix;
-            if *bound != UNBOUNDED {
-                budgets.block[colour] = place;
-            }
         }
         budgets
     }
 
-    /// The budgets with their shares listed.
-    pub fn with_shares(sheet: &Sheet) -> Budgets {
-        let mut budgets = Budgets::of(sheet);
+    pub fn of(sheet: &Sheet) -> Budgets {
+        let mut budgets = Budgets::unshared(sheet);
         let radix = |bound: &u32| if *bound == UNBOUNDED { 1 } else { *bound + 1 };
         let radices: Vec<u32> = sheet.bounds.iter().map(radix).collect();
         let fits = |part: usize, whole: usize| {
@@ -70,7 +64,7 @@ impl Budgets {
         budgets
     }
 
-    /// The ways to share a budget among two; none are listed without [`Budgets::with_shares`].
+    /// The ways to share a budget among two.
     #[inline]
     pub fn shares(&self, budget: usize) -> &[(u8, u8)] {
         &self.shares[self.starts[budget] as usize..self.starts[budget + 1] as usize]

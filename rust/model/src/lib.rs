@@ -6,7 +6,8 @@
 //! - [`rules`]: the rules of a lawful layout, and the judge;
 //! - [`search`]: the best layout by trying every layout;
 //! - [`ranked`]: the best and the second best, by a search that leaves a branch early;
-//! - [`maker`]: the best layout by a table and a walk, in the caller's areas;
+//! - [`maker`]: the best layout of a one-sided sheet by a table and a walk, in the caller's areas;
+//! - [`twin`]: the one-sided twin of a stored sheet;
 //! - [`program`]: what the program prints;
 //! - [`random`]: random sheets, and damage to them;
 //! - [`nested`]: random sheets that are aimed at a depth;
@@ -27,4 +28,4 @@ pub mod rounding;
 pub mod rules;
 pub mod search;
 pub mod sheet;
-mod two_sided;
+pub mod twin;

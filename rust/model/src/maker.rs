@@ -1,7 +1,7 @@
-//! The layout maker in the caller's areas, with its refusals 1 to 10.
+//! The layout maker in the caller's areas, with its refusals 1 to 7, 18 and 8 to 10, in this order.
 
+use crate::one_sided;
 use crate::sheet::{read, Sheet, UNBOUNDED};
-use crate::{one_sided, two_sided};
 
 /// The number of the refusal, or 0 with the layout in the first answer words.
 pub fn make(words: &[u32], work: &mut [u32], answer: &mut [u32]) -> u32 {
@@ -22,6 +22,9 @@ pub fn keep_binding_bounds(sheet: &mut Sheet) {
 }
 
 fn make_sheet(mut sheet: Sheet, work: &mut [u32], answer: &mut [u32]) -> u32 {
+    if sheet.two_sided {
+        return 18;
+    }
     let (needed, sites) = (sheet.work_words() as usize, sheet.sites.len());
     if work.len() < needed {
         return 8;
@@ -32,8 +35,7 @@ fn make_sheet(mut sheet: Sheet, work: &mut [u32], answer: &mut [u32]) -> u32 {
     let work = &mut work[..needed];
     keep_binding_bounds(&mut sheet);
     let order = sheet.by_x();
-    let best = if sheet.two_sided { two_sided::best } else { one_sided::best };
-    let made = best(&sheet, &order, work);
+    let made = one_sided::best(&sheet, &order, work);
     work.fill(0);
     let Some((stated, slots)) = made else {
         return 10;

@@ -59,7 +59,7 @@ pub fn best(sheet: &Sheet, order: &[usize], work: &mut [u32]) -> Option<(u32, [u
 
 impl<'a> Maker<'a> {
     fn new(sheet: &'a Sheet, order: &[usize]) -> Maker<'a> {
-        let budgets = Budgets::with_shares(sheet);
+        let budgets = Budgets::of(sheet);
         let (bottom, colours) = (sheet.slots.len() + 1, sheet.bounds.len() + 1);
         let heights = heights(sheet);
         let gap = sheet.gap as i32;

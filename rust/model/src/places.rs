@@ -6,7 +6,7 @@ use crate::sheet::{Sheet, MOST_SLOTS};
 pub const PLACES: usize = MOST_SLOTS + 2;
 
 /// Further than any height and gap reach: edges are clear of everything.
-pub const FAR: i32 = 1 << 20;
+const FAR: i32 = 1 << 20;
 
 /// The heights of the places.
 pub fn heights(sheet: &Sheet) -> [i32; PLACES] {

@@ -157,8 +157,8 @@ pub fn medium_sheet(random: &mut Random) -> Sheet {
     sheet_of(shape, random)
 }
 
-/// A shortest sheet of any size that has a layout: each colour lies in a band of heights, and slots are 10 apart.
-pub fn banded_sheet(two_sided: bool, slots: u32, sites: u32, bounds: &[u32], seed: u64) -> Sheet {
+/// A one-sided, shortest sheet of any size that has a layout: each colour lies in a band of heights, and slots are 10 apart.
+pub fn banded_sheet(slots: u32, sites: u32, bounds: &[u32], seed: u64) -> Sheet {
     const WIDTH: u32 = 600;
     let mut random = Random::new(seed);
     let colours = bounds.len() as u32;
@@ -172,7 +172,7 @@ pub fn banded_sheet(two_sided: bool, slots: u32, sites: u32, bounds: &[u32], see
     let mut sites: Vec<Site> = columns.iter().enumerate().map(site).collect();
     sites.sort_by_key(|site| site.colour);
     let slots = (0..slots).map(|slot| 10 * slot + 5).collect();
-    Sheet { two_sided, shortest: true, gap: 3, width: WIDTH, slots, bounds: bounds.to_vec(), sites }
+    Sheet { two_sided: false, shortest: true, gap: 3, width: WIDTH, slots, bounds: bounds.to_vec(), sites }
 }
 
 /// A word of one of the kinds, mostly of the right form and mostly with edges of the ranges.

@@ -122,7 +122,7 @@ impl<'a> Rival<'a> {
         Ok(Rival {
             sheet,
             rounding,
-            budgets: Budgets::with_shares(sheet),
+            budgets: Budgets::of(sheet),
             order: sheet.by_x(),
             heights: heights(sheet),
             known: HashMap::new(),

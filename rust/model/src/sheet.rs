@@ -71,6 +71,11 @@ impl Sheet {
         }
     }
 
+    /// The same sheet with the one-sided head.
+    pub fn one_sided(&self) -> Sheet {
+        Sheet { two_sided: false, ..self.clone() }
+    }
+
     /// The numbers of the sites by rising x.
     pub fn by_x(&self) -> Vec<usize> {
         let mut order: Vec<usize> = (0..self.sites.len()).collect();

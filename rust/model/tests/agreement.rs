@@ -6,6 +6,7 @@ use model::rules::judge;
 use model::search;
 use model::sheet::{read, Sheet, Site};
 
+/// What the table makes of a one-sided sheet.
 fn made(sheet: &Sheet) -> Option<Vec<u32>> {
     let mut work = vec![0xDEAD_BEEF; sheet.work_words() as usize];
     let mut answer = vec![0xDEAD_BEEF; sheet.sites.len() + 1];
@@ -33,7 +34,7 @@ fn words_read_back_as_the_sheet() {
 fn table_and_search_agree_on_small_sheets() {
     let mut random = Random::new(2);
     for _ in 0..20_000 {
-        let sheet = small_sheet(&mut random);
+        let sheet = small_sheet(&mut random).one_sided();
         let made = made(&sheet);
         assert_eq!(made, search::best(&sheet), "{sheet:?}");
         if let Some(answer) = made {
@@ -46,7 +47,7 @@ fn table_and_search_agree_on_small_sheets() {
 fn table_gives_lawful_layouts_on_medium_sheets() {
     let mut random = Random::new(3);
     for _ in 0..2_000 {
-        let sheet = medium_sheet(&mut random);
+        let sheet = medium_sheet(&mut random).one_sided();
         if let Some(answer) = made(&sheet) {
             assert_eq!(judge(&[sheet.words(), answer].concat()), (0, 0), "{sheet:?}");
         }

@@ -19,16 +19,11 @@ fn numbers(sheet: &Sheet, slot_of: &[usize]) -> (u32, u32) {
     Ties::new(sheet, slot_of).numbers()
 }
 
-fn one_sided(mut sheet: Sheet) -> Sheet {
-    sheet.two_sided = false;
-    sheet
-}
-
-/// Small and medium sheets, bounded and not, with both aims.
+/// Small and medium one-sided sheets, bounded and not, with both aims.
 fn sheets(count: usize, seed: u64) -> impl Iterator<Item = Sheet> {
     let mut random = Random::new(seed);
-    (0..count)
-        .map(move |index| one_sided(if index % 3 == 0 { medium_sheet(&mut random) } else { small_sheet(&mut random) }))
+    let draw = |index, random: &mut Random| if index % 3 == 0 { medium_sheet(random) } else { small_sheet(random) };
+    (0..count).map(move |index| draw(index, &mut random).one_sided())
 }
 
 #[test]

@@ -3,6 +3,7 @@
 #[path = "../../backbone/tests/common/mod.rs"]
 mod common;
 
+use common::vectors::cases;
 use common::SHEET_A;
 use model::program::{prints, MOST_BYTES};
 use model::random::{any_list, damage, small_sheet, Random};
@@ -16,6 +17,9 @@ const STARTED: usize = 50;
 /// The inputs are shared out among threads, each with its own seed: more than processors, so that none is idle
 /// while a thread waits for its program.
 const SEEDS: [u64; 4] = [41, 42, 43, 44];
+
+/// Refusals to 18, and 0 for a layout.
+const ANSWERS: usize = 19;
 
 fn bytes(words: &[u32]) -> Vec<u8> {
     words.iter().flat_map(|word| word.to_le_bytes()).collect()
@@ -48,10 +52,10 @@ fn any_input(random: &mut Random) -> Vec<u8> {
 }
 
 /// Runs the program on some inputs beside the plain one, and counts refusals and, at 0, layouts.
-fn compare(server: &Path, runner: &Runner, inputs: usize, seed: u64) -> [usize; 13] {
+fn compare(server: &Path, runner: &Runner, inputs: usize, seed: u64) -> [usize; ANSWERS] {
     let mut server = ForkServer::start(server).expect("the fork server starts");
     let mut random = Random::new(seed);
-    let mut met = [0; 13];
+    let mut met = [0; ANSWERS];
     for number in 0..inputs {
         let input = any_input(&mut random);
         let expected = prints(&input);
@@ -74,8 +78,8 @@ fn random_bytes() {
     let share = INPUTS.div_ceil(SEEDS.len());
     let met = with_runners(SEEDS.len(), |index, runner| compare(&server, runner, share, SEEDS[index]));
     let times = |refusal: usize| met.iter().map(|met| met[refusal]).sum::<usize>();
-    // All answers but 9, which 33 answer words shut out, and 11, which is the judge's.
-    let rare = (0..13).filter(|refusal| ![9, 11].contains(refusal) && times(*refusal) < INPUTS / 1000);
+    // All answers but 9, which 33 answer words shut out, and those of other operations.
+    let rare = (0..=12).chain([18]).filter(|refusal| ![9, 11].contains(refusal) && times(*refusal) < INPUTS / 1000);
     assert_eq!(rare.count(), 0, "{met:?}");
 }
 
@@ -84,6 +88,19 @@ fn sheet_a_is_printed_as_drawn() {
     with_runner(|runner| {
         let drawn = "labels 2 length 19\nsite 0 colour 0 slot 0\nsite 1 colour 0 slot 0\nsite 2 colour 1 slot 2\n";
         assert_eq!(runner.run(&bytes(&SHEET_A)).as_deref(), Ok(drawn));
+    });
+}
+
+/// The lines of the program in vectors.txt, where / stands for a line feed and the last one is left out.
+#[test]
+fn vectors_are_printed() {
+    with_runner(|runner| {
+        let lines: Vec<_> = cases().into_iter().filter(|case| case.operation == "program").collect();
+        for case in &lines {
+            let expected = case.answer.replace('/', "\n") + "\n";
+            assert_eq!(runner.run(&bytes(&case.words)).as_deref(), Ok(&expected[..]), "line {}", case.line);
+        }
+        assert!(lines.len() > 100, "{}", lines.len());
     });
 }
 
@@ -97,6 +114,19 @@ fn inputs_that_are_no_list_of_words() {
         assert_eq!(runner.run(&head_and(1)).as_deref(), Ok("refused 12\n"));
         assert_eq!(runner.run(&head_and(1020)).as_deref(), Ok("refused 2\n"));
         assert_eq!(runner.run(&[]).as_deref(), Ok("refused 1\n"));
+    });
+}
+
+/// Refused with 18, also where the work words of the one-sided sheet would not suffice.
+#[test]
+fn two_sided_sheets() {
+    with_runner(|runner| {
+        let two_sided = |sheet: &[u32]| [&[sheet[0] | 1 << 27], &sheet[1..]].concat();
+        assert_eq!(runner.run(&bytes(&two_sided(&SHEET_A))).as_deref(), Ok("refused 18\n"));
+        let slots: Vec<u32> = (0..48).map(|height| 2 << 28 | height).collect();
+        let large = [&[0x10004001], &slots[..], &[0x3000003F]].concat();
+        assert_eq!(runner.run(&bytes(&large)).as_deref(), Ok("refused 8\n"));
+        assert_eq!(runner.run(&bytes(&two_sided(&large))).as_deref(), Ok("refused 18\n"));
     });
 }
 

@@ -1,8 +1,11 @@
-//! Calls of the library in dirty areas, with every word of both areas looked at afterwards.
+//! Calls of the library in dirty areas, with every word of the areas looked at afterwards.
 #![allow(dead_code)]
 
-use backbone::{make, read, Refusal};
+pub mod vectors;
+
+use backbone::{make, read, twin, Refusal};
 use model::random::Random;
+use model::sheet::sizes;
 
 /// Sheet A of the format's drawn examples.
 pub const SHEET_A: [u32; 9] =
@@ -33,10 +36,11 @@ pub fn make_in_dirt(
     let (old_work, old_answer) = (dirt(work_words, random), dirt(answer_words, random));
     let (mut work, mut answer) = (old_work.clone(), old_answer.clone());
     let made = make(sheet, &mut work, &mut answer);
-    let (zeroed, written) = match (made, read(sheet)) {
-        (Ok(()), Ok(sizes)) => (sizes.work_words, sizes.answer_words()),
-        (Err(Refusal::NoLayout), Ok(sizes)) => (sizes.work_words, 0),
-        _ => (0, 0),
+    let (needed, layout) = (sizes(sheet).work as usize, usize::from(sizes(sheet).sites) + 1);
+    let (zeroed, written) = match made {
+        Ok(()) => (needed, layout),
+        Err(Refusal::NoLayout) => (needed, 0),
+        Err(_) => (0, 0),
     };
     assert!(work[..zeroed].iter().all(|word| *word == 0), "work words not zero: {sheet:x?}");
     assert_eq!(work[zeroed..], old_work[zeroed..], "work words past the needed: {sheet:x?}");
@@ -44,7 +48,18 @@ pub fn make_in_dirt(
     made.map(|()| answer[..written].to_vec())
 }
 
-/// As the library's result: the layout, or the number of the refusal.
+/// Writes the twin in a dirty area of this length; panics if a word of the area is not as the contract says.
+pub fn twin_in_dirt(stored: &[u32], words: usize, random: &mut Random) -> Result<Vec<u32>, Refusal> {
+    let old = dirt(words, random);
+    let mut area = old.clone();
+    let made = twin(stored, &mut area);
+    let written = made.unwrap_or(0);
+    assert_eq!(made.is_ok(), written == stored.len() && written > 0, "words written: {stored:x?}");
+    assert_eq!(area[written..], old[written..], "words past the twin: {stored:x?}");
+    made.map(|_| area[..written].to_vec())
+}
+
+/// As the library's result: the words, or the number of the refusal.
 pub fn numbered(made: Result<Vec<u32>, Refusal>) -> Result<Vec<u32>, u8> {
     made.map_err(Refusal::number)
 }

@@ -1,12 +1,16 @@
 //! The loops over words against the library and against the judge that decodes.
 
 use super::judge;
+use crate::sheets::wide_bars;
 use backbone::Rule;
 use model::random::{banded_sheet, damage, hold_judge, medium_sheet, Random};
+use model::ranked::rank;
 use model::sheet::Sheet;
 use model::{maker, rules};
 
 const LAWFUL_SHEETS: usize = 2_000;
+/// Of the search for the best layout of a two-sided sheet.
+const MOST_STEPS: u64 = 20_000;
 
 fn library_verdict(stored: &[u32]) -> (u8, u8) {
     match backbone::judge(stored) {
@@ -29,8 +33,12 @@ fn judged_alike(stored: &[u32]) -> (u8, u8) {
     verdict
 }
 
-/// The sheet with its best layout, if it has one.
+/// The sheet with its best layout, if it has one; none where it is two-sided and a search takes long.
 fn stored_with_best(sheet: &Sheet) -> Option<Vec<u32>> {
+    if sheet.two_sided {
+        let found = rank(sheet, MOST_STEPS).flatten()?;
+        return Some([sheet.words(), rules::layout_words(sheet, &found.slot_of)].concat());
+    }
     let mut work = vec![0; sheet.work_words() as usize];
     let mut answer = vec![0; sheet.sites.len() + 1];
     let refusal = maker::make(&sheet.words(), &mut work, &mut answer);
@@ -45,26 +53,26 @@ fn invented_and_damaged_layouts() {
 #[test]
 fn lawful_layouts_and_damage_to_them() {
     let mut random = Random::new(72);
-    let mut lawful = 0;
-    while lawful < LAWFUL_SHEETS {
-        let Some(mut stored) = stored_with_best(&medium_sheet(&mut random)) else {
+    let mut lawful = [0; 2];
+    while lawful.iter().sum::<usize>() < LAWFUL_SHEETS {
+        let sheet = medium_sheet(&mut random);
+        let Some(mut stored) = stored_with_best(&sheet) else {
             continue;
         };
         assert_eq!(judged_alike(&stored), (0, 0));
-        lawful += 1;
+        lawful[usize::from(sheet.two_sided)] += 1;
         for _ in 0..4 {
             damage(&mut stored, &mut random);
             judged_alike(&stored);
         }
     }
+    assert!(lawful.iter().all(|count| *count > LAWFUL_SHEETS / 5), "one-sided, two-sided: {lawful:?}");
 }
 
 #[test]
 fn largest_sheets_and_each_word_twice() {
-    let two_sided = banded_sheet(true, 48, 32, &[1, 1, 1, 1, 1, 1, 255, 255], 32);
-    let one_sided = banded_sheet(false, 24, 32, &[3, 255, 255], 32);
-    for sheet in [two_sided, one_sided] {
-        let stored = stored_with_best(&sheet).expect("a banded sheet has a layout");
+    let one_sided = stored_with_best(&banded_sheet(24, 32, &[3, 255, 255], 32)).expect("a banded sheet has a layout");
+    for stored in [wide_bars().words, one_sided] {
         assert_eq!(judged_alike(&stored), (0, 0));
         for place in 0..stored.len() {
             let mut longer = stored.clone();

@@ -33,6 +33,6 @@ fn answer() -> Result<String, String> {
     match lay_out(&sheet, rounding) {
         Ok(slot_of) => Ok(sheet::show_record(&Record::of_words([words, layout_words(&sheet, &slot_of)].concat()))),
         Err(Unserved::NoLayout) => Ok("refused 10\n".to_string()),
-        Err(Unserved::TwoSided) => Err("two-sided sheets are not laid out by cuts".to_string()),
+        Err(Unserved::TwoSided) => Err("the sheet is refused 18".to_string()),
     }
 }

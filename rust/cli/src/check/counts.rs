@@ -38,7 +38,7 @@ impl Tally {
 #[derive(Clone, Debug, Default, PartialEq, Eq)]
 pub struct Counts {
     whole: Tally,
-    /// By the depth of the best layout, if that is asked for; none is a sheet without one, or a two-sided one.
+    /// By the depth of the best layout, if that is asked for; none is a sheet without one.
     by_depth: Option<BTreeMap<Option<u32>, Tally>>,
 }
 

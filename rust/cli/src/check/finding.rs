@@ -4,7 +4,8 @@ use crate::engine::Engine;
 use crate::exit::Failure;
 use crate::input::Source;
 use backbone::{
-    causes, faults, judge, read, split_stored, Cause, Fault, Layout, NotLaidOut, Refusal, Rule, Sheet, WorkArea,
+    causes, faults, judge, read, split_stored, Cause, Fault, Layout, NotLaidOut, Refusal, Rule, Sheet, Side, Word,
+    WorkArea,
 };
 use sheet::Record;
 use std::fmt;
@@ -16,6 +17,8 @@ pub enum Finding {
     Best,
     /// Lawful, with the count and length of the best, but not the first in the order; where it first differs.
     Equal { site: usize, slot: u8, first: u8 },
+    /// Lawful, on a two-sided sheet: none is laid out any more, so that it is best is not said.
+    Lawful,
     /// Lawful, and worse than the best.
     NotBest(Difference),
     /// It breaks a rule, at these places.
@@ -74,11 +77,12 @@ impl fmt::Display for Difference {
 }
 
 impl Finding {
-    /// The name, one of nine.
+    /// The name, one of ten.
     pub fn name(&self) -> &'static str {
         match self {
             Finding::Best => "best",
             Finding::Equal { .. } => "equal",
+            Finding::Lawful => "lawful",
             Finding::NotBest(_) => "not best",
             Finding::Unlawful { .. } => "unlawful",
             Finding::FalseNoLayout => "false no layout",
@@ -90,9 +94,10 @@ impl Finding {
     }
 
     /// All names, in the order of the table.
-    pub const NAMES: [&'static str; 9] = [
+    pub const NAMES: [&'static str; 10] = [
         "best",
         "equal",
+        "lawful",
         "not best",
         "unlawful",
         "false no layout",
@@ -103,7 +108,7 @@ impl Finding {
     ];
 
     /// The names of findings with which the engine that wrote the sheet is at fault. An equal is not one: it has the
-    /// best count and length.
+    /// best count and length. Nor is a lawful layout of a two-sided sheet: it has no best one beside it.
     pub const FAULTS: [&'static str; 5] = ["not best", "unlawful", "false no layout", "no answer", "refused"];
 
     /// Whether the engine that wrote the sheet is at fault.
@@ -135,9 +140,9 @@ pub struct Checked {
     pub record: Record,
     /// The layout that it has.
     pub given: Option<Layout>,
-    /// The best layout of its sheet; none where there is none, and where the sheet is refused.
+    /// The best layout of its sheet; none where there is none, and where the sheet is refused or two-sided.
     pub best: Option<Layout>,
-    /// How many cuts are nested in the best layout; none where there is none, and on a two-sided sheet.
+    /// How many cuts are nested in the best layout; none where that is none.
     pub depth: Option<u32>,
     pub finding: Finding,
 }
@@ -145,12 +150,17 @@ pub struct Checked {
 impl Checked {
     /// The finding in words, with all that is known of it.
     pub fn text(&self) -> String {
-        let best = self.best.as_ref().map_or("the sheet has no layout".to_string(), |best| format!("best: {best}"));
+        let best = match &self.best {
+            Some(best) => format!("best: {best}"),
+            None if self.is_two_sided() => NOT_LAID_OUT.to_string(),
+            None => "the sheet has no layout".to_string(),
+        };
         match &self.finding {
             Finding::Best | Finding::TrueNoLayout => String::new(),
             Finding::Equal { site, slot, first } => {
                 format!("site {site} has slot {slot}, in the first of the equals slot {first}")
             }
+            Finding::Lawful => format!("{NOT_LAID_OUT}, so that it is best is not said"),
             Finding::NotBest(difference) => format!("{difference}; {best}"),
             Finding::Unlawful { rule, faults } => format!("rule {}: {}; {best}", rule.number(), listed(faults)),
             Finding::FalseNoLayout => best,
@@ -162,6 +172,10 @@ impl Checked {
                 failure.strip_prefix(&source).unwrap_or(&failure).to_string()
             }
         }
+    }
+
+    fn is_two_sided(&self) -> bool {
+        is_two_sided(&self.record.words)
     }
 
     /// The sites that the finding is about. Where a fault names slots alone, these are the sites tied to them.
@@ -190,6 +204,13 @@ impl Checked {
             finding => finding.name().to_string(),
         }
     }
+}
+
+/// Why there is no best layout beside a two-sided one.
+const NOT_LAID_OUT: &str = "two-sided sheets are no longer laid out";
+
+fn is_two_sided(words: &[u32]) -> bool {
+    matches!(words.first().and_then(|head| Word::decode(*head)), Some(Word::Head { side: Side::Two, .. }))
 }
 
 /// The first few of a list, and how many more there are.
@@ -223,11 +244,16 @@ impl<'a> Checker<'a> {
         }
     }
 
-    /// What an engine says of a record's sheet, checked. A sheet that the reader refuses is not asked about.
+    /// What an engine says of a record's sheet, checked. A sheet that is refused before it is laid out is not asked about:
+    /// by the reader, or since it is two-sided.
     pub fn answer(&mut self, source: Source, record: Record, engine: &Engine) -> Checked {
         let sheet = Record { words: split_stored(&record.words).0.to_vec(), claims_no_layout: false, ..record };
         if read(&sheet.words).is_err() {
             return self.record(source, sheet);
+        }
+        if is_two_sided(&sheet.words) {
+            let finding = refused(&sheet.words, Refusal::TwoSided);
+            return Checked { source, record: sheet, given: None, best: None, depth: None, finding };
         }
         match engine.answer(&sheet) {
             Err(failure) => unreadable(source, sheet, failure),
@@ -247,6 +273,7 @@ impl<'a> Checker<'a> {
         let (sheet_words, layout_words) = split_stored(&record.words);
         let given = Layout::from_words(layout_words);
         let (best, finding) = match self.area.lay_out(sheet_words) {
+            Err(NotLaidOut::Refused(Refusal::TwoSided)) => (None, two_sided(&record, given.as_ref())),
             Err(NotLaidOut::Refused(refusal)) if refusal != Refusal::NoLayout => (None, refused(sheet_words, refusal)),
             Err(stopped @ NotLaidOut::NoMemory { .. }) => {
                 (None, Finding::Unreadable(Failure::about(&source, &stopped)))
@@ -266,9 +293,9 @@ fn unreadable(source: Source, record: Record, failure: Failure) -> Checked {
     Checked { source, record, given: None, best: None, depth: None, finding: Finding::Unreadable(failure) }
 }
 
-/// The depth of a one-sided sheet's layout.
+/// The depth of a layout.
 fn depth_of(words: &[u32], layout: &Layout) -> Option<u32> {
-    let sheet = model::sheet::read(words).ok().filter(|sheet| !sheet.two_sided)?;
+    let sheet = model::sheet::read(words).ok()?;
     let slot_of: Vec<usize> = layout.slots.iter().map(|slot| usize::from(*slot)).collect();
     Some(model::depth::depth(&sheet, &slot_of))
 }
@@ -277,7 +304,19 @@ fn refused(words: &[u32], refusal: Refusal) -> Finding {
     Finding::Refused { refusal, causes: causes(words, refusal) }
 }
 
-/// What is found of an accepted sheet whose best layout is known, none where there is none.
+/// What is found of an accepted two-sided sheet: its layout is judged, and compared with no other.
+fn two_sided(record: &Record, given: Option<&Layout>) -> Finding {
+    if record.claims_no_layout {
+        return refused(&record.words, Refusal::TwoSided);
+    }
+    match (judge(&record.words), given) {
+        (Err(refusal), _) => refused(&record.words, refusal),
+        (Ok(Some(rule)), Some(given)) => unlawful(&record.words, given, rule),
+        (Ok(_), _) => Finding::Lawful,
+    }
+}
+
+/// What is found of an accepted one-sided sheet whose best layout is known, none where there is none.
 fn finding(source: &Source, record: &Record, given: Option<&Layout>, best: Option<&Layout>) -> Finding {
     if record.claims_no_layout {
         return if best.is_some() { Finding::FalseNoLayout } else { Finding::TrueNoLayout };

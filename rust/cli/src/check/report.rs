@@ -102,7 +102,8 @@ fn numbers(checked: &Checked) -> [String; 7] {
     [labels, length, best_labels, best_length, more_labels, more_units, more_mm]
 }
 
-/// The engine's layout beside the best one; none where the sheet is refused, or where there is nothing to see.
+/// The engine's layout beside the best one, on a two-sided sheet alone; none where the sheet is refused, or where there is
+/// nothing to see.
 fn picture(checked: &Checked) -> Option<String> {
     if !checked.finding.is_fault() || matches!(checked.finding, Finding::Refused { .. }) {
         return None;
@@ -115,5 +116,9 @@ fn picture(checked: &Checked) -> Option<String> {
         Side { title: &titles[1], layout: checked.best.as_ref() },
     ];
     let options = Options { names: checked.record.names.clone(), ..Options::default() };
+    if sheet.side == backbone::Side::Two {
+        let [title, _] = titles;
+        return draw::picture(&sheet, checked.given.as_ref(), &Options { title: Some(title), ..options }).ok();
+    }
     draw::compare(&sheet, sides, &options).ok()
 }

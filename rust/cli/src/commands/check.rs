@@ -21,11 +21,13 @@ folders in it, every file is taken whose name ends in .txt, .words, .bin or .jso
 
     best             the layout is the answer
     equal            lawful, with the best count and length, but not the first in the order of equals
+    lawful           lawful; two-sided sheets are no longer laid out, so that it is best is not said
     not best         lawful; by how many labels and how much length it is worse
     unlawful         it breaks a rule; at which sites and slots
     false no layout  'refused 10', and there is a layout
     true no layout   'refused 10', and there is none
-    refused N        it is no stored sheet; which words, slots or sites it comes from
+    refused N        it is no stored sheet; which words, slots or sites it comes from; or, with 18, it is a two-sided
+                     sheet with 'refused 10', or one that an engine was to lay out
     no answer        with --engine: the engine wrote something else, or nothing
     unreadable       the file can't be read, or there is no memory to lay it out
 
@@ -60,7 +62,7 @@ file is taken; `backbone merge` makes one report of the shares' tsv reports.",
         Setting { name: "--jobs", value: "N", about: "threads, each with a work area of its own; 1 where not given" },
     ],
     exits: &[
-        (Exit::Done, "every sheet is best, equal (unless --strict) or truly without a layout"),
+        (Exit::Done, "every sheet is best, equal (unless --strict), lawful and two-sided, or truly without a layout"),
         (Exit::Found, "findings: some sheet is not best, unlawful, refused, unanswered, or falsely said to have no layout"),
     ],
     run,

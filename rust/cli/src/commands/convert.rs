@@ -46,7 +46,8 @@ stands in the layout's place. A list of words that is not in a stored sheet's or
     run,
 };
 
-const FORMS: [(&str, Form); 4] =
+/// The forms by their names.
+pub const FORMS: [(&str, Form); 4] =
     [("text", Form::Text), ("words", Form::Words), ("bin", Form::Binary), ("json", Form::Json)];
 
 fn run(arguments: &Arguments, output: &mut Output) -> Result<Exit, Failure> {

@@ -4,6 +4,7 @@ use crate::arguments::{Arguments, Setting};
 use crate::exit::{Exit, Failure};
 use crate::input::Source;
 use crate::output::{message, write_file, Output};
+use crate::refused::advice;
 use crate::subcommand::Subcommand;
 use backbone::{Layout, NotLaidOut, Refusal, Sheet};
 use draw::{sheet_and_layout, Background, Options, Side};
@@ -19,6 +20,7 @@ pub const SUBCOMMAND: Subcommand = Subcommand {
     about: "a sheet and its layout as an SVG picture",
     text:
         "Draws a stored sheet as it is, with the broken rule if there is one, and a sheet alone with its best layout. \
+           A two-sided sheet is drawn with a layout that is stored; alone it is refused with 18. \
            The picture is true to scale: its size is in millimetres, and it says how many times as large as on paper \
            the sheet is drawn.",
     settings: &[
@@ -153,7 +155,8 @@ fn compare(one: &Drawn, other: &Drawn, options: &Options) -> Result<String, NoPi
 }
 
 fn refused(source: &dyn Display, refusal: Refusal) -> NoPicture {
-    NoPicture::Found(format!("{source}: refused {}: {refusal}", refusal.number()))
+    let advice = advice(refusal).map_or_else(String::new, |advice| format!("; {advice}"));
+    NoPicture::Found(format!("{source}: refused {}: {refusal}{advice}", refusal.number()))
 }
 
 impl Drawn {

@@ -3,10 +3,10 @@
 use crate::arguments::{Arguments, Setting};
 use crate::exit::{Exit, Failure};
 use crate::input::Source;
-use crate::output::{message, Output};
+use crate::output::Output;
+use crate::refused::tell;
 use crate::subcommand::Subcommand;
-use backbone::{causes, split_stored, Cause, Layout, NotLaidOut, Refusal, Sheet, WorkArea};
-use sheet::json::quote;
+use backbone::{split_stored, Layout, NotLaidOut, Refusal, Sheet, WorkArea};
 use sheet::{Form, Record};
 
 pub const SUBCOMMAND: Subcommand = Subcommand {
@@ -24,7 +24,7 @@ number of labels and the length, then each site's number, colour and slot:
     site 2 colour 1 slot 2
 
 A sheet that is refused gives the line 'refused N' on standard output and its meaning, with the words, slots or sites
-that it comes from, on standard error. The work area is as large as the sheet needs: at most 428 million words.",
+that it comes from, on standard error. Two-sided sheets are refused with 18: they are no longer laid out. The work area is as large as the sheet needs: at most 428 million words.",
     settings: &[Setting {
         name: "--format",
         value: "FORM",
@@ -59,7 +59,9 @@ fn run(arguments: &Arguments, output: &mut Output) -> Result<Exit, Failure> {
             output.bytes(&laid_out(&record, &layout, answer).map_err(|refusal| Failure::about(&source, &refusal))?)?;
             Ok(Exit::Done)
         }
-        Err(NotLaidOut::Refused(refusal)) => refused(&source, &causes(sheet, refusal), refusal, answer, output),
+        Err(NotLaidOut::Refused(refusal)) => {
+            tell(&source, sheet, refusal, answer == Answer::Stored(Form::Json), output)
+        }
         Err(stopped) => Err(Failure::about(&source, &stopped)),
     }
 }
@@ -84,27 +86,4 @@ fn lines(sheet: &Sheet, layout: &Layout) -> String {
         text.push_str(&format!("site {number} colour {} slot {slot}\n", site.colour));
     }
     text
-}
-
-fn refused(
-    source: &Source,
-    causes: &[Cause],
-    refusal: Refusal,
-    answer: Answer,
-    output: &mut Output,
-) -> Result<Exit, Failure> {
-    let number = refusal.number();
-    if answer == Answer::Stored(Form::Json) {
-        let causes: Vec<String> = causes.iter().map(|cause| quote(&cause.to_string())).collect();
-        let (meaning, causes) = (quote(&refusal.to_string()), causes.join(", "));
-        output.text(&format!("{{\"refused\": {number}, \"meaning\": {meaning}, \"causes\": [{causes}]}}\n"))?;
-    } else {
-        output.text(&format!("refused {number}\n"))?;
-    }
-    message(&format!("{source}: refused {number}: {refusal}"));
-    causes.iter().for_each(|cause| message(&format!("{source}: {cause}")));
-    if refusal == Refusal::NoLayout {
-        message("`backbone why` says for which sites there is none, and what would help");
-    }
-    Ok(Exit::Found)
 }

@@ -7,4 +7,5 @@ pub mod draw;
 pub mod lay_out;
 pub mod merge;
 pub mod shrink;
+pub mod twin;
 pub mod why;

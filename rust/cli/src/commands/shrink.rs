@@ -27,7 +27,7 @@ finding of it, and `backbone draw` shows it.
 
 COMMAND is run by the shell for each sheet. It reads the sheet on its standard input and writes on its standard output a
 stored sheet, the layout alone, or the line 'refused 10'; any form is read. For an engine that may hang, COMMAND can begin
-with `timeout 10`.",
+with `timeout 10`. An engine is not asked about a two-sided sheet, which is refused with 18.",
     settings: &[
         Setting { name: "--with", value: "COMMAND", about: "the engine" },
         engine::FORM,
@@ -50,14 +50,15 @@ fn run(arguments: &Arguments, output: &mut Output) -> Result<Exit, Failure> {
     message(&format!("{}: {}", first.source, told(&first)));
     let words = split_stored(&first.record.words).0;
     match model::sheet::read(words) {
-        Ok(sheet) if first.finding.is_fault() => {
+        Ok(sheet) if first.finding.is_fault() && !sheet.two_sided => {
             let found = asked.shrunk(sheet, kind(&first.finding))?;
             message(&format!("{} sheets were tried; of the smallest: {}", asked.sheets, told(&found)));
             write(arguments, output, &found)?;
             Ok(Exit::Found)
         }
-        Ok(_) => Ok(Exit::Done),
-        Err(_) => Ok(Exit::Found),
+        Ok(sheet) if !sheet.two_sided => Ok(Exit::Done),
+        // Refused, and the engine was not asked.
+        _ => Ok(Exit::Found),
     }
 }
 

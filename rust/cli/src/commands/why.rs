@@ -5,6 +5,7 @@ use crate::exit::{Exit, Failure};
 use crate::input::Source;
 use crate::maker::Maker;
 use crate::output::{write_file, Output};
+use crate::refused::advice;
 use crate::subcommand::Subcommand;
 use crate::why::remedies::{Heights, Raised, Remedies};
 use crate::why::{is_smallest, smallest_set};
@@ -22,7 +23,8 @@ For a sheet without a layout (refusal 10): a smallest set of sites for which the
 one of them gives a layout; and what would help: the largest gap that has a layout, bounds that are raised, heights at
 which one more slot gives a layout. Each claim is a call of the proved maker, not a guess.
 
-For the other refusals of a sheet: the words, slots, colours or sites that they come from. The layout of a stored sheet is
+For the other refusals of a sheet, that of a two-sided sheet (18) among them: the words, slots, colours or sites that they
+come from. The layout of a stored sheet is
 left aside; `backbone check` judges it.",
     settings: &[Setting { name: "-o", value: "OUT.svg", about: "draw the sheet with the set of sites marked" }],
     exits: &[(Exit::Done, "the sheet has a layout"), (Exit::Found, "the sheet is refused")],
@@ -43,7 +45,7 @@ fn run(arguments: &Arguments, output: &mut Output) -> Result<Exit, Failure> {
             output.text(&format!("the sheet has a layout: {layout}\n"))?;
             Ok(Exit::Done)
         }
-        Err(_) => {
+        Err(Refusal::NoLayout) => {
             let found = Explanation::of(&sheet, &mut maker)?;
             output.text(&found.text(&sheet, &record.names))?;
             if let Some(path) = arguments.path("-o") {
@@ -51,14 +53,18 @@ fn run(arguments: &Arguments, output: &mut Output) -> Result<Exit, Failure> {
             }
             Ok(Exit::Found)
         }
+        Err(refusal) => refused(words, refusal, output),
     }
 }
 
-/// A refusal of the reader, with what it comes from.
+/// A refusal other than 10, with what it comes from and what can be done.
 fn refused(words: &[u32], refusal: Refusal, output: &mut Output) -> Result<Exit, Failure> {
     output.text(&format!("refused {}: {refusal}\n", refusal.number()))?;
     for cause in causes(words, refusal) {
         output.text(&format!("  {cause}\n"))?;
+    }
+    if let Some(advice) = advice(refusal) {
+        output.text(&format!("{advice}\n"))?;
     }
     Ok(Exit::Found)
 }

@@ -19,9 +19,9 @@ fn is_made(sheet: &Sheet) -> bool {
     model::maker::make(&sheet.words(), &mut work, &mut answer) == 0
 }
 
-/// So many sheets without a layout.
+/// So many one-sided sheets without a layout.
 fn without_layout(count: usize, mut draw: impl FnMut() -> Sheet) -> Vec<Sheet> {
-    std::iter::repeat_with(|| draw()).filter(|sheet| !is_made(sheet)).take(count).collect()
+    std::iter::repeat_with(|| draw().one_sided()).filter(|sheet| !is_made(sheet)).take(count).collect()
 }
 
 /// The set has no layout, and leaving out each site in turn gives one.

@@ -97,4 +97,7 @@ fn wrong_use_and_refused_sheets() {
     backbone(&["shrink", &folder.at("missing.txt"), "--with", "cat"]).ends(3);
     let run = backbone(&["shrink", &refused, "--with", "cat"]).ends(1);
     assert!(run.said.contains("refused 4") && run.out.is_empty(), "{}", run.said);
+    let two_sided = folder.write("two-sided.txt", "head two-sided fewest gap 2 width 8\nslot 2\n");
+    let run = backbone(&["shrink", &two_sided, "--with", "cat"]).ends(1);
+    assert!(run.said.contains("refused 18: the sheet is two-sided") && run.out.is_empty(), "{}", run.said);
 }

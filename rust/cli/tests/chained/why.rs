@@ -63,6 +63,8 @@ fn other_refusals_name_what_they_come_from() {
         ("head one-sided fewest gap 2 width 8\ncolour unbounded\nsite 9 1\n", "site 0 has x 9, and the width is 8"),
         ("head one-sided fewest gap 2 width 8\ncolour unbounded\nsite 3 1\nsite 3 2\n", "sites 0 and 1 both have x 3"),
         ("head one-sided fewest gap 2 width 8\ncolour bound 7\ncolour bound 8\n", "give 72, above 64"),
+        ("head two-sided fewest gap 2 width 8\nslot 5\n", "word 0 is 0x18008008, a two-sided head"),
+        ("head two-sided fewest gap 2 width 8\ncolour unbounded\nsite 3 1\n", "refused 18: the sheet is two-sided"),
     ] {
         let run = backbone(&["why", &folder.write("sheet.txt", text)]).ends(1);
         assert!(run.out.starts_with("refused ") && run.out.contains(wanted), "{text:?}: {}", run.out);

@@ -1,0 +1,29 @@
+//! The one-sided twin of a stored sheet: its sheet with a one-sided head, its ties, and the count and length that are
+//! then true. Both parts are written anew from what was read, so no word is taken over.
+
+use crate::rules::{judge, layout_words, split};
+
+/// The refusal, 0 if there is none, and how many words were written from the start of the area, 0 beside a refusal.
+///
+/// Refusals 1 to 7 and 11 are the judge's; 13 is a layout that breaks a rule, 9 an area shorter than the stored sheet.
+pub fn twin(stored: &[u32], area: &mut [u32]) -> (u8, usize) {
+    let words = match words(stored) {
+        Ok(words) => words,
+        Err(refusal) => return (refusal, 0),
+    };
+    let Some(first) = area.get_mut(..words.len()) else {
+        return (9, 0);
+    };
+    first.copy_from_slice(&words);
+    (0, words.len())
+}
+
+/// The words of the twin.
+pub fn words(stored: &[u32]) -> Result<Vec<u32>, u8> {
+    let (sheet, slot_of, _) = split(stored)?;
+    if judge(stored) != (0, 0) {
+        return Err(13);
+    }
+    let sheet = sheet.one_sided();
+    Ok([sheet.words(), layout_words(&sheet, &slot_of)].concat())
+}
