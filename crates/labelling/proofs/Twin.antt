@@ -9,11 +9,10 @@ use Prim.Native.Nat.{ℕ, _+_, _≤_, _<_}
 use native.Mathlib.Omega.{arith}
 use lib.ListN.{length, drop, length-append, length-drop}
 use lib.Seq.{drop-append-seam}
-use borrow.Author.Tests.{ltb-true}
-use Rattle.lists.proofs.Tests.{by-test, by-order, and-l}
+use Rattle.lists.proofs.Tests.{by-test, by-order}
 use Rattle.sheet.specs.Limits.{lengthTop, countTop}
 use Rattle.sheet.specs.Sheet.{kindOf, bits, Sheet, headIn, sheetIn, sheetFault}
-use Rattle.sheet.proofs.Accepted.{Sound, sound, unrefused}
+use Rattle.sheet.proofs.Accepted.{Sound, sound, some-words}
 use Rattle.labelling.specs.Layout.{Tied, siteAt, heightOf, leftEnd, siteShare, backbones, drops, lengthOf, usedOf, tied, firstNumber, secondNumber, best, firstWord, statedCount, statedLength, layoutTies, isLayout, sheetPart, layoutPart, judgeFault, judged}
 use Rattle.labelling.specs.Lawful.{Ties, Rules, CountsAgainst, Better, IsAnswer, Lawful}
 use Rattle.labelling.specs.Twin.{oneSided, twinHead, twinSheet, twinLayout, twinWords, TwinOf, TwinLawful, TwinOfTwin, NotWorse, BestNotWorse, TwinKept}
@@ -161,7 +160,7 @@ module _ (ss b : List ℕ) (h : sheetFault ss ≡ 0) (l : isLayout (sheetIn ss) 
   long-layout = omega (arith, length-drop 1 b, formed s b l .long)
 
   pub long-sheet : length (twinSheet ss) ≡ length ss
-  long-sheet = omega (arith, length-drop 1 ss, ltb-true 0 (length ss) (and-l _ _ (and-l _ _ (and-l _ _ (unrefused ss h .head)))))
+  long-sheet = omega (arith, length-drop 1 ss, some-words ss h)
 
   form-twin : isLayout (oneSided s) (twinLayout s b) ≡ true
   form-twin =
@@ -215,7 +214,7 @@ twin-same ws h v e =
     }
 
 -- what is one-sided comes back as it is
-same-words : (ws : List ℕ) → sheetIn (sheetPart ws) .isTwoSided ≡ false → twinWords ws ≡ ws
+pub same-words : (ws : List ℕ) → sheetIn (sheetPart ws) .isTwoSided ≡ false → twinWords ws ≡ ws
 same-words ws e = rw e refl
 
 twin-lawful : TwinLawful

@@ -211,6 +211,9 @@ parts-length z c (w ∷ ws) h = go (step z w ws h .1) (λ y d i. parts-length y 
     go (Step.site e q i) f =
         rw (ne-eqb (kindOf w) 2 (λ q. omega arith), ne-eqb (kindOf w) 3 (λ q. omega arith), eq-eqb (kindOf w) 4 e) (omega (arith, f 1 c i))
 
+pub some-words : (ss : List ℕ) → sheetFault ss ≡ 0 → 0 < length ss
+some-words ss ok = ltb-true 0 (length ss) (and-l _ _ (and-l _ _ (and-l _ _ (unrefused ss ok .head))))
+
 pub few-words : (ss : List ℕ) → sheetFault ss ≡ 0 → length ss ≤ mostWords
 few-words ss ok =
     let o = sound ss ok in

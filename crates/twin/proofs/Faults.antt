@@ -1,0 +1,74 @@
+-- The twin tool's refusals, one after the other, and what it gives with each and without. Assumes nothing.
+use mathlib.Core.Path.{_≡_, refl, sym, _∙_, ap}
+use mathlib.Core.Bool.{true, false, not, cond}
+use mathlib.Core.List.{List, _++_}
+use Prim.Native.Nat.{ℕ, _≤_, _<_}
+use native.Mathlib.Omega.{arith}
+use lib.Dec.{ltb, eqb}
+use lib.ListN.{length, drop}
+use borrow.Author.Tests.{eq-eqb, ne-eqb, lt-ltb, le-ltb}
+use Rattle.lists.proofs.Tests.{by-equal, by-order}
+use Rattle.labelling.specs.Layout.{judgeFault, judged}
+use Rattle.labelling.specs.Twin.{twinWords, twinFault, twinArea}
+use Rattle.judge.specs.declared.Verdict.{Verdict}
+use Rattle.judge.specs.Judge.{judgePost}
+use Rattle.twin.specs.declared.Written.{Written}
+use Rattle.twin.specs.Twin.{twinPost, faultIn}
+
+-- THE REFUSALS, by the judge's verdict
+module _ (ws : List ℕ) (room : ℕ) (v : Verdict) (e : v ≡ judgePost ws) where
+  refusal-is : v .refusal ≡ judgeFault ws
+  refusal-is = ap (λ (u : Verdict). u .refusal) e
+
+  rule-is : v .refusal ≡ 0 → v .rule ≡ judged ws
+  rule-is z = ap (λ (u : Verdict). u .rule) e ∙ rw (eq-eqb (judgeFault ws) 0 (sym refusal-is ∙ z)) refl
+
+  pub judge-refuses : (v .refusal ≡ 0 → ⊥) → v .refusal ≡ faultIn ws room
+  judge-refuses n = refusal-is ∙ rw (ne-eqb (judgeFault ws) 0 (λ q. n (refusal-is ∙ q))) refl
+
+  module _ (z : v .refusal ≡ 0) where
+    none : eqb (judgeFault ws) 0 ≡ true
+    none = eq-eqb (judgeFault ws) 0 (sym refusal-is ∙ z)
+
+    pub unlawful : (v .rule ≡ 0 → ⊥) → 13 ≡ faultIn ws room
+    unlawful n = rw (none, ne-eqb (judged ws) 0 (λ q. n (rule-is z ∙ q))) refl
+
+    module _ (k : v .rule ≡ 0) where
+      lawful : eqb (judged ws) 0 ≡ true
+      lawful = eq-eqb (judged ws) 0 (sym (rule-is z) ∙ k)
+
+      pub too-short : room < length ws → 9 ≡ faultIn ws room
+      too-short l = rw (none, lawful, lt-ltb room (length ws) l) refl
+
+      pub long-enough : length ws ≤ room → 0 ≡ faultIn ws room
+      long-enough l = rw (none, lawful, le-ltb room (length ws) l) refl
+
+-- nothing is refused: the judge refuses nothing and the area is long enough
+pub unrefused : (ws : List ℕ) (room : ℕ) → faultIn ws room ≡ 0 → (judgeFault ws ≡ 0) × (length ws ≤ room)
+unrefused ws room = go (judgeFault ws) (judged ws) (length ws)
+  where
+    go : (f k n : ℕ) → _≡_ {A = ℕ} (cond (not (eqb f 0)) f (cond (not (eqb k 0)) 13 (cond (ltb room n) 9 0))) 0 → (f ≡ 0) × (n ≤ room)
+    go f k n h =
+        by-equal f 0
+        (λ e. by-equal k 0
+        (λ q. by-order n room (λ l. (e, l)) (λ l. absurd (omega (arith, rw (eq-eqb f 0 e, eq-eqb k 0 q, lt-ltb room n l) at h))))
+        (λ q. absurd (omega (arith, rw (eq-eqb f 0 e, ne-eqb k 0 q) at h))))
+        (λ e. absurd (e (rw (ne-eqb f 0 e) at h)))
+
+-- WHAT IS GIVEN: with a refusal nothing is written
+module _ (ws o : List ℕ) (r : ℕ) (e : r ≡ faultIn ws (length o)) where
+  pub refused-post : (r ≡ 0 → ⊥) → (_≡_ {A = Written} (record { refusal = r; written = 0 }) (twinPost ws o)) × (o ≡ twinArea ws o)
+  refused-post n =
+      let f : eqb (twinFault ws o) 0 ≡ false = ne-eqb (twinFault ws o) 0 (λ q. n (e ∙ q)) in
+      (ap (λ (z : ℕ). given z 0) e ∙ rw f refl, rw f refl)
+    where
+      given : ℕ → ℕ → Written
+      given r w = record { refusal = r; written = w }
+
+  -- without one, the twin
+  pub written-post : (w : ℕ) (p : List ℕ) → r ≡ 0 → w ≡ length ws → p ≡ twinWords ws ++ drop (length ws) o →
+      (_≡_ {A = Written} (record { refusal = 0; written = w }) (twinPost ws o)) × (p ≡ twinArea ws o)
+  written-post w p z l q =
+      let f : twinFault ws o ≡ 0 = sym e ∙ z in
+      let t : eqb (twinFault ws o) 0 ≡ true = eq-eqb (twinFault ws o) 0 f in
+      (rw (t, f, l) refl, q ∙ rw t refl)
