@@ -15,7 +15,7 @@ use Rattle.sheet.specs.Sheet.{kindOf, bits, Sheet, headIn, sheetIn, sheetFault}
 use Rattle.sheet.proofs.Accepted.{Sound, sound, some-words}
 use Rattle.labelling.specs.Layout.{Tied, siteAt, heightOf, leftEnd, siteShare, backbones, drops, lengthOf, usedOf, tied, firstNumber, secondNumber, best, firstWord, statedCount, statedLength, layoutTies, isLayout, sheetPart, layoutPart, judgeFault, judged}
 use Rattle.labelling.specs.Lawful.{Ties, Rules, CountsAgainst, Better, IsAnswer, Lawful}
-use Rattle.labelling.specs.Twin.{oneSided, twinHead, twinSheet, twinLayout, twinWords, TwinOf, TwinLawful, TwinOfTwin, NotWorse, BestNotWorse, TwinKept}
+use Rattle.labelling.specs.Twin.{asOneSided, twinHead, twinSheet, twinLayout, twinWords, TwinOf, TwinLawful, TwinOfTwin, NotWorse, BestNotWorse, TwinKept}
 use Rattle.labelling.proofs.Answer.{answer-is, answer-none}
 use Rattle.labelling.proofs.Judge.{sheet-part, judged-so}
 use Rattle.labelling.proofs.Words.{formed, form, length-low, stated-count, stated-length}
@@ -37,7 +37,7 @@ head-width : (w : ℕ) → bits (twinHead w) 0 14 ≡ bits w 0 14
 head-width w = omega arith
 
 -- THE SHEET of the twin is one-sided, and refused where the sheet is
-pub sheet-twin : (ws : List ℕ) → sheetIn (twinSheet ws) ≡ oneSided (sheetIn ws)
+pub sheet-twin : (ws : List ℕ) → sheetIn (twinSheet ws) ≡ asOneSided (sheetIn ws)
 sheet-twin ws = let w : ℕ = headIn ws in rw (head-side w, head-aim w, head-gap w, head-width w) refl
 
 pub fault-twin : (ws : List ℕ) → sheetFault (twinSheet ws) ≡ sheetFault ws
@@ -47,11 +47,11 @@ fault-twin (w ∷ ws) = rw (head-kind w, head-gap w, head-width w) refl
 pub accepted-twin : (ws : List ℕ) → sheetFault ws ≡ 0 → sheetFault (twinSheet ws) ≡ 0
 accepted-twin ws h = fault-twin ws ∙ h
 
-pub sound-one : (ws : List ℕ) → sheetFault ws ≡ 0 → Sound (oneSided (sheetIn ws))
+pub sound-one : (ws : List ℕ) → sheetFault ws ≡ 0 → Sound (asOneSided (sheetIn ws))
 sound-one ws h = subst Sound (sheet-twin ws) (sound (twinSheet ws) (accepted-twin ws h))
 
 -- a one-sided sheet stays what it is
-same-sheet : (s : Sheet) → s .isTwoSided ≡ false → s ≡ oneSided s
+same-sheet : (s : Sheet) → s .isTwoSided ≡ false → s ≡ asOneSided s
 same-sheet s e =
     λ i. record { isTwoSided = e i; isShortest = s .isShortest; gap = s .gap; width = s .width; slots = s .slots; colours = s .colours; sites = s .sites }
 
@@ -60,11 +60,11 @@ counted-all : (s : Sheet) (x : ℕ) → CountsAgainst s 0 x
 counted-all s x = omega arith
 
 -- a site's share is the same
-share-one : (s : Sheet) (h y : ℕ) → siteShare (oneSided s) h y ≡ siteShare s h y
+share-one : (s : Sheet) (h y : ℕ) → siteShare (asOneSided s) h y ≡ siteShare s h y
 unfolding siteShare
 share-one s h y = refl
 
-drops-one : (s : Sheet) (ts : List Tied) → drops (oneSided s) ts ≡ drops s ts
+drops-one : (s : Sheet) (ts : List Tied) → drops (asOneSided s) ts ≡ drops s ts
 unfolding drops
 drops-one s [] = refl
 drops-one s (t ∷ ts) = rw (share-one s (heightOf s (t .slot)) (t .site .y), drops-one s ts) refl
@@ -79,7 +79,7 @@ module _ (s : Sheet) (two : s .isTwoSided ≡ true) (js : List ℕ) where
   left-zero : (k : ℕ) → leftEnd s js k ≡ 0
   left-zero k = rw two refl
 
-  pub rules-one : Rules s js → Rules (oneSided s) js
+  pub rules-one : Rules s js → Rules (asOneSided s) js
   rules-one r = record {
     one = r .one;
     two = r .two;
@@ -88,40 +88,40 @@ module _ (s : Sheet) (two : s .isTwoSided ≡ true) (js : List ℕ) where
     five = λ i k l u n e. r .five i k l u n (subst⁻¹ (λ (z : ℕ). CountsAgainst s z ((siteAt s i) .x)) (left-zero k) (counted-all s ((siteAt s i) .x)));
   }
 
-  backbones-one : (ks : List ℕ) → backbones (oneSided s) js ks ≤ backbones s js ks
+  backbones-one : (ks : List ℕ) → backbones (asOneSided s) js ks ≤ backbones s js ks
   unfolding backbones
   backbones-one [] = omega arith
   backbones-one (k ∷ ks) = omega (arith, left-zero k, backbones-one ks)
 
-  pub length-one : lengthOf (oneSided s) js ≤ lengthOf s js
+  pub length-one : lengthOf (asOneSided s) js ≤ lengthOf s js
   length-one = omega (arith, backbones-one (usedOf s js), drops-one s (tied s js))
 
-  first-one : firstNumber (oneSided s) js ≤ firstNumber s js
+  first-one : firstNumber (asOneSided s) js ≤ firstNumber s js
   first-one = cond-le (s .isShortest) length-one (omega arith)
 
-  second-one : secondNumber (oneSided s) js ≤ secondNumber s js
+  second-one : secondNumber (asOneSided s) js ≤ secondNumber s js
   second-one = cond-le (s .isShortest) (omega arith) length-one
 
   -- THE BEST is not worse
-  best-one : Sound (oneSided s) → Ties s js → Rules s js → (ks : List ℕ) × IsAnswer (oneSided s) ks × NotWorse (oneSided s) ks s js
-  best-one o t r = go (best (oneSided s)) refl
+  best-one : Sound (asOneSided s) → Ties s js → Rules s js → (ks : List ℕ) × IsAnswer (asOneSided s) ks × NotWorse (asOneSided s) ks s js
+  best-one o t r = go (best (asOneSided s)) refl
     where
-      t' : Ties (oneSided s) js
+      t' : Ties (asOneSided s) js
       t' = record { long = t .long; low = t .low }
 
-      not-worse : (ks : List ℕ) → (Better (oneSided s) js ks → ⊥) → NotWorse (oneSided s) ks s js
+      not-worse : (ks : List ℕ) → (Better (asOneSided s) js ks → ⊥) → NotWorse (asOneSided s) ks s js
       not-worse ks f =
-          by-order (firstNumber s js) (firstNumber (oneSided s) ks)
-          (λ h. by-order (firstNumber (oneSided s) ks) (firstNumber (oneSided s) js)
-          (λ g. by-order (secondNumber (oneSided s) ks) (secondNumber (oneSided s) js)
+          by-order (firstNumber s js) (firstNumber (asOneSided s) ks)
+          (λ h. by-order (firstNumber (asOneSided s) ks) (firstNumber (asOneSided s) js)
+          (λ g. by-order (secondNumber (asOneSided s) ks) (secondNumber (asOneSided s) js)
           (λ l. inr (omega (arith, first-one), omega (arith, second-one)))
           (λ l. absurd (f (inr (omega (arith, first-one), inl l)))))
           (λ g. absurd (f (inl g))))
           (λ h. inl h)
 
-      go : (b : Option (List ℕ)) → best (oneSided s) ≡ b → (ks : List ℕ) × IsAnswer (oneSided s) ks × NotWorse (oneSided s) ks s js
-      go none e = absurd (answer-none (oneSided s) .0 e js t' (rules-one r))
-      go (some ks) e = let a : IsAnswer (oneSided s) ks = answer-is (oneSided s) o ks .0 e in (ks, a, not-worse ks (a .first js t' (rules-one r)))
+      go : (b : Option (List ℕ)) → best (asOneSided s) ≡ b → (ks : List ℕ) × IsAnswer (asOneSided s) ks × NotWorse (asOneSided s) ks s js
+      go none e = absurd (answer-none (asOneSided s) .0 e js t' (rules-one r))
+      go (some ks) e = let a : IsAnswer (asOneSided s) ks = answer-is (asOneSided s) o ks .0 e in (ks, a, not-worse ks (a .first js t' (rules-one r)))
 
 best-not-worse : BestNotWorse
 best-not-worse ws js h two t r = (
@@ -147,14 +147,14 @@ module _ (ss b : List ℕ) (h : sheetFault ss ≡ 0) (l : isLayout (sheetIn ss) 
   count-fits : statedCount b < countTop
   count-fits = omega arith
 
-  pub length-fits : lengthOf (oneSided s) js < lengthTop
-  length-fits = length-low (oneSided s) (sound-one ss h) js
+  pub length-fits : lengthOf (asOneSided s) js < lengthTop
+  length-fits = length-low (asOneSided s) (sound-one ss h) js
 
   states-count : statedCount (twinLayout s b) ≡ statedCount b
-  states-count = stated-count (statedCount b) (lengthOf (oneSided s) js) js count-fits length-fits
+  states-count = stated-count (statedCount b) (lengthOf (asOneSided s) js) js count-fits length-fits
 
-  states-length : statedLength (twinLayout s b) ≡ lengthOf (oneSided s) js
-  states-length = stated-length (statedCount b) (lengthOf (oneSided s) js) js count-fits length-fits
+  states-length : statedLength (twinLayout s b) ≡ lengthOf (asOneSided s) js
+  states-length = stated-length (statedCount b) (lengthOf (asOneSided s) js) js count-fits length-fits
 
   pub long-layout : length (twinLayout s b) ≡ length b
   long-layout = omega (arith, length-drop 1 b, formed s b l .long)
@@ -162,12 +162,12 @@ module _ (ss b : List ℕ) (h : sheetFault ss ≡ 0) (l : isLayout (sheetIn ss) 
   pub long-sheet : length (twinSheet ss) ≡ length ss
   long-sheet = omega (arith, length-drop 1 ss, some-words ss h)
 
-  form-twin : isLayout (oneSided s) (twinLayout s b) ≡ true
+  form-twin : isLayout (asOneSided s) (twinLayout s b) ≡ true
   form-twin =
-      form (oneSided s) (twinLayout s b)
+      form (asOneSided s) (twinLayout s b)
       (record {
         long = long-layout ∙ formed s b l .long;
-        kind = eight (statedCount b) (lengthOf (oneSided s) js) count-fits length-fits;
+        kind = eight (statedCount b) (lengthOf (asOneSided s) js) count-fits length-fits;
         ties = formed s b l .ties;
       })
     where
@@ -175,7 +175,7 @@ module _ (ss b : List ℕ) (h : sheetFault ss ≡ 0) (l : isLayout (sheetIn ss) 
       eight c n p q = omega arith
 
   module _ (two : s .isTwoSided ≡ true) (w : Lawful s b) where
-    lawful-twin : Lawful (oneSided s) (twinLayout s b)
+    lawful-twin : Lawful (asOneSided s) (twinLayout s b)
     lawful-twin = record { rules = rules-one s two js (w .rules); six = (states-count ∙ w .six .0, states-length) }
 
     abbrev tw : List ℕ
@@ -185,7 +185,7 @@ module _ (ss b : List ℕ) (h : sheetFault ss ≡ 0) (l : isLayout (sheetIn ss) 
     twin-of ws es eb el =
         let form : isLayout (sheetIn (twinSheet ss)) (twinLayout s b) ≡ true = subst⁻¹ (λ (v : Sheet). isLayout v (twinLayout s b) ≡ true) (sheet-twin ss) form-twin in
         let p = parts-of (twinSheet ss) (twinLayout s b) (accepted-twin ss h) form in
-        let e : sheetIn (sheetPart tw) ≡ oneSided s = ap sheetIn (p .0) ∙ sheet-twin ss in
+        let e : sheetIn (sheetPart tw) ≡ asOneSided s = ap sheetIn (p .0) ∙ sheet-twin ss in
         let lawful : Lawful (sheetIn (sheetPart tw)) (layoutPart tw) = rw (e, p .1) lawful-twin in
         let accepted : judgeFault tw ≡ 0 = judged-so .1 tw .3 .1 (ap sheetFault (p .0) ∙ accepted-twin ss h, ap₂ isLayout e (p .1) ∙ form-twin) in
         record {

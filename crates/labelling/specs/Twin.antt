@@ -14,8 +14,8 @@ use Rattle.labelling.specs.Lawful.{Ties, Rules, Lawful, IsAnswer}
 
 -- THE TWIN
 -- a sheet, one-sided
-abbrev pub oneSided : Sheet → Sheet
-oneSided s =
+abbrev pub asOneSided : Sheet → Sheet
+asOneSided s =
     record {
       isTwoSided = false;
       isShortest = s .isShortest;
@@ -36,7 +36,7 @@ twinSheet ws = twinHead (headIn ws) ∷ bodyOf ws
 
 -- a layout's words, the length that which its ties have on the one-sided sheet and all else as it stands
 abbrev pub twinLayout : Sheet → (layout : List ℕ) → List ℕ
-twinLayout s b = firstWord (statedCount b) (lengthOf (oneSided s) (layoutTies b)) ∷ layoutBody b
+twinLayout s b = firstWord (statedCount b) (lengthOf (asOneSided s) (layoutTies b)) ∷ layoutBody b
 
 -- the twin of a stored two-sided sheet; any other comes back as it is
 abbrev pub twinWords : (stored : List ℕ) → List ℕ
@@ -62,7 +62,7 @@ pub record TwinOf (ws tw : List ℕ) : Type 0 where
   pub accepted : judgeFault tw ≡ 0
   pub verdict : judged tw ≡ 0
   pub lawful : Lawful (sheetIn (sheetPart tw)) (layoutPart tw)
-  pub sheet : sheetIn (sheetPart tw) ≡ oneSided (sheetIn (sheetPart ws))
+  pub sheet : sheetIn (sheetPart tw) ≡ asOneSided (sheetIn (sheetPart ws))
   pub ties : layoutTies (layoutPart tw) ≡ layoutTies (layoutPart ws)
   pub count : statedCount (layoutPart tw) ≡ statedCount (layoutPart ws)
   pub no-longer : statedLength (layoutPart tw) ≤ statedLength (layoutPart ws)
@@ -87,7 +87,7 @@ NotWorse t ks s js =
 abbrev pub BestNotWorse : Type 0
 BestNotWorse =
     (ws js : List ℕ) → sheetFault ws ≡ 0 → sheetIn ws .isTwoSided ≡ true → Ties (sheetIn ws) js → Rules (sheetIn ws) js →
-    (sheetFault (twinSheet ws) ≡ 0) × (sheetIn (twinSheet ws) ≡ oneSided (sheetIn ws)) ×
+    (sheetFault (twinSheet ws) ≡ 0) × (sheetIn (twinSheet ws) ≡ asOneSided (sheetIn ws)) ×
     ((ks : List ℕ) × IsAnswer (sheetIn (twinSheet ws)) ks × NotWorse (sheetIn (twinSheet ws)) ks (sheetIn ws) js)
 
 -- all three

@@ -16,42 +16,42 @@ use Rattle.twin.specs.declared.Written.{Written}
 use Rattle.twin.specs.Twin.{twinPost, faultIn}
 
 -- THE REFUSALS, by the judge's verdict
-module _ (ws : List ℕ) (room : ℕ) (v : Verdict) (e : v ≡ judgePost ws) where
+module _ (ws : List ℕ) (lent : ℕ) (v : Verdict) (e : v ≡ judgePost ws) where
   refusal-is : v .refusal ≡ judgeFault ws
   refusal-is = ap (λ (u : Verdict). u .refusal) e
 
   rule-is : v .refusal ≡ 0 → v .rule ≡ judged ws
   rule-is z = ap (λ (u : Verdict). u .rule) e ∙ rw (eq-eqb (judgeFault ws) 0 (sym refusal-is ∙ z)) refl
 
-  pub judge-refuses : (v .refusal ≡ 0 → ⊥) → v .refusal ≡ faultIn ws room
+  pub judge-refuses : (v .refusal ≡ 0 → ⊥) → v .refusal ≡ faultIn ws lent
   judge-refuses n = refusal-is ∙ rw (ne-eqb (judgeFault ws) 0 (λ q. n (refusal-is ∙ q))) refl
 
   module _ (z : v .refusal ≡ 0) where
     none : eqb (judgeFault ws) 0 ≡ true
     none = eq-eqb (judgeFault ws) 0 (sym refusal-is ∙ z)
 
-    pub unlawful : (v .rule ≡ 0 → ⊥) → 13 ≡ faultIn ws room
+    pub unlawful : (v .rule ≡ 0 → ⊥) → 13 ≡ faultIn ws lent
     unlawful n = rw (none, ne-eqb (judged ws) 0 (λ q. n (rule-is z ∙ q))) refl
 
     module _ (k : v .rule ≡ 0) where
       lawful : eqb (judged ws) 0 ≡ true
       lawful = eq-eqb (judged ws) 0 (sym (rule-is z) ∙ k)
 
-      pub too-short : room < length ws → 9 ≡ faultIn ws room
-      too-short l = rw (none, lawful, lt-ltb room (length ws) l) refl
+      pub too-short : lent < length ws → 9 ≡ faultIn ws lent
+      too-short l = rw (none, lawful, lt-ltb lent (length ws) l) refl
 
-      pub long-enough : length ws ≤ room → 0 ≡ faultIn ws room
-      long-enough l = rw (none, lawful, le-ltb room (length ws) l) refl
+      pub long-enough : length ws ≤ lent → 0 ≡ faultIn ws lent
+      long-enough l = rw (none, lawful, le-ltb lent (length ws) l) refl
 
 -- nothing is refused: the judge refuses nothing and the area is long enough
-pub unrefused : (ws : List ℕ) (room : ℕ) → faultIn ws room ≡ 0 → (judgeFault ws ≡ 0) × (length ws ≤ room)
-unrefused ws room = go (judgeFault ws) (judged ws) (length ws)
+pub unrefused : (ws : List ℕ) (lent : ℕ) → faultIn ws lent ≡ 0 → (judgeFault ws ≡ 0) × (length ws ≤ lent)
+unrefused ws lent = go (judgeFault ws) (judged ws) (length ws)
   where
-    go : (f k n : ℕ) → _≡_ {A = ℕ} (cond (not (eqb f 0)) f (cond (not (eqb k 0)) 13 (cond (ltb room n) 9 0))) 0 → (f ≡ 0) × (n ≤ room)
+    go : (f k n : ℕ) → _≡_ {A = ℕ} (cond (not (eqb f 0)) f (cond (not (eqb k 0)) 13 (cond (ltb lent n) 9 0))) 0 → (f ≡ 0) × (n ≤ lent)
     go f k n h =
         by-equal f 0
         (λ e. by-equal k 0
-        (λ q. by-order n room (λ l. (e, l)) (λ l. absurd (omega (arith, rw (eq-eqb f 0 e, eq-eqb k 0 q, lt-ltb room n l) at h))))
+        (λ q. by-order n lent (λ l. (e, l)) (λ l. absurd (omega (arith, rw (eq-eqb f 0 e, eq-eqb k 0 q, lt-ltb lent n l) at h))))
         (λ q. absurd (omega (arith, rw (eq-eqb f 0 e, ne-eqb k 0 q) at h))))
         (λ e. absurd (e (rw (ne-eqb f 0 e) at h)))
 

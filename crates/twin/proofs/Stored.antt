@@ -13,7 +13,7 @@ use Rattle.sheet.specs.Limits.{mostSlots, mostSites, kindTop, lengthTop, topWor
 use Rattle.sheet.specs.Sheet.{kindOf, bits, Sheet, headIn, sheetIn, sheetFault}
 use Rattle.sheet.proofs.Accepted.{sound, some-words, few-words}
 use Rattle.labelling.specs.Layout.{lengthOf, firstWord, statedCount, tiesIn, layoutTies, isLayout, sheetPart, layoutPart, judgeFault}
-use Rattle.labelling.specs.Twin.{oneSided, twinHead, twinWords}
+use Rattle.labelling.specs.Twin.{asOneSided, twinHead, twinWords}
 use Rattle.labelling.proofs.Judge.{judged-so}
 use Rattle.labelling.proofs.Words.{formed, length-tiesIn, ties-low}
 use Rattle.labelling.proofs.Twin.{length-fits, same-words}
@@ -46,22 +46,22 @@ module _ (ss ls : List ℕ) (ok : sheetFault ss ≡ 0) (form : isLayout (sheetIn
   -- what is found with it is the length on the one-sided sheet
   pub length-found : (h g : Head) (r : ℕ) (hs xs ys cs ws : List ℕ) →
       h ≡ headOneSided g → g ≡ headBy s → hs ≡ padded mostSlots (s .slots) → xs ≡ padded mostSites (xsOf (s .sites)) → ys ≡ padded mostSites (ysOf (s .sites)) →
-      cs ≡ padded mostSites (coloursOf (s .sites)) → ws ≡ drop 1 ls → r ≡ lengthOn h hs xs ys cs (tiesIn ws) (length ws) → r ≡ lengthOf (oneSided s) (layoutTies ls)
+      cs ≡ padded mostSites (coloursOf (s .sites)) → ws ≡ drop 1 ls → r ≡ lengthOn h hs xs ys cs (tiesIn ws) (length ws) → r ≡ lengthOf (asOneSided s) (layoutTies ls)
   length-found h g r hs xs ys cs ws eh eg es ex ey ec et e =
-      let q : r ≡ lengthOn (headBy (oneSided s)) (padded mostSlots (s .slots)) (padded mostSites (xsOf (s .sites))) (padded mostSites (ysOf (s .sites))) (padded mostSites (coloursOf (s .sites))) (layoutTies ls) (length (drop 1 ls)) =
+      let q : r ≡ lengthOn (headBy (asOneSided s)) (padded mostSlots (s .slots)) (padded mostSites (xsOf (s .sites))) (padded mostSites (ysOf (s .sites))) (padded mostSites (coloursOf (s .sites))) (layoutTies ls) (length (drop 1 ls)) =
       e ∙ rw (eh, eg, es, ex, ey, ec, et) refl in
-      q ∙ ap (lengthOn (headBy (oneSided s)) (padded mostSlots (s .slots)) (padded mostSites (xsOf (s .sites))) (padded mostSites (ysOf (s .sites))) (padded mostSites (coloursOf (s .sites))) (layoutTies ls)) (long ss ls ok form) ∙
-      length-is (oneSided s) _ _ _ _ (decoded (oneSided s) mostSlots mostSites) (layoutTies ls) (length-tiesIn (drop 1 ls) ∙ long ss ls ok form) (ties-low s (drop 1 ls) (formed s ls form .ties))
+      q ∙ ap (lengthOn (headBy (asOneSided s)) (padded mostSlots (s .slots)) (padded mostSites (xsOf (s .sites))) (padded mostSites (ysOf (s .sites))) (padded mostSites (coloursOf (s .sites))) (layoutTies ls)) (long ss ls ok form) ∙
+      length-is (asOneSided s) _ _ _ _ (decoded (asOneSided s) mostSlots mostSites) (layoutTies ls) (length-tiesIn (drop 1 ls) ∙ long ss ls ok form) (ties-low s (drop 1 ls) (formed s ls form .ties))
 
   -- THE FIRST WORD with another length: it is a word, and the twin's
-  pub first-fits : (w n r : ℕ) → w ≡ getD ls 0 0 → n ≡ bits w 0 21 → r ≡ lengthOf (oneSided s) (layoutTies ls) → w - n + r ≤ topWord
+  pub first-fits : (w n r : ℕ) → w ≡ getD ls 0 0 → n ≡ bits w 0 21 → r ≡ lengthOf (asOneSided s) (layoutTies ls) → w - n + r ≤ topWord
   first-fits w n r ew en er = fits w n r en (ap (λ (z : ℕ). z / kindTop) ew ∙ formed s ls form .kind) (omega (arith, er, length-fits ss ls ok form))
     where
       fits : (w n r : ℕ) → n ≡ bits w 0 21 → kindOf w ≡ 8 → r < lengthTop → w - n + r ≤ topWord
       fits w n r e k l = omega arith
 
-  pub first-twin : (w n r : ℕ) → w ≡ getD ls 0 0 → n ≡ bits w 0 21 → r ≡ lengthOf (oneSided s) (layoutTies ls) →
-      w - n + r ≡ firstWord (statedCount ls) (lengthOf (oneSided s) (layoutTies ls))
+  pub first-twin : (w n r : ℕ) → w ≡ getD ls 0 0 → n ≡ bits w 0 21 → r ≡ lengthOf (asOneSided s) (layoutTies ls) →
+      w - n + r ≡ firstWord (statedCount ls) (lengthOf (asOneSided s) (layoutTies ls))
   first-twin w n r ew en er =
       rw (← ew, ← er) (is w n r en (ap (λ (z : ℕ). z / kindTop) ew ∙ formed s ls form .kind))
     where
@@ -113,7 +113,7 @@ module _ (ws : List ℕ) (h : judgeFault ws ≡ 0) where
     one-words z = same-words ws (ne-eqb (bits (headIn ss) 27 1) 1 (λ q. omega (arith, side)))
 
     -- of a two-sided sheet's the head and the layout's first change
-    pub two-words : (x y at : ℕ) (o p q : List ℕ) → (n ≡ 0 → ⊥) → x ≡ twinHead (getD ws 0 0) → y ≡ firstWord (statedCount b) (lengthOf (oneSided (sheetIn ss)) (layoutTies b)) →
+    pub two-words : (x y at : ℕ) (o p q : List ℕ) → (n ≡ 0 → ⊥) → x ≡ twinHead (getD ws 0 0) → y ≡ firstWord (statedCount b) (lengthOf (asOneSided (sheetIn ss)) (layoutTies b)) →
         at ≡ length ss → p ≡ ws ++ drop (length ws) o → q ≡ set (set p 0 x) at y → q ≡ twinWords ws ++ drop (length ws) o
     two-words x y at o p q f ex ey ea ep eq =
         let t : eqb (bits (headIn ss) 27 1) 1 ≡ true = eq-eqb (bits (headIn ss) 27 1) 1 (omega (arith, side, f)) in

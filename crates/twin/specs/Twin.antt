@@ -14,7 +14,7 @@ abbrev pub twinPost : (stored out : List ℕ) → Written
 twinPost ws o = record { refusal = twinFault ws o; written = cond (eqb (twinFault ws o) 0) (length ws) 0 }
 
 -- the refusal by the number of the area's words
-abbrev pub faultIn : (stored : List ℕ) → (room : ℕ) → ℕ
+abbrev pub faultIn : (stored : List ℕ) → (lent : ℕ) → ℕ
 faultIn ws r =
     cond (not (eqb (judgeFault ws) 0)) (judgeFault ws) (cond (not (eqb (judged ws) 0)) 13 (cond (ltb r (length ws)) 9 0))
 

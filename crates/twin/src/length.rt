@@ -3,7 +3,7 @@ ghost use mathlib.Core.Path.{_≡_};
 ghost use mathlib.Core.Bool.{true};
 ghost use Rattle.sheet.specs.Sheet.{sheetIn, sheetFault};
 ghost use Rattle.labelling.specs.Layout.{lengthOf, layoutTies, isLayout};
-ghost use Rattle.labelling.specs.Twin.{oneSided};
+ghost use Rattle.labelling.specs.Twin.{asOneSided};
 ghost use Rattle.twin.specs.Twin.{headOneSided};
 use decoding::colours_of;
 use decoding::head_of;
@@ -28,7 +28,7 @@ fn one_sided(h: Head) -> Head
 pub fn one_sided_length(sheet: &[u32], layout: &[u32]) -> u32
     requires { ⌜ sheetFault (now sheet) ≡ 0 ⌝ }
     requires { ⌜ isLayout (sheetIn (now sheet)) (now layout) ≡ true ⌝ }
-    ensures { λ r. ⌜ r ≡ lengthOf (oneSided (sheetIn (now (sheet .entry)))) (layoutTies (now (layout .entry))) ⌝ }
+    ensures { λ r. ⌜ r ≡ lengthOf (asOneSided (sheetIn (now (sheet .entry)))) (layoutTies (now (layout .entry))) ⌝ }
 {
     let heights = heights_of(sheet);
     let xs = xs_of(sheet);

@@ -16,8 +16,8 @@ pub struct Written {
 }
 
 // The refusal with an area of so many words: the judge's; 13, a layout that is not lawful; 9, an area shorter than the stored sheet.
-fn refusal_of(stored: &[u32], room: usize) -> u8
-    ensures { λ r. ⌜ r ≡ faultIn (now (stored .entry)) room ⌝ }
+fn refusal_of(stored: &[u32], lent: usize) -> u8
+    ensures { λ r. ⌜ r ≡ faultIn (now (stored .entry)) lent ⌝ }
 {
     let verdict = judge_layout(stored);
     if verdict.refusal != 0 {
@@ -26,7 +26,7 @@ fn refusal_of(stored: &[u32], room: usize) -> u8
     if verdict.rule != 0 {
         return 13;
     }
-    if room < stored.len() {
+    if lent < stored.len() {
         return 9;
     }
     0

@@ -6,7 +6,7 @@ ghost use Prim.Native.Nat.{_≤_};
 ghost use lib.ListN.{length, drop};
 ghost use Rattle.sheet.specs.Sheet.{sheetIn, sheetFault};
 ghost use Rattle.labelling.specs.Layout.{lengthOf, firstWord, statedCount, layoutTies, isLayout, judgeFault};
-ghost use Rattle.labelling.specs.Twin.{oneSided, twinHead, twinWords};
+ghost use Rattle.labelling.specs.Twin.{asOneSided, twinHead, twinWords};
 use crate::length::one_sided_length;
 use judge::refusal_11::layout_start;
 use words::SIDE_PLACE;
@@ -24,7 +24,7 @@ fn twin_head(w: u32) -> u32
 fn twin_first(sheet: &[u32], layout: &[u32]) -> u32
     requires { ⌜ sheetFault (now sheet) ≡ 0 ⌝ }
     requires { ⌜ isLayout (sheetIn (now sheet)) (now layout) ≡ true ⌝ }
-    ensures { λ r. ⌜ r ≡ firstWord (statedCount (now (layout .entry))) (lengthOf (oneSided (sheetIn (now (sheet .entry)))) (layoutTies (now (layout .entry)))) ⌝ }
+    ensures { λ r. ⌜ r ≡ firstWord (statedCount (now (layout .entry))) (lengthOf (asOneSided (sheetIn (now (sheet .entry)))) (layoutTies (now (layout .entry)))) ⌝ }
 {
     let w = layout[0];
     w - length_field(w) + one_sided_length(sheet, layout)
