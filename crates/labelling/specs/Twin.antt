@@ -44,11 +44,14 @@ twinWords ws =
     cond (sheetIn (sheetPart ws) .isTwoSided) (twinSheet (sheetPart ws) ++ twinLayout (sheetIn (sheetPart ws)) (layoutPart ws)) ws
 
 -- THE TWIN TOOL
--- the refusal: 1 to 7 and 11 as the judge; then 13, the judge's answer isn't 0; then 9, the area is shorter than the stored sheet; or 0
+-- the refusal, with an area of so many words: 1 to 7 and 11 as the judge; then 13, the judge's answer isn't 0; then 9, the area is
+-- shorter than the stored sheet; or 0
+abbrev pub twinFaultIn : (stored : List ℕ) → (lent : ℕ) → ℕ
+twinFaultIn ws n =
+    cond (not (eqb (judgeFault ws) 0)) (judgeFault ws) (cond (not (eqb (judged ws) 0)) 13 (cond (ltb n (length ws)) 9 0))
+
 abbrev pub twinFault : (stored out : List ℕ) → ℕ
-twinFault ws o =
-    cond (not (eqb (judgeFault ws) 0)) (judgeFault ws)
-    (cond (not (eqb (judged ws) 0)) 13 (cond (ltb (length o) (length ws)) 9 0))
+twinFault ws o = twinFaultIn ws (length o)
 
 -- the area afterwards: the twin in its first words, the rest as before; a refusal changes nothing
 abbrev pub twinArea : (stored out : List ℕ) → List ℕ

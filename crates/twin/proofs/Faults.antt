@@ -9,11 +9,11 @@ use lib.ListN.{length, drop}
 use borrow.Author.Tests.{eq-eqb, ne-eqb, lt-ltb, le-ltb}
 use Rattle.lists.proofs.Tests.{by-equal, by-order}
 use Rattle.labelling.specs.Layout.{judgeFault, judged}
-use Rattle.labelling.specs.Twin.{twinWords, twinFault, twinArea}
+use Rattle.labelling.specs.Twin.{twinWords, twinFaultIn, twinFault, twinArea}
 use Rattle.judge.specs.declared.Verdict.{Verdict}
 use Rattle.judge.specs.Judge.{judgePost}
 use Rattle.twin.specs.declared.Written.{Written}
-use Rattle.twin.specs.Twin.{twinPost, faultIn}
+use Rattle.twin.specs.Twin.{twinPost}
 
 -- THE REFUSALS, by the judge's verdict
 module _ (ws : List ℕ) (lent : ℕ) (v : Verdict) (e : v ≡ judgePost ws) where
@@ -23,28 +23,28 @@ module _ (ws : List ℕ) (lent : ℕ) (v : Verdict) (e : v ≡ judgePost ws) whe
   rule-is : v .refusal ≡ 0 → v .rule ≡ judged ws
   rule-is z = ap (λ (u : Verdict). u .rule) e ∙ rw (eq-eqb (judgeFault ws) 0 (sym refusal-is ∙ z)) refl
 
-  pub judge-refuses : (v .refusal ≡ 0 → ⊥) → v .refusal ≡ faultIn ws lent
+  pub judge-refuses : (v .refusal ≡ 0 → ⊥) → v .refusal ≡ twinFaultIn ws lent
   judge-refuses n = refusal-is ∙ rw (ne-eqb (judgeFault ws) 0 (λ q. n (refusal-is ∙ q))) refl
 
   module _ (z : v .refusal ≡ 0) where
     none : eqb (judgeFault ws) 0 ≡ true
     none = eq-eqb (judgeFault ws) 0 (sym refusal-is ∙ z)
 
-    pub unlawful : (v .rule ≡ 0 → ⊥) → 13 ≡ faultIn ws lent
+    pub unlawful : (v .rule ≡ 0 → ⊥) → 13 ≡ twinFaultIn ws lent
     unlawful n = rw (none, ne-eqb (judged ws) 0 (λ q. n (rule-is z ∙ q))) refl
 
     module _ (k : v .rule ≡ 0) where
       lawful : eqb (judged ws) 0 ≡ true
       lawful = eq-eqb (judged ws) 0 (sym (rule-is z) ∙ k)
 
-      pub too-short : lent < length ws → 9 ≡ faultIn ws lent
+      pub too-short : lent < length ws → 9 ≡ twinFaultIn ws lent
       too-short l = rw (none, lawful, lt-ltb lent (length ws) l) refl
 
-      pub long-enough : length ws ≤ lent → 0 ≡ faultIn ws lent
+      pub long-enough : length ws ≤ lent → 0 ≡ twinFaultIn ws lent
       long-enough l = rw (none, lawful, le-ltb lent (length ws) l) refl
 
 -- nothing is refused: the judge refuses nothing and the area is long enough
-pub unrefused : (ws : List ℕ) (lent : ℕ) → faultIn ws lent ≡ 0 → (judgeFault ws ≡ 0) × (length ws ≤ lent)
+pub unrefused : (ws : List ℕ) (lent : ℕ) → twinFaultIn ws lent ≡ 0 → (judgeFault ws ≡ 0) × (length ws ≤ lent)
 unrefused ws lent = go (judgeFault ws) (judged ws) (length ws)
   where
     go : (f k n : ℕ) → _≡_ {A = ℕ} (cond (not (eqb f 0)) f (cond (not (eqb k 0)) 13 (cond (ltb lent n) 9 0))) 0 → (f ≡ 0) × (n ≤ lent)
@@ -56,7 +56,7 @@ unrefused ws lent = go (judgeFault ws) (judged ws) (length ws)
         (λ e. absurd (e (rw (ne-eqb f 0 e) at h)))
 
 -- WHAT IS GIVEN: with a refusal nothing is written
-module _ (ws o : List ℕ) (r : ℕ) (e : r ≡ faultIn ws (length o)) where
+module _ (ws o : List ℕ) (r : ℕ) (e : r ≡ twinFaultIn ws (length o)) where
   pub refused-post : (r ≡ 0 → ⊥) → (_≡_ {A = Written} (record { refusal = r; written = 0 }) (twinPost ws o)) × (o ≡ twinArea ws o)
   refused-post n =
       let f : eqb (twinFault ws o) 0 ≡ false = ne-eqb (twinFault ws o) 0 (λ q. n (e ∙ q)) in

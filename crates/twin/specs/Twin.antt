@@ -1,10 +1,9 @@
 -- What the twin tool gives. Assumes nothing: these are definitions.
-use mathlib.Core.Bool.{false, not, cond}
+use mathlib.Core.Bool.{false, cond}
 use mathlib.Core.List.{List}
 use Prim.Native.Nat.{ℕ}
-use lib.Dec.{ltb, eqb}
+use lib.Dec.{eqb}
 use lib.ListN.{length}
-use Rattle.labelling.specs.Layout.{judgeFault, judged}
 use Rattle.labelling.specs.Twin.{twinFault}
 use Rattle.words.specs.declared.tied.Head.{Head}
 use Rattle.twin.specs.declared.Written.{Written}
@@ -12,11 +11,6 @@ use Rattle.twin.specs.declared.Written.{Written}
 -- THE TWIN TOOL: its refusal, or 0; and how many words it wrote. Document 02 leaves free what stands beside a refusal: 0
 abbrev pub twinPost : (stored out : List ℕ) → Written
 twinPost ws o = record { refusal = twinFault ws o; written = cond (eqb (twinFault ws o) 0) (length ws) 0 }
-
--- the refusal by the number of the area's words
-abbrev pub faultIn : (stored : List ℕ) → (lent : ℕ) → ℕ
-faultIn ws r =
-    cond (not (eqb (judgeFault ws) 0)) (judgeFault ws) (cond (not (eqb (judged ws) 0)) 13 (cond (ltb r (length ws)) 9 0))
 
 -- a head, one-sided
 abbrev pub headOneSided : Head → Head

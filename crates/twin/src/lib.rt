@@ -3,8 +3,8 @@ mod length;
 mod writing;
 
 ghost use mathlib.Core.Path.{_≡_};
-ghost use Rattle.labelling.specs.Twin.{twinArea};
-ghost use Rattle.twin.specs.Twin.{faultIn, twinPost};
+ghost use Rattle.labelling.specs.Twin.{twinFaultIn, twinArea};
+ghost use Rattle.twin.specs.Twin.{twinPost};
 use crate::writing::write_twin;
 use judge::judge_layout;
 
@@ -17,7 +17,7 @@ pub struct Written {
 
 // The refusal with an area of so many words: the judge's; 13, a layout that is not lawful; 9, an area shorter than the stored sheet.
 fn refusal_of(stored: &[u32], lent: usize) -> u8
-    ensures { λ r. ⌜ r ≡ faultIn (now (stored .entry)) lent ⌝ }
+    ensures { λ r. ⌜ r ≡ twinFaultIn (now (stored .entry)) lent ⌝ }
 {
     let verdict = judge_layout(stored);
     if verdict.refusal != 0 {
