@@ -76,7 +76,7 @@ class Sizes(NamedTuple):
     budgets: int
     """The product of bound plus one over the bounded colours."""
     work_words: int
-    """The work words that `make` needs."""
+    """The work words that `make` needs. A two-sided sheet has a number too, though it is not laid out."""
     each_colour: Tuple[ColourSizes, ...]
 
     @property
