@@ -1,7 +1,7 @@
 """Backbone labelling of parts sheets, over the proved shared library.
 
-A sheet, a layout and a stored sheet are lists of 32-bit words. `read`, `make` and `judge` are the library's operations;
-`head`, `slot`, `colour` and `site` make the words of a sheet. A refusal is raised as `Refused`.
+A sheet, a layout and a stored sheet are lists of 32-bit words. `read`, `make`, `judge` and `twin` are the library's
+operations; `head`, `slot`, `colour` and `site` make the words of a sheet. A refusal is raised as `Refused`.
 
 >>> from backbone import colour, head, make, site, slot
 >>> sheet = [head(gap=2, width=8), slot(2), slot(5), slot(8)]
@@ -10,7 +10,7 @@ A sheet, a layout and a stored sheet are lists of 32-bit words. `read`, `make` a
 Layout(labels=2, length=19, slots=(0, 0, 2))
 """
 
-from .library import judge, make, read
+from .library import judge, make, read, twin
 from .results import ColourSizes, Layout, Refusal, Refused, Rule, Sizes
 from .words import colour, head, site, slot
 
@@ -28,4 +28,5 @@ __all__ = [
     "read",
     "site",
     "slot",
+    "twin",
 ]

@@ -7,7 +7,7 @@ import os
 from array import array
 from functools import lru_cache
 from pathlib import Path
-from typing import Any, Iterable, Optional, Union
+from typing import Any, Iterable, Optional, Tuple, Union
 
 from .results import ColourSizes, Layout, Refusal, Refused, Rule, Sizes
 
@@ -45,6 +45,10 @@ class _Verdict(ctypes.Structure):
     _fields_ = [("refusal", ctypes.c_uint8), ("rule", ctypes.c_uint8)]
 
 
+class _Written(ctypes.Structure):
+    _fields_ = [("refusal", ctypes.c_uint8), ("written", ctypes.c_uint32)]
+
+
 def _path() -> str:
     """The library in the folder that BACKBONE_LIBRARY names, or in that of ./install, or where the system has it."""
     named = os.environ.get("BACKBONE_LIBRARY")
@@ -68,6 +72,7 @@ def _library() -> ctypes.CDLL:
     library.backbone_judge.argtypes, library.backbone_judge.restype = [words, count], _Verdict
     library.backbone_make.argtypes = [words, count, words, count, words, count]
     library.backbone_make.restype = ctypes.c_uint32
+    library.backbone_twin.argtypes, library.backbone_twin.restype = [words, count, words, count], _Written
     return library
 
 
@@ -129,7 +134,7 @@ def judge(stored: Words) -> Optional[Rule]:
 
 
 def make(sheet: Words, work: Optional[Area] = None, answer: Optional[Area] = None) -> Layout:
-    """Lays out a sheet: its best layout; refusals 1 to 10.
+    """Lays out a one-sided sheet: its best layout; refusals 1 to 10, and 18 for a two-sided sheet.
 
     An area that is not given is allocated here, as long as needed: a MemoryError where that can't be had. In areas of
     the caller, the layout's words are the first of `answer`, and the needed words of `work` are zero afterwards; what
@@ -143,3 +148,17 @@ def make(sheet: Words, work: Optional[Area] = None, answer: Optional[Area] = Non
     number = _library().backbone_make(words, len(words), work_words, len(work_words), answer_words, len(answer_words))
     _refuse(number)
     return Layout.from_words(answer_words[: _read(words).answer_words])
+
+
+def twin(stored: Words, area: Optional[Area] = None) -> Tuple[int, ...]:
+    """The words of a stored sheet's one-sided twin; refusals 1 to 7, 11, 13 and 9.
+
+    Of a lawful two-sided sheet only the side and the length differ, and the length is the true one of the same ties; a
+    lawful one-sided sheet comes back as it is. In an area of the caller the twin's words are the first, and the others
+    stay.
+    """
+    words = _copied(stored)
+    area_words = _own(len(words)) if area is None else _lent("answer", area)
+    written = _library().backbone_twin(words, len(words), area_words, len(area_words))
+    _refuse(written.refusal)
+    return tuple(area_words[: written.written])

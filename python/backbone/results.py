@@ -19,7 +19,8 @@ class _Numbered(IntEnum):
 
 
 class Refusal(_Numbered):
-    """Why a list of words or an area is refused. The lowest that applies is given."""
+    """Why a list of words or an area is refused: the first that applies, by rising number, but 18 is looked for right
+    after 7, and 13 before 9."""
 
     NO_HEAD = 1, "the list is empty, or its first word is no head, or its width or gap is 0"
     BAD_WORD = 2, "a word of another kind, out of its order, or with a spare bit set"
@@ -29,10 +30,12 @@ class Refusal(_Numbered):
     EQUAL_X = 6, "two sites have equal x"
     TOO_MANY_BUDGETS = 7, "the product of bound plus one over the bounded colours is above 64"
     WORK_TOO_SHORT = 8, "the work area is shorter than needed"
-    ANSWER_TOO_SHORT = 9, "the answer area has fewer words than the sites and one"
+    ANSWER_TOO_SHORT = 9, "the answer area is shorter than needed"
     NO_LAYOUT = 10, "no layout obeys rules 1 to 5"
     BAD_LAYOUT = 11, "there is no layout, or it is not one tie to a slot for each site"
     BAD_INPUT = 12, "more than 1,024 bytes, or not whole words"
+    UNLAWFUL = 13, "the layout breaks a rule"
+    TWO_SIDED = 18, "the sheet is two-sided, and such sheets are no longer laid out"
 
 
 class Rule(_Numbered):
@@ -73,7 +76,7 @@ class Sizes(NamedTuple):
     budgets: int
     """The product of bound plus one over the bounded colours."""
     work_words: int
-    """The work words that `make` needs."""
+    """The work words that `make` needs. A two-sided sheet has a number too, though it is not laid out."""
     each_colour: Tuple[ColourSizes, ...]
 
     @property

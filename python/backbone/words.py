@@ -15,7 +15,8 @@ def _held(name: str, number: int, least: int, most: int) -> int:
 
 
 def head(gap: int, width: int, two_sided: bool = False, shortest: bool = False) -> int:
-    """The first word: the gap between backbones, the sheet's width, its side and its aim."""
+    """The first word: the gap between backbones, the sheet's width, its side and its aim. Two-sided sheets, whose backbones
+    reach from edge to edge, are read and judged, but no longer laid out."""
     flags = int(bool(two_sided)) << 27 | int(bool(shortest)) << 26
     return 1 << 28 | flags | _held("gap", gap, 1, 4095) << _COORDINATE_BITS | _held("width", width, 1, 16383)
 

@@ -4,7 +4,7 @@ import ctypes
 import unittest
 from array import array
 
-from backbone import Layout, Refusal, Refused, make, read
+from backbone import Layout, Refusal, Refused, make, read, twin
 from backbone.library import _library
 
 from .test_drawn import REST, SHEET_A
@@ -48,11 +48,32 @@ class Areas(unittest.TestCase):
             self.assert_refused(refusal, SHEET_A, work, answer)
             self.assertEqual((work, answer), (dirty(work_words), dirty(answer_words)))
 
+    def test_two_sided_sheets_leave_the_areas(self):
+        for work_words, answer_words in ((0, 0), (15, ANSWER), (WORK, ANSWER)):
+            work, answer = dirty(work_words), dirty(answer_words)
+            self.assert_refused(Refusal.TWO_SIDED, [0x18008008] + REST, work, answer)
+            self.assertEqual((work, answer), (dirty(work_words), dirty(answer_words)))
+
+    def test_twin_in_dirty_areas(self):
+        stored = [0x18008008] + REST + list(Layout(2, 25, (0, 0, 2)).words())
+        expected = tuple(SHEET_A) + BEST.words()
+        for spare in (0, SPARE):
+            area = dirty(len(stored) + spare)
+            self.assertEqual(twin(stored, area), expected)
+            self.assertEqual(area, array("I", expected) + dirty(spare))
+        for words, refusal, room in ((stored, Refusal.ANSWER_TOO_SHORT, 12), (stored[:-1], Refusal.BAD_LAYOUT, 13)):
+            area = dirty(room)
+            with self.assertRaises(Refused) as raised:
+                twin(words, area)
+            self.assertIs(raised.exception.refusal, refusal)
+            self.assertEqual(area, dirty(room))
+
     def test_null_pointers(self):
         library, words = _library(), (ctypes.c_uint32 * len(SHEET_A))(*SHEET_A)
         self.assertEqual(library.backbone_read(None, 0).refusal, Refusal.NO_HEAD)
         self.assertEqual(library.backbone_judge(None, 0).refusal, Refusal.NO_HEAD)
         self.assertEqual(library.backbone_make(words, len(words), None, 0, None, 0), Refusal.WORK_TOO_SHORT)
+        self.assertEqual(library.backbone_twin(None, 0, None, 0).refusal, Refusal.NO_HEAD)
 
     def test_one_area_given(self):
         self.assertEqual(make(SHEET_A, work=dirty(WORK)), BEST)

@@ -2,7 +2,7 @@
 
 import unittest
 
-from backbone import Layout, Refusal, Refused, Rule, judge, make, read
+from backbone import Layout, Refusal, Refused, Rule, judge, make, read, twin
 
 HEAD = 0x10008008
 REST = [0x20000002, 0x20000005, 0x20000008, 0x300000FF, 0x40008004, 0x40018006, 0x300000FF, 0x40010005]
@@ -25,13 +25,29 @@ class Drawn(unittest.TestCase):
         drawn = {
             0x10008008: (2, 19, (0, 0, 2)),
             0x14008008: (3, 18, (0, 1, 2)),
-            0x18008008: (2, 25, (0, 0, 2)),
             0x1000C008: (2, 19, (2, 2, 0)),
         }
         for head, layout in drawn.items():
             with self.subTest(head=hex(head)):
                 self.assertEqual(make([head] + REST), layout)
         self.assertEqual(make(SHEET_A).words()[0], 0x80400013)
+
+    def test_two_sided(self):
+        sheet = [0x18008008] + REST
+        self.assertEqual(read(sheet).work_words, 15)
+        self.assert_refused(Refusal.TWO_SIDED, make, sheet)
+        stored = sheet + list(Layout(2, 25, (0, 0, 2)).words())
+        self.assertIsNone(judge(stored))
+        expected = tuple(SHEET_A) + Layout(2, 19, (0, 0, 2)).words()
+        self.assertEqual(twin(stored), expected)
+        self.assertEqual(twin(expected), expected)
+
+    def test_refusals_of_twins(self):
+        self.assert_refused(Refusal.NO_HEAD, twin, [])
+        self.assert_refused(Refusal.BAD_LAYOUT, twin, SHEET_A)
+        for head in (HEAD, 0x18008008):
+            false_length = [head] + REST + list(Layout(2, 18, (0, 0, 2)).words())
+            self.assert_refused(Refusal.UNLAWFUL, twin, false_length)
 
     def test_no_layout(self):
         self.assert_refused(Refusal.NO_LAYOUT, make, [0x10010008] + REST)

@@ -1,11 +1,10 @@
-"""Random tiny sheets: the maker beside a search over all layouts, the judge beside the rules."""
+"""Random tiny sheets: the maker beside a search over all layouts, the judge beside the rules, twins of the best layouts."""
 
 import unittest
 from collections import Counter
-from itertools import product
 from random import Random
 
-from backbone import Layout, Refusal, Refused, judge, make
+from backbone import Layout, Refusal, Refused, judge, make, twin
 
 from .plain_search import UNBOUNDED, Sheet, Site, best, broken_rule, count_and_length
 
@@ -31,11 +30,30 @@ class Search(unittest.TestCase):
             try:
                 made = tuple(make(sheet.words()))
             except Refused as refused:
-                self.assertIs(refused.refusal, Refusal.NO_LAYOUT, sheet)
+                self.assertIs(refused.refusal, Refusal.TWO_SIDED if sheet.two_sided else Refusal.NO_LAYOUT, sheet)
                 made = None
-            self.assertEqual(made, best(sheet), sheet)
+            if not sheet.two_sided:
+                self.assertEqual(made, best(sheet), sheet)
             met[sheet.two_sided, made is None] += 1
-        self.assertGreater(min(met[kind] for kind in product((False, True), repeat=2)), SHEETS // 50, met)
+        self.assertEqual(met[True, False], 0, met)
+        self.assertGreater(min(met[False, False], met[False, True], met[True, True]), SHEETS // 50, met)
+
+    def test_twin(self):
+        random, met = Random(18), Counter()
+        for _ in range(SHEETS // 2):
+            sheet = tiny_sheet(random)._replace(two_sided=True)
+            found = best(sheet)
+            met[found is None] += 1
+            if found is None:
+                continue
+            one_sided, ties = sheet._replace(two_sided=False), found[2]
+            made = twin(sheet.words() + list(Layout(*found).words()))
+            expected = Layout(*count_and_length(one_sided, ties), ties)
+            self.assertEqual(made, (*one_sided.words(), *expected.words()), sheet)
+            self.assertIsNone(judge(made), sheet)
+            self.assertEqual(expected.labels, found[0])
+            self.assertLessEqual(expected.length, found[1])
+        self.assertGreater(min(met.values()), SHEETS // 50, met)
 
     def test_judge(self):
         random, met = Random(17), Counter()

@@ -58,7 +58,7 @@ pub fn causes(words: &[u32], refusal: Refusal) -> Vec<Cause> {
         Refusal::TooManyBudgets => budgets(&Parts::of(words)),
         Refusal::BadLayout => bad_layout(words),
         Refusal::Unlawful => broken(words),
-        Refusal::TwoSided => words.first().map(|head| Cause::TwoSided { head: *head }).into_iter().collect(),
+        Refusal::TwoSided => two_sided(words),
         Refusal::WorkTooShort | Refusal::AnswerTooShort | Refusal::NoLayout | Refusal::BadInput => Vec::new(),
     }
 }
@@ -186,6 +186,11 @@ fn broken(stored: &[u32]) -> Vec<Cause> {
         return Vec::new();
     };
     faults(&sheet, &layout, rule).into_iter().map(|fault| Cause::Broken { rule, fault }).collect()
+}
+
+fn two_sided(words: &[u32]) -> Vec<Cause> {
+    let two_sided = words.first().filter(|head| **head >> 27 & 1 == 1);
+    two_sided.map(|head| Cause::TwoSided { head: *head }).into_iter().collect()
 }
 
 impl Cause {

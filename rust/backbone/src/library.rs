@@ -55,7 +55,7 @@ pub struct Sizes {
     pub colours: usize,
     /// The product of bound plus one over the bounded colours.
     pub budgets: usize,
-    /// The work words that [`make`] needs.
+    /// The work words that [`make`] needs. A two-sided sheet has a number too, though it is not laid out.
     pub work_words: usize,
     /// Both numbers are 0 for a colour that the sheet doesn't have.
     pub each_colour: [ColourSizes; MOST_COLOURS],

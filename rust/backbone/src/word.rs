@@ -1,7 +1,7 @@
 use std::fmt;
 
-/// How far backbones reach: from their leftmost site, or from edge to edge. Sheets of the second kind are read and judged,
-/// but no longer laid out.
+/// How far backbones reach: from their leftmost site, or from edge to edge. Sheets of the second kind are read and
+/// judged, but no longer laid out.
 #[derive(Clone, Copy, Debug, PartialEq, Eq)]
 pub enum Side {
     One,

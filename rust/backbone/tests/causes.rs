@@ -141,4 +141,5 @@ fn causes_in_words() {
     let text = "rule 6: the layout states 1 label and length 8, but has 1 label and length 10";
     assert_eq!(first(&two_sided, Refusal::Unlawful), text);
     assert_eq!(causes(&two_sided[..4], Refusal::Unlawful), []);
+    assert_eq!(causes(&stored, Refusal::TwoSided), []);
 }

@@ -140,7 +140,7 @@ fn areas_too_short() {
     assert_eq!(made(1000, 0), Some(Refusal::AnswerTooShort));
 }
 
-/// 18 comes after 7 and before 8, so no area plays a part. The reader gives the work words that the table once had.
+/// 18 comes after 7 and before 8, so no area plays a part. The reader accepts the sheet.
 #[test]
 fn two_sided() {
     let sheet = [&[0x18008008], &SHEET_A[1..]].concat();

@@ -1,5 +1,5 @@
-//! What is told of a refusal: its number on standard output; on standard error its meaning, the words, slots or sites that it
-//! comes from, and what can be done.
+//! What is told of a refusal: its number on standard output; on standard error its meaning, the words, slots or sites
+//! that it comes from, and what can be done.
 
 use crate::exit::{Exit, Failure};
 use crate::input::Source;

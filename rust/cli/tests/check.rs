@@ -44,8 +44,11 @@ fn findings_of_lawful_layouts_and_of_claims() {
 #[test]
 fn findings_of_two_sided_sheets() {
     let two_sided = |text: String| text.replace("one-sided", "two-sided");
-    let meaning =
-        "the sheet is two-sided, and such sheets are no longer laid out: word 0 is 0x18008008, a two-sided head";
+    let no_layout = SHEET_A.replace("gap 2", "gap 4");
+    let refused = |head: &str| {
+        let meaning = "the sheet is two-sided, and such sheets are no longer laid out";
+        format!("refused 18: {meaning}: word 0 is 0x{head}, a two-sided head")
+    };
     hold(&[
         (
             two_sided(stored_a(2, 25, [0, 0, 2])),
@@ -64,8 +67,8 @@ fn findings_of_two_sided_sheets() {
             "unlawful: rule 6: the layout states 2 labels and length 19, but has 2 labels and length 25; \
              two-sided sheets are no longer laid out",
         ),
-        (two_sided(format!("{SHEET_A}refused 10\n")), 1, &format!("refused 18: {meaning}")),
-        (two_sided(format!("{SHEET_A}refused 10\n").replace("gap 2", "gap 4")), 1, &format!("refused 18: {}", meaning.replace("18008008", "18010008"))),
+        (two_sided(format!("{SHEET_A}refused 10\n")), 1, &refused("18008008")),
+        (two_sided(format!("{no_layout}refused 10\n")), 1, &refused("18010008")),
         (
             two_sided(SHEET_A.to_string()),
             1,

@@ -157,7 +157,8 @@ pub fn medium_sheet(random: &mut Random) -> Sheet {
     sheet_of(shape, random)
 }
 
-/// A one-sided, shortest sheet of any size that has a layout: each colour lies in a band of heights, and slots are 10 apart.
+/// A one-sided, shortest sheet of any size that has a layout: each colour lies in a band of heights, and slots are 10
+/// apart.
 pub fn banded_sheet(slots: u32, sites: u32, bounds: &[u32], seed: u64) -> Sheet {
     const WIDTH: u32 = 600;
     let mut random = Random::new(seed);

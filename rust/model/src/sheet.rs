@@ -60,7 +60,7 @@ impl Sheet {
         bounded.map(|bound| u64::from(*bound) + 1).product()
     }
 
-    /// The work words that the maker needs.
+    /// The work words that the maker needs; of a two-sided sheet, which it refuses, what the reader gives.
     pub fn work_words(&self) -> u64 {
         let (places, colours) = (self.slots.len() as u64 + 2, self.bounds.len() as u64 + 1);
         let row = places * colours * self.budgets();

@@ -244,8 +244,8 @@ impl<'a> Checker<'a> {
         }
     }
 
-    /// What an engine says of a record's sheet, checked. A sheet that is refused before it is laid out is not asked about:
-    /// by the reader, or since it is two-sided.
+    /// What an engine says of a record's sheet, checked. A sheet that the reader refuses, or a two-sided one, is not asked
+    /// about.
     pub fn answer(&mut self, source: Source, record: Record, engine: &Engine) -> Checked {
         let sheet = Record { words: split_stored(&record.words).0.to_vec(), claims_no_layout: false, ..record };
         if read(&sheet.words).is_err() {

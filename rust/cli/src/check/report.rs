@@ -102,8 +102,8 @@ fn numbers(checked: &Checked) -> [String; 7] {
     [labels, length, best_labels, best_length, more_labels, more_units, more_mm]
 }
 
-/// The engine's layout beside the best one, on a two-sided sheet alone; none where the sheet is refused, or where there is
-/// nothing to see.
+/// The engine's layout beside the best one, or alone on a two-sided sheet, which has none; no picture where the sheet is
+/// refused, or where there is nothing to see.
 fn picture(checked: &Checked) -> Option<String> {
     if !checked.finding.is_fault() || matches!(checked.finding, Finding::Refused { .. }) {
         return None;

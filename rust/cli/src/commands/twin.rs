@@ -15,16 +15,16 @@ pub const SUBCOMMAND: Subcommand = Subcommand {
     operands: "FILE|-",
     about: "a stored two-sided sheet made one-sided, with its layout",
     text: "\
-Two-sided sheets, whose backbones reach from edge to edge, are read, judged, drawn and converted, but no longer laid out.
-Reads a stored sheet in any form and writes its one-sided twin: the side is another, the length is the true one of the
-same ties on the one-sided sheet, and all else is as it was, names too. The twin of a lawful layout is lawful, has as many
-labels, and is no longer. A one-sided stored sheet comes back as it is.
+Two-sided sheets, whose backbones reach from edge to edge, are read, judged, drawn and converted, but no longer laid
+out. Reads a stored sheet in any form and writes its one-sided twin: the side is another, the length is the true one of
+the same ties on the one-sided sheet, and all else is as it was, names too. The twin of a lawful layout is lawful, has as
+many labels, and is no longer. A one-sided stored sheet comes back as it is.
 
 Whether the twin is the best layout of its sheet is not said here: `backbone check` says it, and `backbone lay-out` lays
 the sheet out anew. Its best layout is never worse than the best two-sided one was.
 
-A stored sheet that is refused gives the line 'refused N' on standard output, in JSON an object, and its meaning, with what
-it comes from, on standard error: 1 to 7 and 11 as the judge refuses it, or 13, the layout breaks a rule.",
+A stored sheet that is refused gives the line 'refused N' on standard output, in JSON an object, and its meaning, with
+what it comes from, on standard error: 1 to 7 and 11 as the judge refuses it, or 13, the layout breaks a rule.",
     settings: &[Setting { name: "--to", value: "FORM", about: "text (where it is not given), words, bin or json" }],
     exits: &[(Exit::Done, "the twin"), (Exit::Found, "refused")],
     run,

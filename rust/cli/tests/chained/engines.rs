@@ -58,6 +58,23 @@ fn shards_of_a_check_are_merged_to_the_whole() {
     assert_eq!((merged.out, merged.said), (whole.out, whole.said));
 }
 
+/// A lawful layout of a two-sided sheet is no finding, also where reports are merged.
+#[test]
+fn lawful_two_sided_layouts_are_merged() {
+    let folder = Folder::new();
+    let sheet =
+        "head two-sided fewest gap 2 width 8\nslot 2\ncolour unbounded\nsite 2 4\nlayout labels 1 length 10\ntie 0\n";
+    let file = folder.write("two-sided.txt", sheet);
+    let report = backbone(&["check", &file, "--format", "tsv"]).ends(0);
+    let merged = backbone(&["merge", "--strict", &folder.write("report.tsv", &report.out)]).ends(0);
+    assert_eq!((&merged.out, &merged.said), (&report.out, &report.said));
+    assert!(
+        merged.out.contains("\tlawful\t") && merged.said.contains("lawful                   1\n"),
+        "{}",
+        merged.said
+    );
+}
+
 #[test]
 fn json_counts_by_depth() {
     let folder = Folder::new();
