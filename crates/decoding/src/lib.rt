@@ -1,5 +1,5 @@
 // The numbers of an accepted sheet in arrays: all that works on a sheet after its refusals works on these. Its functions are internal
-// to judge and maker, which have refused first: each asks for an accepted sheet, or for an array that is long enough.
+// to those that have refused first: each asks for an accepted sheet, or for an array that is long enough.
 ghost use mathlib.Core.Path.{_≡_};
 ghost use mathlib.Core.Bool.{cond};
 ghost use mathlib.Core.List.{_++_};

@@ -11,7 +11,7 @@ use Rattle.labelling.specs.Layout.{layoutPart, judgeFault, judged}
 use Rattle.labelling.specs.Lawful.{Lawful}
 use Rattle.labelling.specs.Twin.{twinFault, twinWords, TwinOf}
 use Rattle.labelling.proofs.Kept.{judged-so}
-use Rattle.labelling.proofs.Twin.{twin-kept}
+use Rattle.labelling.proofs.Twin.{twin-lawful, twin-of-twin, best-not-worse}
 use Rattle.twin.specs.declared.Written.{Written}
 use Rattle.demands.specs.Demands.{WasTwinned, storedSheet, ServedByTwin, TwinPromised}
 
@@ -42,7 +42,7 @@ module _ (ws o : List ℕ) (r : Written) (o' : List ℕ) (m : WasTwinned ws o r 
 
   module _ (h : judgeFault ws ≡ 0) (v : judged ws ≡ 0) (l : length ws ≤ length o) where
     twin-is : TwinOf ws (twinWords ws)
-    twin-is = twin-kept .0 ws h v .0
+    twin-is = twin-lawful ws h v .0
 
     area-is : o' ≡ twinWords ws ++ drop (length ws) o
     area-is = m .1 ∙ rw (fault-none ws o h v l) refl
@@ -88,4 +88,4 @@ served-by-twin ws o r o' m =
     }
 
 pub twin-promised : TwinPromised
-twin-promised = record { served = served-by-twin; again = twin-kept .1; best = twin-kept .2 }
+twin-promised = record { served = served-by-twin; again = twin-of-twin; best = best-not-worse }

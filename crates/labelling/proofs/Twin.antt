@@ -15,13 +15,13 @@ use Rattle.sheet.specs.Sheet.{kindOf, bits, Sheet, headIn, sheetIn, sheetFault}
 use Rattle.sheet.proofs.Accepted.{Sound, sound, some-words}
 use Rattle.labelling.specs.Layout.{Tied, siteAt, heightOf, leftEnd, siteShare, backbones, drops, lengthOf, usedOf, tied, firstNumber, secondNumber, best, firstWord, statedCount, statedLength, layoutTies, isLayout, sheetPart, layoutPart, judgeFault, judged}
 use Rattle.labelling.specs.Lawful.{Ties, Rules, CountsAgainst, Better, IsAnswer, Lawful}
-use Rattle.labelling.specs.Twin.{asOneSided, twinHead, twinSheet, twinLayout, twinWords, TwinOf, TwinLawful, TwinOfTwin, NotWorse, BestNotWorse, TwinKept}
+use Rattle.labelling.specs.Twin.{asOneSided, twinHead, twinSheet, twinLayout, twinWords, TwinOf, TwinLawful, TwinOfTwin, NotWorse, BestNotWorse}
 use Rattle.labelling.proofs.Answer.{answer-is, answer-none}
 use Rattle.labelling.proofs.Judge.{sheet-part, judged-so}
 use Rattle.labelling.proofs.Words.{formed, form, length-low, stated-count, stated-length}
 
 -- THE HEAD without its side bit
-pub head-kind : (w : ℕ) → kindOf (twinHead w) ≡ kindOf w
+head-kind : (w : ℕ) → kindOf (twinHead w) ≡ kindOf w
 head-kind w = omega arith
 
 head-side : (w : ℕ) → bits (twinHead w) 27 1 ≡ 0
@@ -37,17 +37,17 @@ head-width : (w : ℕ) → bits (twinHead w) 0 14 ≡ bits w 0 14
 head-width w = omega arith
 
 -- THE SHEET of the twin is one-sided, and refused where the sheet is
-pub sheet-twin : (ws : List ℕ) → sheetIn (twinSheet ws) ≡ asOneSided (sheetIn ws)
+sheet-twin : (ws : List ℕ) → sheetIn (twinSheet ws) ≡ asOneSided (sheetIn ws)
 sheet-twin ws = let w : ℕ = headIn ws in rw (head-side w, head-aim w, head-gap w, head-width w) refl
 
-pub fault-twin : (ws : List ℕ) → sheetFault (twinSheet ws) ≡ sheetFault ws
+fault-twin : (ws : List ℕ) → sheetFault (twinSheet ws) ≡ sheetFault ws
 fault-twin [] = refl
 fault-twin (w ∷ ws) = rw (head-kind w, head-gap w, head-width w) refl
 
-pub accepted-twin : (ws : List ℕ) → sheetFault ws ≡ 0 → sheetFault (twinSheet ws) ≡ 0
+accepted-twin : (ws : List ℕ) → sheetFault ws ≡ 0 → sheetFault (twinSheet ws) ≡ 0
 accepted-twin ws h = fault-twin ws ∙ h
 
-pub sound-one : (ws : List ℕ) → sheetFault ws ≡ 0 → Sound (asOneSided (sheetIn ws))
+sound-one : (ws : List ℕ) → sheetFault ws ≡ 0 → Sound (asOneSided (sheetIn ws))
 sound-one ws h = subst Sound (sheet-twin ws) (sound (twinSheet ws) (accepted-twin ws h))
 
 -- a one-sided sheet stays what it is
@@ -79,7 +79,7 @@ module _ (s : Sheet) (two : s .isTwoSided ≡ true) (js : List ℕ) where
   left-zero : (k : ℕ) → leftEnd s js k ≡ 0
   left-zero k = rw two refl
 
-  pub rules-one : Rules s js → Rules (asOneSided s) js
+  rules-one : Rules s js → Rules (asOneSided s) js
   rules-one r = record {
     one = r .one;
     two = r .two;
@@ -93,7 +93,7 @@ module _ (s : Sheet) (two : s .isTwoSided ≡ true) (js : List ℕ) where
   backbones-one [] = omega arith
   backbones-one (k ∷ ks) = omega (arith, left-zero k, backbones-one ks)
 
-  pub length-one : lengthOf (asOneSided s) js ≤ lengthOf s js
+  length-one : lengthOf (asOneSided s) js ≤ lengthOf s js
   length-one = omega (arith, backbones-one (usedOf s js), drops-one s (tied s js))
 
   first-one : firstNumber (asOneSided s) js ≤ firstNumber s js
@@ -123,7 +123,7 @@ module _ (s : Sheet) (two : s .isTwoSided ≡ true) (js : List ℕ) where
       go none e = absurd (answer-none (asOneSided s) .0 e js t' (rules-one r))
       go (some ks) e = let a : IsAnswer (asOneSided s) ks = answer-is (asOneSided s) o ks .0 e in (ks, a, not-worse ks (a .first js t' (rules-one r)))
 
-best-not-worse : BestNotWorse
+pub best-not-worse : BestNotWorse
 best-not-worse ws js h two t r = (
   accepted-twin ws h,
   sheet-twin ws,
@@ -156,10 +156,10 @@ module _ (ss b : List ℕ) (h : sheetFault ss ≡ 0) (l : isLayout (sheetIn ss) 
   states-length : statedLength (twinLayout s b) ≡ lengthOf (asOneSided s) js
   states-length = stated-length (statedCount b) (lengthOf (asOneSided s) js) js count-fits length-fits
 
-  pub long-layout : length (twinLayout s b) ≡ length b
+  long-layout : length (twinLayout s b) ≡ length b
   long-layout = omega (arith, length-drop 1 b, formed s b l .long)
 
-  pub long-sheet : length (twinSheet ss) ≡ length ss
+  long-sheet : length (twinSheet ss) ≡ length ss
   long-sheet = omega (arith, length-drop 1 ss, some-words ss h)
 
   form-twin : isLayout (asOneSided s) (twinLayout s b) ≡ true
@@ -217,7 +217,7 @@ twin-same ws h v e =
 pub same-words : (ws : List ℕ) → sheetIn (sheetPart ws) .isTwoSided ≡ false → twinWords ws ≡ ws
 same-words ws e = rw e refl
 
-twin-lawful : TwinLawful
+pub twin-lawful : TwinLawful
 twin-lawful ws h v =
     let j = judged-so .1 ws in
     let a = j .3 .0 h in
@@ -228,8 +228,5 @@ twin-lawful ws h v =
       same-words ws,
     )
 
-twin-of-twin : TwinOfTwin
+pub twin-of-twin : TwinOfTwin
 twin-of-twin ws h v = same-words (twinWords ws) (ap (λ (t : Sheet). t .isTwoSided) (twin-lawful ws h v .0 .sheet))
-
-pub twin-kept : TwinKept
-twin-kept = (twin-lawful, twin-of-twin, best-not-worse)

@@ -92,7 +92,3 @@ BestNotWorse =
     (ws js : List ℕ) → sheetFault ws ≡ 0 → sheetIn ws .isTwoSided ≡ true → Ties (sheetIn ws) js → Rules (sheetIn ws) js →
     (sheetFault (twinSheet ws) ≡ 0) × (sheetIn (twinSheet ws) ≡ asOneSided (sheetIn ws)) ×
     ((ks : List ℕ) × IsAnswer (sheetIn (twinSheet ws)) ks × NotWorse (sheetIn (twinSheet ws)) ks (sheetIn ws) js)
-
--- all three
-abbrev pub TwinKept : Type 0
-TwinKept = TwinLawful × TwinOfTwin × BestNotWorse
