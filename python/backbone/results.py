@@ -20,7 +20,7 @@ class _Numbered(IntEnum):
 
 class Refusal(_Numbered):
     """Why a list of words or an area is refused: the first that applies, by rising number, but 18 is looked for right
-    after 7, and 13 before 9."""
+    after 7, and the twin looks for 9 last."""
 
     NO_HEAD = 1, "the list is empty, or its first word is no head, or its width or gap is 0"
     BAD_WORD = 2, "a word of another kind, out of its order, or with a spare bit set"

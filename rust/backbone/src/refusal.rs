@@ -2,7 +2,7 @@ use crate::numbered::numbered;
 
 numbered! {
     /// Why a list of words, an area or an input is refused. An operation gives the first that applies, by rising number,
-    /// but 18 is looked for right after 7, and 13 before 9.
+    /// but 18 is looked for right after 7, and the twin looks for 9 last.
     ///
     /// ```
     /// use backbone::Refusal;

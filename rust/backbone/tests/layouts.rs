@@ -8,8 +8,8 @@ use model::random::{medium_sheet, small_sheet, Random};
 use model::sheet::{Sheet, UNBOUNDED};
 use model::{maker, rules, search};
 
-const SMALL_SHEETS: usize = 120_000;
-const MEDIUM_SHEETS: usize = 3_000;
+const SMALL_SHEETS: usize = 100_000;
+const MEDIUM_SHEETS: usize = 2_000;
 /// Each test's sheets are shared out among this many threads, each with its own seed.
 const THREADS: usize = 4;
 

@@ -94,7 +94,8 @@ pub fn judge(stored: &[u32]) -> (u8, u8) {
     }
 }
 
-fn verdict(sheet: &Sheet, slot_of: &[usize], stated: (u32, u32)) -> u8 {
+/// The least broken rule of a layout with these ties that states these numbers, 0 if there is none.
+pub fn verdict(sheet: &Sheet, slot_of: &[usize], stated: (u32, u32)) -> u8 {
     let ties = Ties::new(sheet, slot_of);
     match ties.broken() {
         0 if ties.numbers() != stated => 6,

@@ -141,7 +141,8 @@ fn met(recipe: &mut Recipe) -> [bool; 11] {
     let (needed, words) = (sheet.work_words(), sheet.sites.len() as u64 + 1);
     let (short_work, short_answer) = (recipe.lent(needed) < needed, recipe.lent(words) < words);
     recipe.draw(65_536); // what the areas hold before the call
-    // a two-sided sheet is refused whatever is lent
+
+    // A two-sided sheet is refused whatever is lent.
     let (served, found) = (!sheet.two_sided, find(&sheet));
     let lent = served && !short_work && !short_answer;
     let answer = found.as_ref().filter(|_| lent);
