@@ -23,7 +23,7 @@ use Rattle.reader.specs.declared.Sizes.{Sizes}
 use Rattle.reader.specs.Read.{readOf, readPost}
 use Rattle.reader.proofs.Reading.{reading, refusal-is}
 use Rattle.refusals.specs.Wordwise.{capped}
-use Rattle.refusals.specs.Work.{workOf}
+use Rattle.sizes.specs.Work.{workOf}
 use Rattle.reader.proofs.refusal_7.Factors.{capped-same}
 use Rattle.onesided.specs.Laying.{SizesOf, Made}
 

@@ -13,7 +13,7 @@ use reader::Sizes;
 use reader::binding::binding_only;
 use reader::refusal_7::product;
 use refusals::refusal_18::is_two_sided;
-use refusals::sizes::work_for;
+use sizes::work_for;
 use words::body::body_of;
 
 // An accepted one-sided sheet as it was read, its areas long enough: laid out without the bounds that can't bind. These change P alone of

@@ -3,25 +3,10 @@ ghost use mathlib.Core.Path.{_≡_};
 ghost use mathlib.Core.List.{_++_};
 ghost use Prim.Native.Nat.{_≤_};
 ghost use lib.ListN.{length, drop};
-ghost use Rattle.sheet.specs.Binding.{bindingWord, bindingOnly};
+ghost use Rattle.sheet.specs.Binding.{bindingOnly};
 ghost use Rattle.reader.specs.Read.{bindingArray};
-use words::BYTE_TOP;
+use sizes::binding_word;
 use words::MOST_WORDS;
-use words::UNBOUNDED;
-
-// A word that so many sites follow: a bound of at least as many is dropped.
-fn binding_word(w: u32, sites: usize) -> u32
-    ensures { λ r. ⌜ r ≡ bindingWord w sites ⌝ }
-{
-    if words::kind_of(w) != words::COLOUR {
-        return w;
-    }
-    let bound = (w % BYTE_TOP) as usize;
-    if bound < sites {
-        return w;
-    }
-    w / BYTE_TOP * BYTE_TOP + UNBOUNDED
-}
 
 fn binding_into(sheet: &[u32], out: &mut [u32])
     requires { ⌜ length (now sheet) ≤ length (now out) ⌝ }

@@ -2,12 +2,12 @@
 ghost use mathlib.Core.Path.{_≡_};
 ghost use Rattle.sheet.specs.Sheet.{sheetFault};
 ghost use Rattle.reader.specs.Faults.{bodyFault};
+use crate::refusal_1::is_head;
 use crate::refusal_2::in_order;
 use crate::refusal_4::rises;
 use crate::refusal_5::all_inside;
 use crate::refusal_6::ranks_differ;
 use crate::refusal_7::exceeds_budgets;
-use refusals::refusal_1::is_head;
 use refusals::refusal_3::counts_fit;
 use words::body::body_of;
 use words::get;

@@ -1,6 +1,7 @@
 // The reader: the refusal of any list of words, or the sizes of the sheet in it.
 pub mod binding;
 pub mod faults;
+mod refusal_1;
 mod refusal_2;
 mod refusal_4;
 mod refusal_5;
@@ -16,8 +17,8 @@ ghost use Rattle.sheet.specs.Words.{countKind};
 ghost use Rattle.reader.specs.Read.{absent, eightOf, readOf, refusedOf, readPost};
 use crate::faults::sheet_fault;
 use crate::refusal_7::product;
-use refusals::sizes::bound_of;
-use refusals::sizes::work_for;
+use sizes::bound_of;
+use sizes::work_for;
 use words::COLOUR;
 use words::MOST_COLOURS;
 use words::SITE;

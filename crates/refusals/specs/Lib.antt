@@ -1,3 +1,2 @@
 pub mod Wordwise
 pub mod Input
-pub mod Work

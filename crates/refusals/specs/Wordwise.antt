@@ -1,5 +1,5 @@
--- The tests of refusals 2 to 7 and 11 word by word, as the code makes them. Assumes nothing: these are definitions.
--- That they are the tests of `sheetFault` is shown in proofs/Wordwise (4, 5, 6), refusal_2/Order and refusal_7/Factors.
+-- The tests of refusals 1 to 7 and 11 word by word, as the code makes them. Assumes nothing: these are definitions.
+-- That they are the tests of `sheetFault` is shown in reader: proofs/Wordwise (4, 5, 6), refusal_2/Order and refusal_7/Factors.
 use mathlib.Core.Bool.{Bool, true, false, _&&_, _||_, not, cond}
 use mathlib.Core.List.{List, [], _∷_}
 use Prim.Native.Nat.{ℕ, _+_}
@@ -8,6 +8,10 @@ use lib.ListN.{length}
 use Rattle.sheet.specs.Limits.{mostSlots, mostColours, mostSites, mostBudgets, unbounded}
 use Rattle.sheet.specs.Sheet.{bits, kindOf, hasSpare, slotsIn, coloursIn, sitesIn}
 use Rattle.sheet.specs.Words.{rankIn}
+
+-- REFUSAL 1: a head's word: of kind 1, neither its W nor its D is 0
+abbrev pub isHeadWord : (word : ℕ) → Bool
+isHeadWord w = eqb (kindOf w) 1 && not (eqb (bits w 0 14) 0) && not (eqb (bits w 14 12) 0)
 
 -- REFUSAL 2: the stage after a word, from the tests on it: a spare bit, kind 2, stage 0, kind 3, kind 4, stage 1. Stage 2: out of order
 abbrev pub stageBy : (spare slot first colour site second : Bool) → ℕ

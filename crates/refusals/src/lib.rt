@@ -12,4 +12,3 @@ pub mod refusal_4;
 pub mod refusal_5;
 pub mod refusal_6;
 pub mod refusal_7;
-pub mod sizes;

@@ -1,21 +1,17 @@
-// Refusal 1: the list is empty, or its first word is no head, or its width or gap is 0.
+// Refusal 1: the list is empty, or its first word is no head, or its width or gap is 0. The test on a word; of a list: reader, `refusal_1`.
 ghost use mathlib.Core.Path.{_≡_};
-ghost use Rattle.sheet.specs.Sheet.{isHead};
+ghost use Rattle.refusals.specs.Wordwise.{isHeadWord};
 use words::HEAD;
 use words::both;
 use words::gap_field;
 use words::kind_of;
 use words::low_field;
 
-pub fn is_head(sheet: &[u32]) -> bool
-    ensures { λ r. ⌜ r ≡ isHead (now (sheet .entry)) ⌝ }
+pub fn is_head_word(w: u32) -> bool
+    ensures { λ r. ⌜ r ≡ isHeadWord w ⌝ }
 {
-    if sheet.len() == 0 {
-        return false;
-    }
-    let head = sheet[0];
-    let first = kind_of(head) == HEAD;
-    let wide = low_field(head) != 0;
-    let apart = gap_field(head) != 0;
+    let first = kind_of(w) == HEAD;
+    let wide = low_field(w) != 0;
+    let apart = gap_field(w) != 0;
     both(both(first, wide), apart)
 }

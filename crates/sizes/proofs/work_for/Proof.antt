@@ -3,9 +3,9 @@ use mathlib.Core.Path.{refl}
 use Prim.Native.Nat.{_+_}
 use native.Mathlib.Omega.{arith}
 use borrow.Author.Needs.{needs}
-use Rattle.refusals.proofs.sizes.Bounds.{bounds, squares}
-use Rattle.refusals.proofs.sizes.work_for.Statement.{statement}
-use Rattle.refusals.proofs.sizes.work_for.Tie as tie
+use Rattle.sizes.proofs.Bounds.{bounds, squares}
+use Rattle.sizes.proofs.work_for.Statement.{statement}
+use Rattle.sizes.proofs.work_for.Tie as tie
 
 add-strips : tie.Need-add-strips
 add-strips c = search needs

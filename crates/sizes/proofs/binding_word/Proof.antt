@@ -1,8 +1,8 @@
-use Rattle.reader.proofs.binding.Steps.{no-colour, binding, slack}
+use Rattle.sizes.proofs.Binding.{no-colour, binding, slack}
 use native.Mathlib.Omega.{arith}
 use borrow.Author.Needs.{needs}
-use Rattle.reader.proofs.binding.binding_word.Statement.{statement}
-use Rattle.reader.proofs.binding.binding_word.Tie as tie
+use Rattle.sizes.proofs.binding_word.Statement.{statement}
+use Rattle.sizes.proofs.binding_word.Tie as tie
 
 kind-of-requires : tie.Need-kind-of-requires
 kind-of-requires c κs = search needs

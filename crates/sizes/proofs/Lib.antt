@@ -1,0 +1,2 @@
+mod Bounds
+mod Binding
