@@ -61,12 +61,12 @@ class Areas(unittest.TestCase):
             area = dirty(len(stored) + spare)
             self.assertEqual(twin(stored, area), expected)
             self.assertEqual(area, array("I", expected) + dirty(spare))
-        for words, refusal, room in ((stored, Refusal.ANSWER_TOO_SHORT, 12), (stored[:-1], Refusal.BAD_LAYOUT, 13)):
-            area = dirty(room)
+        for words, refusal, lent in ((stored, Refusal.ANSWER_TOO_SHORT, 12), (stored[:-1], Refusal.BAD_LAYOUT, 13)):
+            area = dirty(lent)
             with self.assertRaises(Refused) as raised:
                 twin(words, area)
             self.assertIs(raised.exception.refusal, refusal)
-            self.assertEqual(area, dirty(room))
+            self.assertEqual(area, dirty(lent))
 
     def test_null_pointers(self):
         library, words = _library(), (ctypes.c_uint32 * len(SHEET_A))(*SHEET_A)

@@ -24,8 +24,8 @@ fn any_stored(random: &mut Random) -> Vec<u32> {
 }
 
 /// The plain twin in an area of so many words.
-fn plain_twin(stored: &[u32], room: usize) -> Result<Vec<u32>, u8> {
-    let mut area = vec![0; room];
+fn plain_twin(stored: &[u32], lent: usize) -> Result<Vec<u32>, u8> {
+    let mut area = vec![0; lent];
     match twin::twin(stored, &mut area) {
         (0, written) => Ok(area[..written].to_vec()),
         (refusal, _) => Err(refusal),
@@ -38,9 +38,9 @@ fn twins_are_those_of_the_plain_one() {
     let (mut met, mut changed) = ([0; 14], 0);
     for _ in 0..SHEETS {
         let stored = any_stored(&mut random);
-        let room = (stored.len() + random.below(5) as usize).saturating_sub(2);
-        let made = numbered(twin_in_dirt(&stored, room, &mut random));
-        assert_eq!(made, plain_twin(&stored, room), "{stored:x?}");
+        let lent = (stored.len() + random.below(5) as usize).saturating_sub(2);
+        let made = numbered(twin_in_dirt(&stored, lent, &mut random));
+        assert_eq!(made, plain_twin(&stored, lent), "{stored:x?}");
         changed += usize::from(made.as_ref().is_ok_and(|words| *words != stored));
         met[usize::from(made.err().unwrap_or(0))] += 1;
     }
@@ -56,8 +56,8 @@ fn areas_of_a_twin() {
     let mut random = Random::new(321);
     assert_eq!(twin_in_dirt(&stored, 13, &mut random).as_ref(), Ok(&expected));
     assert_eq!(twin_in_dirt(&stored, 300, &mut random).as_ref(), Ok(&expected));
-    for room in [0, 1, 12] {
-        assert_eq!(twin_in_dirt(&stored, room, &mut random), Err(Refusal::AnswerTooShort));
+    for lent in [0, 1, 12] {
+        assert_eq!(twin_in_dirt(&stored, lent, &mut random), Err(Refusal::AnswerTooShort));
     }
     assert_eq!(twin_words(&stored).as_ref(), Ok(&expected));
     assert_eq!(twin_words(&[]), Err(Refusal::NoHead));
@@ -68,8 +68,8 @@ fn areas_of_a_twin() {
 fn an_unlawful_layout_has_no_twin() {
     for head in [0x10008008, 0x18008008] {
         let stored = [&[head], &SHEET_A[1..], &[0x80400012, 0x90000000, 0x90000000, 0x90000002]].concat();
-        for room in [0, 13] {
-            assert_eq!(twin_in_dirt(&stored, room, &mut Random::new(322)), Err(Refusal::Unlawful));
+        for lent in [0, 13] {
+            assert_eq!(twin_in_dirt(&stored, lent, &mut Random::new(322)), Err(Refusal::Unlawful));
         }
     }
 }

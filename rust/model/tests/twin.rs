@@ -81,11 +81,11 @@ fn refusals_of_the_twin_leave_the_area() {
         if random.one_in(4) {
             model::random::damage(&mut stored, &mut random);
         }
-        let room = stored.len() + random.below(4) as usize - 1;
-        let mut area = vec![DIRT; room];
+        let lent = stored.len() + random.below(4) as usize - 1;
+        let mut area = vec![DIRT; lent];
         let (refusal, written) = twin(&stored, &mut area);
         let expected = match judge(&stored) {
-            (0, 0) if room < stored.len() => 9,
+            (0, 0) if lent < stored.len() => 9,
             (0, 0) => 0,
             (0, _) => 13,
             (refusal, _) => refusal,
