@@ -1,4 +1,4 @@
--- THE ARRAYS OF A SHEET as one value, which a contract names once, and what the functions of the one-sided half ask of them. Definitions.
+-- THE ARRAYS OF A SHEET as one value, which a contract names once, and what the functions that lay a sheet out ask of them. Definitions.
 use mathlib.Core.Path.{_≡_}
 use mathlib.Core.Bool.{true}
 use mathlib.Core.List.{List, []}
