@@ -17,7 +17,7 @@ use Rattle.labelling.proofs.Counted.{all-before, at-taken}
 use Rattle.decoding.specs.Decoding.{shareBy}
 use Rattle.words.specs.declared.tied.Head.{Head}
 use Rattle.layouts.specs.declared.labels.Among.the-variants.{All}
-use Rattle.layouts.specs.Model.{oneIf, amongBy, Low, leastBefore, leftOn, lengthAt}
+use Rattle.layouts.specs.Model.{oneIf, amongBy, Low, leastBefore, leftOn, lengthAt, mostAdded}
 
 -- A TEST OF ALL
 pub all-none : (f : ℕ → Bool) → allBefore f 0 ≡ true
@@ -94,7 +94,7 @@ pub share-by : (h : Head) (a b r : ℕ) → ((s : Sheet) → r ≡ siteShare s a
 unfolding siteShare
 share-by h a b r f = f (record { isTwoSided = h .twosided; isShortest = true; gap = h .gap; width = h .width; slots = []; colours = []; sites = [] })
 
-pub length-le : (h : Head) (hs xs ys cs js : List ℕ) (n : ℕ) → Low h hs ys → (i : ℕ) → lengthAt h hs xs ys cs js n i ≤ 32766
+pub length-le : (h : Head) (hs xs ys cs js : List ℕ) (n : ℕ) → Low h hs ys → (i : ℕ) → lengthAt h hs xs ys cs js n i ≤ mostAdded
 length-le h hs xs ys cs js n l i =
     omega (arith, l .width, l .heights (getD js i 0), l .ys i, cond-le (isFirst (amongBy All cs) js i) (h .width - leftOn h xs js n (getD js i 0)))
   where

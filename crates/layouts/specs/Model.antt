@@ -32,6 +32,10 @@ pub record Low (h : Head) (hs bs : List ℕ) : Type 0 where
   pub heights : (k : ℕ) → getD hs k 0 < numberTop
   pub ys : (i : ℕ) → getD bs i 0 < numberTop
 
+-- the most that a site adds to a length: its label's backbone and its own share, each at most mostNumber
+abbrev pub mostAdded : ℕ
+mostAdded = 32766
+
 -- THE TIED SITE of a number
 abbrev pub tiedAt : (heights xs ys colours ties : List ℕ) → ℕ → TiedSite
 tiedAt hs xs ys cs js i =

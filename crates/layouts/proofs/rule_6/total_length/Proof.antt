@@ -1,6 +1,6 @@
 use Rattle.labelling.specs.Layout.{tiesIn}
 use Rattle.labelling.specs.Counted.{sumBefore}
-use Rattle.layouts.specs.Model.{lengthAt}
+use Rattle.layouts.specs.Model.{lengthAt, mostAdded}
 use Rattle.layouts.proofs.Loops.{sum-none, sum-more, sum-end, sum-le, length-le}
 use mathlib.Core.Path.{_≡_}
 use Prim.Native.Nat.{_-_, _≤_}
@@ -29,7 +29,7 @@ add-n c =
     let a = c .before .before .before .before .before .before .before .before .args in
     let l = c .before .before .loop in
     let f = length-le (a .h) (a .heights .now) (a .xs .now) (a .ys .now) (a .colours .now) (tiesIn (a .ties .now)) (length (a .ties .now)) (c .before .before .before .before .before .before .before .before .pre .1) in
-    omega (arith, l .inv .1, c .before .loop-test .taken, c .before .before .before .before .before .before .before .before .pre .0 .few, c .site-length .ensures, f (l .i), sum-le _ 32766 f (l .i))
+    omega (arith, l .inv .1, c .before .loop-test .taken, c .before .before .before .before .before .before .before .before .pre .0 .few, c .site-length .ensures, f (l .i), sum-le _ mostAdded f (l .i))
 
 add-i : tie.Need-add-i Inv-loop μ-loop
 add-i c = search needs

@@ -6,6 +6,10 @@ use borrow.Author.Needs.{needs}
 use Rattle.twin.proofs.length.one_sided_length.Statement.{statement}
 use Rattle.twin.proofs.length.one_sided_length.Tie as tie
 
+-- where the function starts, seen from where the head is made one-sided
+abbrev begin : tie.After-one-sided → tie.Start
+begin h = h .before .before .before .before .before .before .before .before
+
 heights-of-requires : tie.Need-heights-of-requires
 heights-of-requires c κs = search needs
 
@@ -38,14 +42,14 @@ slice-aggregate-total-length-4 c = search needs
 
 sub-total-length : tie.Need-sub-total-length
 sub-total-length c =
-    let a = c .before .before .before .before .before .before .before .before .before .before .before .before .args in
-    let p = c .before .before .before .before .before .before .before .before .before .before .before .before .pre in
+    let a = begin (c .before .before .before .before) .args in
+    let p = begin (c .before .before .before .before) .pre in
     omega (arith, some (a .sheet .now) (a .layout .now) (p .0) (p .1))
 
 part-total-length-start : tie.Need-part-total-length-start
 part-total-length-start c =
-    let a = c .before .before .before .before .before .before .before .before .before .before .before .before .args in
-    let p = c .before .before .before .before .before .before .before .before .before .before .before .before .pre in
+    let a = begin (c .before .before .before .before) .args in
+    let p = begin (c .before .before .before .before) .pre in
     omega (arith, some (a .sheet .now) (a .layout .now) (p .0) (p .1))
 
 part-total-length-end : tie.Need-part-total-length-end
@@ -54,15 +58,15 @@ part-total-length-end c = search needs
 total-length-requires : tie.Need-total-length-requires
 total-length-requires c κs =
     let h = c .before .before .before .before .before in
-    let a = c .before .before .before .before .before .before .before .before .before .before .before .before .before .args in
-    let p = c .before .before .before .before .before .before .before .before .before .before .before .before .before .pre in
+    let a = begin (c .before .before .before .before .before) .args in
+    let p = begin (c .before .before .before .before .before) .pre in
     (fits (a .sheet .now) (a .layout .now) (p .0) (p .1) _ _ _ _ (h .before .before .before .before .xs-of .ensures) (h .before .before .before .ys-of .ensures) (h .before .before .colours-of .ensures) (part-from (a .layout .now) 1), low-one (a .sheet .now) (a .layout .now) (p .0) (p .1) _ _ _ _ (h .one-sided .ensures) (h .before .head-of .ensures) (h .before .before .before .before .before .heights-of .ensures) (h .before .before .before .ys-of .ensures))
 
 returns : tie.Need-returns
 returns c =
     let h = c .before .before .before .before .before .before in
-    let a = c .before .before .before .before .before .before .before .before .before .before .before .before .before .before .args in
-    let p = c .before .before .before .before .before .before .before .before .before .before .before .before .before .before .pre in
+    let a = begin (c .before .before .before .before .before .before) .args in
+    let p = begin (c .before .before .before .before .before .before) .pre in
     length-found (a .sheet .now) (a .layout .now) (p .0) (p .1) _ _ _ _ _ _ _ _ (h .one-sided .ensures) (h .before .head-of .ensures) (h .before .before .before .before .before .heights-of .ensures) (h .before .before .before .before .xs-of .ensures) (h .before .before .before .ys-of .ensures) (h .before .before .colours-of .ensures) (part-from (a .layout .now) 1) (c .total-length .ensures)
 
 pub one-sided-length-spec : {M : Type 1} → statement M
