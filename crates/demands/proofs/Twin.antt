@@ -5,30 +5,14 @@ use Prim.Native.Nat.{ℕ, _≤_, _<_}
 use native.Mathlib.Omega.{arith}
 use lib.ListN.{length, take, drop}
 use lib.Seq.{take-at, drop-at, length-front, length-take-le}
-use borrow.Author.Tests.{lt-ltb, le-ltb, eq-eqb, ne-eqb}
-use Rattle.lists.proofs.Tests.{by-order, by-equal}
+use borrow.Author.Tests.{ne-eqb}
 use Rattle.labelling.specs.Layout.{layoutPart, judgeFault, judged}
 use Rattle.labelling.specs.Lawful.{Lawful}
 use Rattle.labelling.specs.Twin.{twinFault, twinWords, TwinOf}
 use Rattle.labelling.proofs.Kept.{judged-so}
-use Rattle.labelling.proofs.Twin.{twin-lawful, twin-of-twin, best-not-worse}
+use Rattle.labelling.proofs.Twin.{twin-lawful, twin-of-twin, best-not-worse, fault-judge, fault-unlawful, fault-short, fault-none, by-cause}
 use Rattle.twin.specs.declared.Written.{Written}
 use Rattle.demands.specs.Demands.{WasTwinned, storedSheet, ServedByTwin, TwinPromised}
-
--- THE REFUSAL by its causes
-module _ (ws o : List ℕ) where
-  fault-judge : 0 < judgeFault ws → twinFault ws o ≡ judgeFault ws
-  fault-judge l = rw (ne-eqb (judgeFault ws) 0 (λ e. omega arith)) refl
-
-  module _ (h : judgeFault ws ≡ 0) where
-    fault-unlawful : (judged ws ≡ 0 → ⊥) → twinFault ws o ≡ 13
-    fault-unlawful n = rw (eq-eqb (judgeFault ws) 0 h, ne-eqb (judged ws) 0 n) refl
-
-    fault-short : judged ws ≡ 0 → length o < length ws → twinFault ws o ≡ 9
-    fault-short v l = rw (eq-eqb (judgeFault ws) 0 h, eq-eqb (judged ws) 0 v, lt-ltb (length o) (length ws) l) refl
-
-    fault-none : judged ws ≡ 0 → length ws ≤ length o → twinFault ws o ≡ 0
-    fault-none v l = rw (eq-eqb (judgeFault ws) 0 h, eq-eqb (judged ws) 0 v, le-ltb (length o) (length ws) l) refl
 
 -- ONE CALL
 module _ (ws o : List ℕ) (r : Written) (o' : List ℕ) (m : WasTwinned ws o r o') where
@@ -45,15 +29,15 @@ module _ (ws o : List ℕ) (r : Written) (o' : List ℕ) (m : WasTwinned ws o r 
     twin-is = twin-lawful ws h v .0
 
     area-is : o' ≡ twinWords ws ++ drop (length ws) o
-    area-is = m .1 ∙ rw (fault-none ws o h v l) refl
+    area-is = m .1 ∙ rw (fault-none ws (length o) h v l) refl
 
     front-is : take (length ws) o' ≡ twinWords ws
     front-is = ap (take (length ws)) area-is ∙ take-at (twinWords ws) (drop (length ws) o) (length ws) (twin-is .long)
 
     given : (r .refusal ≡ 0) × (r .written ≡ length ws) × TwinOf ws (take (length ws) o') × (drop (length ws) o' ≡ drop (length ws) o)
     given = (
-      ap (λ (z : Written). z .refusal) (m .0) ∙ fault-none ws o h v l,
-      ap (λ (z : Written). z .written) (m .0) ∙ rw (fault-none ws o h v l) refl,
+      ap (λ (z : Written). z .refusal) (m .0) ∙ fault-none ws (length o) h v l,
+      ap (λ (z : Written). z .written) (m .0) ∙ rw (fault-none ws (length o) h v l) refl,
       subst⁻¹ (TwinOf ws) front-is twin-is,
       ap (drop (length ws)) area-is ∙ drop-at (twinWords ws) (drop (length ws) o) (length ws) (twin-is .long),
     )
@@ -67,22 +51,23 @@ module _ (ws o : List ℕ) (r : Written) (o' : List ℕ) (m : WasTwinned ws o r 
   unlawful-so : judgeFault ws ≡ 0 → (Lawful (storedSheet ws) (layoutPart ws) → ⊥) → judged ws ≡ 0 → ⊥
   unlawful-so h n v = n (judged-so .1 ws .5 h .1 .0 v)
 
+  judge-refuses : (judgeFault ws ≡ 0 → ⊥) → (r .refusal ≡ judgeFault ws) × (r .written ≡ 0) × (o' ≡ o)
+  judge-refuses n = refused (judgeFault ws) (fault-judge ws (length o) n) (omega arith)
+
   kept-long : length o' ≡ length o
   kept-long =
-      by-equal (judgeFault ws) 0
-      (λ h. by-equal (judged ws) 0
-      (λ v. by-order (length ws) (length o)
-      (λ l. given-long h v l)
-      (λ l. ap length (refused 9 (fault-short ws o h v l) (omega arith) .2)))
-      (λ v. ap length (refused 13 (fault-unlawful ws o h v) (omega arith) .2)))
-      (λ h. let p : 0 < judgeFault ws = omega arith in ap length (refused (judgeFault ws) (fault-judge ws o p) p .2))
+      by-cause ws (length o)
+      (λ n. ap length (judge-refuses n .2))
+      (λ h n. ap length (refused 13 (fault-unlawful ws (length o) h n) (omega arith) .2))
+      (λ h v l. ap length (refused 9 (fault-short ws (length o) h v l) (omega arith) .2))
+      (λ h v l. given-long h v l)
 
 pub served-by-twin : (ws o : List ℕ) (r : Written) (o' : List ℕ) → WasTwinned ws o r o' → ServedByTwin ws o r o'
 served-by-twin ws o r o' m =
     record {
-      judge = λ l. refused ws o r o' m (judgeFault ws) (fault-judge ws o l) l;
-      unlawful = λ h n. refused ws o r o' m 13 (fault-unlawful ws o h (unlawful-so ws o r o' m h n)) (omega arith);
-      short = λ h a l. refused ws o r o' m 9 (fault-short ws o h (lawful-so ws o r o' m h a) l) (omega arith);
+      judge = λ l. judge-refuses ws o r o' m (λ e. omega arith);
+      unlawful = λ h n. refused ws o r o' m 13 (fault-unlawful ws (length o) h (unlawful-so ws o r o' m h n)) (omega arith);
+      short = λ h a l. refused ws o r o' m 9 (fault-short ws (length o) h (lawful-so ws o r o' m h a) l) (omega arith);
       given = λ h a l. given ws o r o' m h (lawful-so ws o r o' m h a) l;
       kept = kept-long ws o r o' m;
     }

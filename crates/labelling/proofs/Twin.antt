@@ -1,4 +1,5 @@
--- THE TWIN'S PROMISES, KEPT: ties that are lawful on a two-sided sheet are lawful on its one-sided sheet, and no longer there.
+-- THE TWIN'S PROMISES, KEPT: ties that are lawful on a two-sided sheet are lawful on its one-sided sheet, and their length is not greater
+-- there. And the twin tool's refusal by its causes.
 -- Assumes nothing.
 use mathlib.Core.Path.{_≡_, refl, sym, _∙_, ap, ap₂, subst, subst⁻¹}
 use mathlib.Core.Logic.{inl, inr}
@@ -9,13 +10,14 @@ use Prim.Native.Nat.{ℕ, _+_, _≤_, _<_}
 use native.Mathlib.Omega.{arith}
 use lib.ListN.{length, drop, length-append, length-drop}
 use lib.Seq.{drop-append-seam}
-use Rattle.lists.proofs.Tests.{by-test, by-order}
+use borrow.Author.Tests.{lt-ltb, le-ltb, eq-eqb, ne-eqb}
+use Rattle.lists.proofs.Tests.{by-test, by-order, by-equal}
 use Rattle.sheet.specs.Limits.{lengthTop, countTop}
 use Rattle.sheet.specs.Sheet.{kindOf, bits, Sheet, headIn, sheetIn, sheetFault}
 use Rattle.sheet.proofs.Accepted.{Sound, sound, some-words}
 use Rattle.labelling.specs.Layout.{Tied, siteAt, heightOf, leftEnd, siteShare, backbones, drops, lengthOf, usedOf, tied, firstNumber, secondNumber, best, firstWord, statedCount, statedLength, layoutTies, isLayout, sheetPart, layoutPart, judgeFault, judged}
 use Rattle.labelling.specs.Lawful.{Ties, Rules, CountsAgainst, Better, IsAnswer, Lawful}
-use Rattle.labelling.specs.Twin.{asOneSided, twinHead, twinSheet, twinLayout, twinWords, TwinOf, TwinLawful, TwinOfTwin, NotWorse, BestNotWorse}
+use Rattle.labelling.specs.Twin.{asOneSided, twinHead, twinSheet, twinLayout, twinWords, twinFaultIn, TwinOf, TwinLawful, TwinOfTwin, NotWorse, BestNotWorse}
 use Rattle.labelling.proofs.Answer.{answer-is, answer-none}
 use Rattle.labelling.proofs.Judge.{sheet-part, judged-so}
 use Rattle.labelling.proofs.Words.{formed, form, length-low, stated-count, stated-length}
@@ -230,3 +232,23 @@ twin-lawful ws h v =
 
 pub twin-of-twin : TwinOfTwin
 twin-of-twin ws h v = same-words (twinWords ws) (ap (λ (t : Sheet). t .isTwoSided) (twin-lawful ws h v .0 .sheet))
+
+-- THE TWIN TOOL'S REFUSAL, by its causes
+module _ (ws : List ℕ) (lent : ℕ) where
+  pub fault-judge : (judgeFault ws ≡ 0 → ⊥) → twinFaultIn ws lent ≡ judgeFault ws
+  fault-judge n = rw (ne-eqb (judgeFault ws) 0 n) refl
+
+  module _ (h : judgeFault ws ≡ 0) where
+    pub fault-unlawful : (judged ws ≡ 0 → ⊥) → twinFaultIn ws lent ≡ 13
+    fault-unlawful n = rw (eq-eqb (judgeFault ws) 0 h, ne-eqb (judged ws) 0 n) refl
+
+    pub fault-short : judged ws ≡ 0 → lent < length ws → twinFaultIn ws lent ≡ 9
+    fault-short v l = rw (eq-eqb (judgeFault ws) 0 h, eq-eqb (judged ws) 0 v, lt-ltb lent (length ws) l) refl
+
+    pub fault-none : judged ws ≡ 0 → length ws ≤ lent → twinFaultIn ws lent ≡ 0
+    fault-none v l = rw (eq-eqb (judgeFault ws) 0 h, eq-eqb (judged ws) 0 v, le-ltb lent (length ws) l) refl
+
+  -- the four cases
+  pub by-cause : {P : Type 0} → ((judgeFault ws ≡ 0 → ⊥) → P) → (judgeFault ws ≡ 0 → (judged ws ≡ 0 → ⊥) → P) →
+      (judgeFault ws ≡ 0 → judged ws ≡ 0 → lent < length ws → P) → (judgeFault ws ≡ 0 → judged ws ≡ 0 → length ws ≤ lent → P) → P
+  by-cause a b c d = by-equal (judgeFault ws) 0 (λ h. by-equal (judged ws) 0 (λ v. by-order (length ws) lent (d h v) (c h v)) (b h)) a

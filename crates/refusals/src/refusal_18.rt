@@ -1,4 +1,4 @@
-// Refusal 18: a two-sided sheet, which the maker no longer lays out.
+// Refusal 18: a two-sided sheet, which the maker does not lay out.
 ghost use mathlib.Core.Path.{_≡_};
 ghost use Rattle.sheet.specs.Sheet.{sheetIn};
 

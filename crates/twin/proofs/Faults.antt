@@ -1,14 +1,14 @@
 -- The twin tool's refusals, one after the other, and what it gives with each and without. Assumes nothing.
 use mathlib.Core.Path.{_≡_, refl, sym, _∙_, ap}
-use mathlib.Core.Bool.{true, false, not, cond}
+use mathlib.Core.Bool.{true, false}
 use mathlib.Core.List.{List, _++_}
 use Prim.Native.Nat.{ℕ, _≤_, _<_}
 use native.Mathlib.Omega.{arith}
-use lib.Dec.{ltb, eqb}
+use lib.Dec.{eqb}
 use lib.ListN.{length, drop}
-use borrow.Author.Tests.{eq-eqb, ne-eqb, lt-ltb, le-ltb}
-use Rattle.lists.proofs.Tests.{by-equal, by-order}
+use borrow.Author.Tests.{eq-eqb, ne-eqb}
 use Rattle.labelling.specs.Layout.{judgeFault, judged}
+use Rattle.labelling.proofs.Twin.{fault-judge, fault-unlawful, fault-short, fault-none, by-cause}
 use Rattle.labelling.specs.Twin.{twinWords, twinFaultIn, twinFault, twinArea}
 use Rattle.judge.specs.declared.Verdict.{Verdict}
 use Rattle.judge.specs.Judge.{judgePost}
@@ -24,36 +24,30 @@ module _ (ws : List ℕ) (lent : ℕ) (v : Verdict) (e : v ≡ judgePost ws) whe
   rule-is z = ap (λ (u : Verdict). u .rule) e ∙ rw (eq-eqb (judgeFault ws) 0 (sym refusal-is ∙ z)) refl
 
   pub judge-refuses : (v .refusal ≡ 0 → ⊥) → v .refusal ≡ twinFaultIn ws lent
-  judge-refuses n = refusal-is ∙ rw (ne-eqb (judgeFault ws) 0 (λ q. n (refusal-is ∙ q))) refl
+  judge-refuses n = refusal-is ∙ sym (fault-judge ws lent (λ q. n (refusal-is ∙ q)))
 
   module _ (z : v .refusal ≡ 0) where
-    none : eqb (judgeFault ws) 0 ≡ true
-    none = eq-eqb (judgeFault ws) 0 (sym refusal-is ∙ z)
+    none : judgeFault ws ≡ 0
+    none = sym refusal-is ∙ z
 
     pub unlawful : (v .rule ≡ 0 → ⊥) → 13 ≡ twinFaultIn ws lent
-    unlawful n = rw (none, ne-eqb (judged ws) 0 (λ q. n (rule-is z ∙ q))) refl
+    unlawful n = sym (fault-unlawful ws lent none (λ q. n (rule-is z ∙ q)))
 
     module _ (k : v .rule ≡ 0) where
-      lawful : eqb (judged ws) 0 ≡ true
-      lawful = eq-eqb (judged ws) 0 (sym (rule-is z) ∙ k)
-
       pub too-short : lent < length ws → 9 ≡ twinFaultIn ws lent
-      too-short l = rw (none, lawful, lt-ltb lent (length ws) l) refl
+      too-short l = sym (fault-short ws lent none (sym (rule-is z) ∙ k) l)
 
       pub long-enough : length ws ≤ lent → 0 ≡ twinFaultIn ws lent
-      long-enough l = rw (none, lawful, le-ltb lent (length ws) l) refl
+      long-enough l = sym (fault-none ws lent none (sym (rule-is z) ∙ k) l)
 
 -- nothing is refused: the judge refuses nothing and the area is long enough
 pub unrefused : (ws : List ℕ) (lent : ℕ) → twinFaultIn ws lent ≡ 0 → (judgeFault ws ≡ 0) × (length ws ≤ lent)
-unrefused ws lent = go (judgeFault ws) (judged ws) (length ws)
-  where
-    go : (f k n : ℕ) → _≡_ {A = ℕ} (cond (not (eqb f 0)) f (cond (not (eqb k 0)) 13 (cond (ltb lent n) 9 0))) 0 → (f ≡ 0) × (n ≤ lent)
-    go f k n h =
-        by-equal f 0
-        (λ e. by-equal k 0
-        (λ q. by-order n lent (λ l. (e, l)) (λ l. absurd (omega (arith, rw (eq-eqb f 0 e, eq-eqb k 0 q, lt-ltb lent n l) at h))))
-        (λ q. absurd (omega (arith, rw (eq-eqb f 0 e, ne-eqb k 0 q) at h))))
-        (λ e. absurd (e (rw (ne-eqb f 0 e) at h)))
+unrefused ws lent z =
+    by-cause ws lent
+    (λ n. absurd (n (sym (fault-judge ws lent n) ∙ z)))
+    (λ h n. absurd (omega (arith, fault-unlawful ws lent h n)))
+    (λ h v l. absurd (omega (arith, fault-short ws lent h v l)))
+    (λ h v l. (h, l))
 
 -- WHAT IS GIVEN: with a refusal nothing is written
 module _ (ws o : List ℕ) (r : ℕ) (e : r ≡ twinFaultIn ws (length o)) where

@@ -1,6 +1,6 @@
--- `refusals::sizes::work_for` meets its contract.
-use mathlib.Core.Path.{refl}
-use Prim.Native.Nat.{_+_}
+-- `work_for` meets its contract.
+use mathlib.Core.Path.{refl, ap, _∙_}
+use Prim.Native.Nat.{ℕ, _+_, _*_}
 use native.Mathlib.Omega.{arith}
 use borrow.Author.Needs.{needs}
 use Rattle.sizes.proofs.Bounds.{bounds, squares}
@@ -42,7 +42,8 @@ mul-result-2 c =
 
 returns-2 : tie.Need-returns-2
 returns-2 c =
-    let a = c .before .args in rw (c .if1 .left, squares (a .m + 2) (a .c + 1)) refl
+    let a = c .before .args in
+    ap (λ (n : ℕ). n * (a .n + 1) * a .p) (squares (a .m + 2) (a .c + 1)) ∙ rw (c .if1 .left) refl
 
 pub work-for-spec : {M : Type 1} → statement M
 work-for-spec =

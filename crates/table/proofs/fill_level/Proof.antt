@@ -19,6 +19,10 @@ Inv-loop work₀ q heights bounds parts counts left s base low ends above₀ wor
 abbrev μ-loop : tie.MeasureT-loop
 μ-loop work₀ q heights bounds parts counts left s base low ends above₀ work above = endPlace (q .colours) (length heights + 1) 0 - endPlace (q .colours) (above .slot) (above .colour)
 
+-- where the function starts, seen from where the rows below an end are filled
+abbrev begin : tie.After-fill-below Inv-loop μ-loop → tie.Start Inv-loop μ-loop
+begin b = b .before .before .before .before .before .before .before .before .before .before .before
+
 cast-ends : tie.Need-cast-ends Inv-loop μ-loop
 cast-ends c = search needs
 
@@ -38,19 +42,19 @@ fill-below-requires c κs =
 
 next-end-requires : tie.Need-next-end-requires Inv-loop μ-loop
 next-end-requires c κs =
-    let p = c .before .before .before .before .before .before .before .before .before .before .before .before .before .pre in
+    let p = begin (c .before .before) .pre in
     let l = c .before .before .before .before .before .before .loop in
     (p .ready .sheet .fewColours, omega (arith, c .before .before .before .before .if1 .taken, p .ready .sheet .fewSlots), l .inv .0)
 
 loop-less : tie.Need-loop-less Inv-loop μ-loop
 loop-less c =
     let l = c .before .before .before .before .before .before .before .loop in
-    omega (arith, c .next-end .ensures .1, later-end (c .before .before .before .before .before .before .before .before .before .before .before .before .before .before .args .q .colours) (l .above .slot) (l .above .colour) (length (c .before .before .before .before .before .before .before .before .before .before .before .before .before .before .args .heights .now) + 1) 0 (l .inv .0) (omega (arith, c .before .before .before .before .before .if1 .taken)))
+    omega (arith, c .next-end .ensures .1, later-end (begin (c .before .before .before) .args .q .colours) (l .above .slot) (l .above .colour) (length (begin (c .before .before .before) .args .heights .now) + 1) 0 (l .inv .0) (omega (arith, c .before .before .before .before .before .if1 .taken)))
 
 loop-again : tie.Need-loop-again Inv-loop μ-loop
 loop-again c =
-    let p = c .before .before .before .before .before .before .before .before .before .before .before .before .before .before .pre in
-    let a = c .before .before .before .before .before .before .before .before .before .before .before .before .before .before .args in
+    let p = begin (c .before .before .before) .pre in
+    let a = begin (c .before .before .before) .args in
     let l = c .before .before .before .before .before .before .before .loop in
     let f = c .before .before .before .fill-below in
     let e = c .next-end .ensures in

@@ -17,7 +17,7 @@ pub enum Finding {
     Best,
     /// Lawful, with the count and length of the best, but not the first in the order; where it first differs.
     Equal { site: usize, slot: u8, first: u8 },
-    /// Lawful, on a two-sided sheet: none is laid out any more, so that it is best is not said.
+    /// Lawful, on a two-sided sheet: these are not laid out, so that it is best is not said.
     Lawful,
     /// Lawful, and worse than the best.
     NotBest(Difference),
@@ -273,7 +273,7 @@ impl<'a> Checker<'a> {
         let (sheet_words, layout_words) = split_stored(&record.words);
         let given = Layout::from_words(layout_words);
         let (best, finding) = match self.area.lay_out(sheet_words) {
-            Err(NotLaidOut::Refused(Refusal::TwoSided)) => (None, two_sided(&record, given.as_ref())),
+            Err(NotLaidOut::Refused(Refusal::TwoSided)) => (None, two_sided(&source, &record, given.as_ref())),
             Err(NotLaidOut::Refused(refusal)) if refusal != Refusal::NoLayout => (None, refused(sheet_words, refusal)),
             Err(stopped @ NotLaidOut::NoMemory { .. }) => {
                 (None, Finding::Unreadable(Failure::about(&source, &stopped)))
@@ -305,14 +305,16 @@ fn refused(words: &[u32], refusal: Refusal) -> Finding {
 }
 
 /// What is found of an accepted two-sided sheet: its layout is judged, and compared with no other.
-fn two_sided(record: &Record, given: Option<&Layout>) -> Finding {
+fn two_sided(source: &Source, record: &Record, given: Option<&Layout>) -> Finding {
     if record.claims_no_layout {
         return refused(&record.words, Refusal::TwoSided);
     }
     match (judge(&record.words), given) {
         (Err(refusal), _) => refused(&record.words, refusal),
         (Ok(Some(rule)), Some(given)) => unlawful(&record.words, given, rule),
-        (Ok(_), _) => Finding::Lawful,
+        (Ok(None), Some(_)) => Finding::Lawful,
+        // The library judged a layout that is not there.
+        (Ok(_), None) => contradicted(source),
     }
 }
 
@@ -326,8 +328,12 @@ fn finding(source: &Source, record: &Record, given: Option<&Layout>, best: Optio
         (Ok(Some(rule)), Some(given), _) => unlawful(&record.words, given, rule),
         (Ok(None), Some(given), Some(best)) => compared(&record.words, given, best),
         // The library judged a layout lawful, and found none for its sheet; or judged one that is not there.
-        (Ok(_), _, _) => Finding::Unreadable(Failure::about(source, &"the judge and the maker contradict each other")),
+        (Ok(_), _, _) => contradicted(source),
     }
+}
+
+fn contradicted(source: &Source) -> Finding {
+    Finding::Unreadable(Failure::about(source, &"the judge and the maker contradict each other"))
 }
 
 fn unlawful(words: &[u32], given: &Layout, rule: Rule) -> Finding {

@@ -7,6 +7,10 @@ use borrow.Author.Needs.{needs}
 use Rattle.layouts.proofs.rule_6.site_length.Statement.{statement}
 use Rattle.layouts.proofs.rule_6.site_length.Tie as tie
 
+-- where the function starts, seen from where it is known whether the site is the first of its label
+abbrev begin : tie.After-is-first → tie.Start
+begin f = f .before .before .before .before .before .before .before .before .before .before
+
 slot-at-requires : tie.Need-slot-at-requires
 slot-at-requires c κs =
     c .before .before .before .before .before .pre .1 .1
@@ -33,26 +37,26 @@ is-first-requires c κs =
 
 returns : tie.Need-returns
 returns c =
-    let a = c .before .before .before .before .before .before .before .before .before .before .before .args in
+    let a = begin (c .before) .args in
     length-other (a .h) (a .heights .now) (a .xs .now) (a .ys .now) (a .colours .now) _ _ (a .i) (c .before .before .before .before .before .slot-at .ensures) (c .before .before .before .before .get .ensures) (c .before .before .share-of .ensures) (c .before .is-first .ensures) (not-true _ (c .if1 .taken))
 
 left-end-requires : tie.Need-left-end-requires
 left-end-requires c κs =
-    c .before .before .before .before .before .before .before .before .before .before .before .pre .0 .xs-long
+    begin (c .before) .pre .0 .xs-long
 
 monus-requires : tie.Need-monus-requires
 monus-requires c κs = search needs
 
 add-result : tie.Need-add-result
 add-result c =
-    let a = c .before .before .before .before .before .before .before .before .before .before .before .before .before .args in
-    let p = c .before .before .before .before .before .before .before .before .before .before .before .before .before .pre .1 .0 in
+    let a = begin (c .before .before .before) .args in
+    let p = begin (c .before .before .before) .pre .1 .0 in
     let s = share-low (a .h) (a .heights .now) (a .xs .now) (a .ys .now) (a .colours .now) (tiesIn (a .ties .now)) (length (a .ties .now)) (a .i) (c .before .before .before .before .before .before .before .slot-at .ensures) (c .before .before .before .before .before .before .get .ensures) (c .before .before .before .before .share-of .ensures) p in
     omega (arith, s, c .monus .ensures, p .width)
 
 returns-2 : tie.Need-returns-2
 returns-2 c =
-    let a = c .before .before .before .before .before .before .before .before .before .before .before .before .before .args in
+    let a = begin (c .before .before .before) .args in
     length-first (a .h) (a .heights .now) (a .xs .now) (a .ys .now) (a .colours .now) _ _ (a .i) (c .before .before .before .before .before .before .before .slot-at .ensures) (c .before .before .before .before .before .before .get .ensures) (c .before .before .before .before .share-of .ensures) (c .before .before .before .is-first .ensures) (not-false _ (c .before .before .if1 .left)) (c .before .left-end .ensures) (c .monus .ensures)
 
 pub site-length-spec : {M : Type 1} → statement M

@@ -21,6 +21,10 @@ Inv-loop parts counts work base q labels v acc₀ m a₀ ca₀ i₀ acc a ca i =
 abbrev μ-loop : tie.MeasureT-loop
 μ-loop parts counts work base q labels v acc₀ m a₀ ca₀ i₀ acc a ca i = length labels - i
 
+-- where the function starts, seen from where the last row is joined
+abbrev begin : tie.After-join-row Inv-loop μ-loop → tie.Start Inv-loop μ-loop
+begin j = j .before .before .before .before .before .before .before .before .before .before
+
 loop-holds : tie.Need-loop-holds Inv-loop μ-loop
 loop-holds c =
     folding-none _ _ _ _ _ _ _ _ (c .before .before .before .before .before .pre .1 .0)
@@ -98,12 +102,12 @@ join-row-requires c κs =
 same-length : tie.Need-same-length Inv-loop μ-loop
 same-length c =
     let f = c .before .before .before .before .before .before .before .loop .inv in
-    c .before .before .before .join-row .kept .1 .1 .0 ∙ f .long ∙ sym (c .before .before .before .before .before .before .before .before .before .before .before .before .before .pre .1 .0)
+    c .before .before .before .join-row .kept .1 .1 .0 ∙ f .long ∙ sym (begin (c .before .before .before) .pre .1 .0)
 
 returns : tie.Need-returns Inv-loop μ-loop
 returns c =
     let e = rw (c .before .before .before .before .before .row-start .ensures) at (c .before .before .before .join-row .ensures) in
-    ap (λ (l : List ℕ). getD l (c .before .before .before .before .before .before .before .before .before .before .before .before .before .args .v) 0) (e ∙ (folding-all _ _ _ _ _ _ _ _ _ _ _ _ (c .before .before .before .before .before .before .before .loop .inv) (c .before .before .before .before .before .before .loop-test .left)))
+    ap (λ (l : List ℕ). getD l (begin (c .before .before .before) .args .v) 0) (e ∙ (folding-all _ _ _ _ _ _ _ _ _ _ _ _ (c .before .before .before .before .before .before .before .loop .inv) (c .before .before .before .before .before .before .loop-test .left)))
 
 mul-result : tie.Need-mul-result Inv-loop μ-loop
 mul-result c = search needs
