@@ -4,24 +4,12 @@ mod common;
 
 use backbone::{judge, lay_out, twin_words, Refusal, Side, Stored};
 use common::{numbered, twin_in_dirt, SHEET_A};
-use model::random::{damage, invented_layout, small_sheet, Random};
+use model::random::{any_stored, small_sheet, Random};
 use model::rules::layout_words;
 use model::sheet::Sheet;
 use model::{search, twin};
 
 const SHEETS: usize = 100_000;
-
-/// A stored sheet of either side: the best layout of a search, an invented one, or a damaged one.
-fn any_stored(random: &mut Random) -> Vec<u32> {
-    let sheet = small_sheet(random);
-    let found = if random.one_in(4) { search::find(&sheet) } else { None };
-    let layout = found.map_or_else(|| invented_layout(&sheet, random), |found| layout_words(&sheet, &found.slot_of));
-    let mut stored = [sheet.words(), layout].concat();
-    for _ in 0..random.pick(&[0, 0, 0, 1, 2]) {
-        damage(&mut stored, random);
-    }
-    stored
-}
 
 /// The plain twin in an area of so many words.
 fn plain_twin(stored: &[u32], lent: usize) -> Result<Vec<u32>, u8> {

@@ -3,9 +3,8 @@
 mod common;
 
 use common::{examples, run, shell, stored_a, SHEET_A};
-use model::random::{damage, invented_layout, small_sheet, Random};
-use model::rules::layout_words;
-use model::{search, twin};
+use model::random::{any_stored, Random};
+use model::twin;
 use sheet::{Form, Record};
 
 const FORMS: [(&str, Form); 4] =
@@ -75,22 +74,11 @@ fn refusals() {
     }
 }
 
-/// A stored sheet in hexadecimal words, lawful for the most part.
-fn any_stored(random: &mut Random) -> Vec<u32> {
-    let sheet = small_sheet(random);
-    let layout = search::find(&sheet).map(|found| layout_words(&sheet, &found.slot_of));
-    let mut words = [sheet.words(), layout.unwrap_or_else(|| invented_layout(&sheet, random))].concat();
-    if random.one_in(4) {
-        damage(&mut words, random);
-    }
-    words
-}
-
 #[test]
 fn twins_are_those_of_the_plain_model() {
     let mut random = Random::new(120);
     let (mut changed, mut refused) = (0, 0);
-    for _ in 0..400 {
+    for _ in 0..1_000 {
         let words = any_stored(&mut random);
         let run =
             run(["twin", "--to", "words", "-"], &sheet::write(&Record::of_words(words.clone()), Form::Words).unwrap());

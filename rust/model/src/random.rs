@@ -236,6 +236,18 @@ fn stored_sheet(random: &mut Random) -> Vec<u32> {
     stored
 }
 
+/// A stored sheet of either side: the best layout of a search, an invented one, or a damaged one.
+pub fn any_stored(random: &mut Random) -> Vec<u32> {
+    let sheet = small_sheet(random);
+    let found = if random.one_in(4) { crate::search::find(&sheet) } else { None };
+    let layout = found.map_or_else(|| invented_layout(&sheet, random), |found| layout_words(&sheet, &found.slot_of));
+    let mut stored = [sheet.words(), layout].concat();
+    for _ in 0..random.pick(&[0, 0, 0, 1, 2]) {
+        damage(&mut stored, random);
+    }
+    stored
+}
+
 /// Holds a judge to the plain one on so many stored sheets, among which each rule and each refusal is met.
 pub fn hold_judge(judge: impl Fn(&[u32]) -> (u8, u8), sheets: usize, seed: u64) {
     let mut random = Random::new(seed);
