@@ -48,14 +48,14 @@ pub fn is_far(q: Measures, heights: &[u32], j: u32, e: u32, k: u32, c: u32) -> b
     if heights.len() <= i as usize {
         return true;
     }
-    at_most(q.gap, apart_of(get(heights, i), get(heights, k)))
+    at_most(q.head.gap, apart_of(get(heights, i), get(heights, k)))
 }
 
 // A label at a height is clear of a site of height y.
 fn is_clear_at(q: Measures, height: u32, y: u32) -> bool
-    ensures { λ r. ⌜ r ≡ leb (q .gap) (apart height y) ⌝ }
+    ensures { λ r. ⌜ r ≡ leb (q .head .gap) (apart height y) ⌝ }
 {
-    at_most(q.gap, apart_of(height, y))
+    at_most(q.head.gap, apart_of(height, y))
 }
 
 // The edge or label j is clear of the height y.

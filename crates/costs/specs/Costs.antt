@@ -11,14 +11,14 @@ stepTop = 65536
 
 -- count and length in one word, by the aim
 abbrev pub wordBy : Measures → (count size : ℕ) → ℕ
-wordBy q c l = cond (q .shortest) (l * countLimit + c) (c * lengthLimit + l)
+wordBy q c l = cond (q .head .shortest) (l * countLimit + c) (c * lengthLimit + l)
 
 -- count and length in a cost
 abbrev pub countBy : Measures → (cost : ℕ) → ℕ
-countBy q w = cond (q .shortest) (w % countLimit) (w / lengthLimit)
+countBy q w = cond (q .head .shortest) (w % countLimit) (w / lengthLimit)
 
 abbrev pub lengthBy : Measures → (cost : ℕ) → ℕ
-lengthBy q w = cond (q .shortest) (w / countLimit) (w % lengthLimit)
+lengthBy q w = cond (q .head .shortest) (w / countLimit) (w % lengthLimit)
 
 -- a layout's first word, by its cost
 abbrev pub firstWordBy : Measures → (cost : ℕ) → ℕ

@@ -20,7 +20,7 @@ pub fn cost_word(q: Measures, count: u32, length: u32) -> u32
     requires { ⌜ (count < 2) × (length < stepTop) ⌝ }
     ensures { λ r. ⌜ r ≡ wordBy q count length ⌝ }
 {
-    if q.shortest {
+    if q.head.shortest {
         return length * COUNT_LIMIT + count;
     }
     count * LENGTH_LIMIT + length
@@ -30,7 +30,7 @@ pub fn cost_word(q: Measures, count: u32, length: u32) -> u32
 pub fn first_word(q: Measures, cost: u32) -> u32
     ensures { λ r. ⌜ r ≡ firstWordBy q cost ⌝ }
 {
-    if q.shortest {
+    if q.head.shortest {
         return LAYOUT_KIND + cost % COUNT_LIMIT * LENGTH_TOP + cost / COUNT_LIMIT;
     }
     LAYOUT_KIND + cost / LENGTH_LIMIT * LENGTH_TOP + cost % LENGTH_LIMIT

@@ -21,13 +21,14 @@ use words::SLOT;
 use words::tied::Head;
 ghost use Rattle.lists.specs.Arrays.{padded};
 
-// Side, gap and width.
+// Side, aim, gap and width: after the refusals the head is taken apart nowhere else.
 pub fn head_of(sheet: &[u32]) -> Head
     ensures { λ r. ⌜ r ≡ headBy (sheetIn (now (sheet .entry))) ⌝ }
 {
     let w = words::get(sheet, 0);
     Head {
         twosided: words::same(words::side_bit(w), 1),
+        shortest: words::same(words::aim_bit(w), 1),
         gap: words::gap_field(w),
         width: words::low_field(w),
     }

@@ -10,11 +10,11 @@ use areas::zero_part;
 use arrays::Measures;
 use arrays::draws_of;
 use arrays::gathered_of;
-use arrays::measures_of;
 use arrays::order_of;
 use arrays::radices_of;
 use decoding::bounds_of;
 use decoding::colours_of;
+use decoding::head_of;
 use decoding::heights_of;
 use decoding::xs_of;
 use decoding::ys_of;
@@ -99,7 +99,11 @@ fn lay_sites(
     requires { ⌜ RankedSites (sheetIn (now sheet)) (now xs) (now ys) (now colours) (now order) ⌝ }
     ensures { λ r. ⌜ Made (now (sheet .entry)) (now (work .entry)) (now (out .entry)) r (now (work .exit)) (now (out .exit)) ⌝ }
 {
-    let q = measures_of(sheet, colour_count, budgets);
+    let q = Measures {
+        head: head_of(sheet),
+        colours: colour_count,
+        budgets: budgets,
+    };
     let heights = heights_of(sheet);
     let bounds = bounds_of(sheet);
     let count = colour_count as usize;

@@ -67,4 +67,4 @@ module _ (q : Measures) (hs bs : List ℕ) (p : Strip) (s : Point) where
 
   -- a join costs less than none
   pub join-low : (k : ℕ) → OfSheet (onSlots q hs) → SiteIn q s → joinCost q hs s k < topWord
-  join-low k o i = by-test (q .shortest) (λ e. rw e (omega (arith, o .heightLow k, i .yLow))) (λ e. rw e (omega (arith, o .heightLow k, i .yLow)))
+  join-low k o i = by-test (q .head .shortest) (λ e. rw e (omega (arith, o .heightLow k, i .yLow))) (λ e. rw e (omega (arith, o .heightLow k, i .yLow)))

@@ -48,7 +48,7 @@ pub record WindowOf (S : Slots) (p : Strip) (s : Point) (w : Window) : Type 0 wh
 
 -- what a step costs that opens a label, and one that joins it
 abbrev pub openCost : Measures → (heights : List ℕ) → Point → (slot : ℕ) → ℕ
-openCost q hs s k = wordBy q 1 (q .width - s .x + apart (getD hs k 0) (s .y))
+openCost q hs s k = wordBy q 1 (q .head .width - s .x + apart (getD hs k 0) (s .y))
 
 abbrev pub joinCost : Measures → (heights : List ℕ) → Point → (slot : ℕ) → ℕ
 joinCost q hs s k = wordBy q 0 (apart (getD hs k 0) (s .y))

@@ -145,7 +145,11 @@ pub fn open_cost(q: Measures, heights: &[u32], s: Site, k: u32) -> u32
     requires { ⌜ OfSheet (onSlots q (now heights)) × SiteIn q (pointOf s) ⌝ }
     ensures { λ r. ⌜ r ≡ openCost q (now (heights .entry)) (pointOf s) k ⌝ }
 {
-    cost_word(q, 1, monus(q.width, s.x) + apart_of(get(heights, k), s.y))
+    cost_word(
+        q,
+        1,
+        monus(q.head.width, s.x) + apart_of(get(heights, k), s.y),
+    )
 }
 
 fn join_cost(q: Measures, heights: &[u32], s: Site, k: u32) -> u32

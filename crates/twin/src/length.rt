@@ -19,6 +19,7 @@ fn one_sided(h: Head) -> Head
 {
     Head {
         twosided: false,
+        shortest: h.shortest,
         gap: h.gap,
         width: h.width,
     }

@@ -12,9 +12,10 @@ pub struct TiedSite {
     pub height: u32,
 }
 
-// What the head says.
+// What the head says: side, aim, gap and width.
 pub struct Head {
     pub twosided: bool,
+    pub shortest: bool,
     pub gap: u32,
     pub width: u32,
 }

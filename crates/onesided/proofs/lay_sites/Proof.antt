@@ -27,14 +27,14 @@ radices-are c = radices (c .before .before .before .before .before .before .befo
 draws-are : (c : tie.After-draws-of) → IsFront (c .draws-of .result) (c .before .before .before .before .before .before .before .before .before .before .before .before .before .args .colour-count) (drawsList (sheetIn (c .before .before .before .before .before .before .before .before .before .before .before .before .before .args .sheet .now)))
 draws-are c = draws (c .before .before .before .before .before .before .before .before .before .before .before .before .before .args .sheet .now) (c .before .before .before .before .before .before .before .before .before .before .before .before .before .pre .0 .takes .1) (c .before .before .before .bounds-of .result) (c .draws-of .result) (c .before .before .before .before .before .before .before .before .before .before .before .before .before .args .colour-count) (bounds-are (c .before .before .before) .0) (c .before .before .before .before .before .before .before .before .before .before .before .before .before .pre .0 .sizes .1) (c .draws-of .ensures)
 
-measures-are : (c : tie.After-measures-of) → c .measures-of .result ≡ measuresOf (sheetIn (c .before .before .before .before .before .before .before .before .args .sheet .now))
-measures-are c = c .measures-of .ensures ∙ rw (c .before .before .before .before .before .before .before .before .pre .0 .sizes .1, c .before .before .before .before .before .before .before .before .pre .0 .sizes .3)
+measures-are : (c : tie.After-head-of) → record { head = c .head-of .result; colours = c .before .before .before .before .before .before .before .before .args .colour-count; budgets = c .before .before .before .before .before .before .before .before .args .budgets } ≡ measuresOf (sheetIn (c .before .before .before .before .before .before .before .before .args .sheet .now))
+measures-are c = rw (c .head-of .ensures, c .before .before .before .before .before .before .before .before .pre .0 .sizes .1, c .before .before .before .before .before .before .before .before .pre .0 .sizes .3)
 
 -- where the function starts, seen from the call of `lay_ranked`; the arrays there are the sheet's
 abbrev begin : tie.After-lay-ranked-arg2 → tie.Start
 begin c = c .before .before .before .before .before .before .before .before .before .before .before .before .before .before .before .before .before .before
 
-sheet-is : (c : tie.After-lay-ranked-arg2) → (let a = begin c .args in given (c .before .before .before .before .before .before .before .before .before .before .measures-of .result) (take (a .slots) (c .before .before .before .before .before .before .before .before .before .heights-of .result)) (take (a .colour-count) (c .before .before .before .before .before .before .before .before .bounds-of .result))
+sheet-is : (c : tie.After-lay-ranked-arg2) → (let a = begin c .args in given (record { head = c .before .before .before .before .before .before .before .before .before .before .head-of .result; colours = a .colour-count; budgets = a .budgets }) (take (a .slots) (c .before .before .before .before .before .before .before .before .before .heights-of .result)) (take (a .colour-count) (c .before .before .before .before .before .before .before .before .bounds-of .result))
     (take (a .colour-count) (c .before .before .before .before .before .before .radices-of .result)) (take (a .colour-count) (c .before .before .before .before .before .draws-of .result)) (a .xs .now) (a .ys .now) (a .colours .now) (a .order .now) [] [] ≡ arraysOf (sheetIn (a .sheet .now)))
 sheet-is c =
     arrays-are _ (measures-are (c .before .before .before .before .before .before .before .before .before .before)) (heights-are (c .before .before .before .before .before .before .before .before .before) .0) (bounds-are (c .before .before .before .before .before .before .before .before) .0) (radices-are (c .before .before .before .before .before .before) .0) (draws-are (c .before .before .before .before .before) .0) (begin c .pre .1)
@@ -92,8 +92,8 @@ returns c =
     let e = c .before .before .before .before .lay-ranked .ensures in
     record { fault-is = e .0 ∙ m .fault-is; work-is = e .1 .0 ∙ m .work-is; out-is = e .1 .1 ∙ m .out-is }
 
-measures-of-requires : tie.Need-measures-of-requires
-measures-of-requires c κs = search needs
+head-of-requires : tie.Need-head-of-requires
+head-of-requires c κs = search needs
 
 same-length : tie.Need-same-length
 same-length c = search needs
@@ -105,7 +105,7 @@ pub lay-sites-spec : {M : Type 1} → statement M
 lay-sites-spec =
     tie.close
     (tie.spec
-    measures-of-requires
+    head-of-requires
     heights-of-requires
     bounds-of-requires
     array-share-prefix-bounds
