@@ -10,7 +10,7 @@ use Rattle.lists.proofs.Tests.{by-order}
 use Rattle.sheet.specs.Limits.{unbounded}
 use Rattle.sheet.specs.Sheet.{Colour, Sheet}
 use Rattle.search.proofs.Sums.{listing-first, listing-past}
-use Rattle.labelling.specs.Layout.{noColour, siteShare}
+use Rattle.labelling.specs.Layout.{noColour}
 use Rattle.optimum.specs.Slots.{farEnough, sheetSlots}
 use Rattle.optimum.specs.OneSided.{leadOf, mayOpen, tipClear, turnOf, heldOf, radicesOf, drawsOf, wordOf, topWord, instanceOf, pointsAt}
 use Rattle.decoding.proofs.Places.{bounds-at, xs-at, ys-at, colours-at}
@@ -29,7 +29,7 @@ draws-at s c =
 
 -- THE ONE-SIDED INSTANCE
 pub instance-by : (s : Sheet) → instanceBy (measuresOf s) (s .slots) (boundsOf (s .colours)) (radicesOf (s .colours)) (drawsList s) ≡ instanceOf s
-unfolding farEnough siteShare leadOf mayOpen tipClear turnOf heldOf wordOf
+unfolding farEnough leadOf mayOpen tipClear turnOf heldOf wordOf
 instance-by s = λ i. record {
   slots = sheetSlots s;
   top = topWord;

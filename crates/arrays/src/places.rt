@@ -1,14 +1,11 @@
 // The places down a sheet (0 the top edge, k + 1 slot k, m + 1 the bottom edge): how they stand to a height, and which labels they let be.
 // Each is the model's definition for the slots of these heights.
 ghost use mathlib.Core.Path.{_≡_};
-ghost use lib.Dec.{leb};
-ghost use Rattle.labelling.specs.Layout.{apart};
 ghost use Rattle.optimum.specs.Slots as model;
 ghost use Rattle.arrays.specs.Arrays.{slotsBy};
 ghost use Rattle.arrays.specs.declared.Measures as measured;
 use crate::Measures;
 use words::at_most;
-use words::drops::apart_of;
 use words::get;
 use words::less;
 
@@ -48,14 +45,7 @@ pub fn is_far(q: Measures, heights: &[u32], j: u32, e: u32, k: u32, c: u32) -> b
     if heights.len() <= i as usize {
         return true;
     }
-    at_most(q.head.gap, apart_of(get(heights, i), get(heights, k)))
-}
-
-// A label at a height is clear of a site of height y.
-fn is_clear_at(q: Measures, height: u32, y: u32) -> bool
-    ensures { λ r. ⌜ r ≡ leb (q .head .gap) (apart height y) ⌝ }
-{
-    at_most(q.head.gap, apart_of(height, y))
+    rules::rule_3::is_far(q.head.gap, get(heights, i), get(heights, k))
 }
 
 // The edge or label j is clear of the height y.
@@ -69,5 +59,5 @@ pub fn is_clear(q: Measures, heights: &[u32], j: u32, y: u32) -> bool
     if heights.len() <= i as usize {
         return true;
     }
-    is_clear_at(q, get(heights, i), y)
+    rules::rule_5::is_clear(q.head.gap, get(heights, i), y)
 }

@@ -15,7 +15,7 @@ use Rattle.sheet.specs.Sheet.{kindOf, bits, Site, Colour, Sheet, sitesRun, shee
 use Rattle.sheet.specs.Binding.{bindingWord, bindingOnly, bindingColours, withColours, sitesOf}
 use Rattle.sheet.proofs.Accepted.{unrefused}
 use Rattle.sheet.proofs.Binding.{work-binding, sheet-binding, binding-accepted, Few, few-sites}
-use Rattle.labelling.specs.Layout.{tiedOf, tied, isUsed, usedFrom, usedOf, slotsOf, Tied, boundsKept, leftEnd, backbones, siteShare, drops, lengthOf, brokenIn, isBetter, betterOf, bestOver, bestFrom, best, answer, answerBy, wordsFor}
+use Rattle.labelling.specs.Layout.{tiedOf, tied, isUsed, usedFrom, usedOf, slotsOf, Tied, boundsKept, leftEnd, backbones, drops, lengthOf, brokenIn, isBetter, betterOf, bestOver, bestFrom, best, answer, answerBy, wordsFor, shareBy}
 use Rattle.labelling.specs.Entry.{isNone, makeFault, makeAnswer, makeWork, zeroed}
 use Rattle.labelling.specs.Promise.{areWords, takesSheet}
 use Rattle.labelling.proofs.Maker.{Serves, fault-is, called}
@@ -81,7 +81,7 @@ module _ (s : Sheet) (ks : List Colour) where
   backbones-same js (u ∷ us) = ap (λ (n : ℕ). s .width - leftEnd s js u + n) (backbones-same js us)
 
   drops-same : (ts : List Tied) → drops (withColours s ks) ts ≡ drops s ts
-  unfolding drops siteShare
+  unfolding drops shareBy
   drops-same [] = refl
   drops-same (t ∷ ts) = rw (drops-same ts)
 

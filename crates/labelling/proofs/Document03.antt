@@ -11,10 +11,11 @@ use native.Mathlib.Omega.{arith}
 use lib.Dec.{ltb, leb, eqb}
 use lib.ListN.{length, getD, drop, replicate, length-append}
 use borrow.Author.Tests.{ltb-true, ltb-false, leb-true, eqb-true, eqb-false, lt-ltb, le-leb, eq-eqb, ne-eqb}
-use Rattle.sheet.specs.Sheet.{all, inOrder, Site, Sheet, sheetIn, productOf, rising, rankOf, hasRank, ranksDiffer, isHead, countsFit, insideBy, sheetFault, workFor}
-use Rattle.labelling.specs.Layout.{tiesIn, Tied, tieAt, tied, apart, heightOf, isUsed, usedOf, leftEnd, colourKept, coloursOf, coloursKept, boundsKept, gapKept, gapsOf, gapsKept, verticalHas, missesAll, clearsAll, countOf, backbones, siteShare, drops, lengthOf, brokenIn, layoutWords, statedCount, statedLength, isLayout, isLawful, brokenBy, nextRank, slotAt, byRank, comesFirst, isBetter, betterOf, bestOver, bestFrom, best, answer, answerBy, sheetPart, layoutPart, judgeFault, judged, layoutBody, layoutTies}
+use Rattle.sheet.specs.Sheet.{all, inOrder, Site, Sheet, sheetIn, productOf, rising, hasRank, ranksDiffer, isHead, countsFit, insideBy, sheetFault, workFor, rankBy}
+use Rattle.labelling.specs.Layout.{tiesIn, Tied, tieAt, tied, apart, farBy, countsBy, clearBy, shareBy, heightOf, isUsed, usedOf, leftEnd, colourKept, coloursOf, coloursKept, boundsKept, gapKept, gapsOf, gapsKept, verticalHas, missesAll, clearsAll, countOf, backbones, drops, lengthOf, brokenIn, layoutWords, statedCount, statedLength, isLayout, isLawful, brokenBy, nextRank, slotAt, byRank, comesFirst, isBetter, betterOf, bestOver, bestFrom, best, answer, answerBy, sheetPart, layoutPart, judgeFault, judged, layoutBody, layoutTies}
 use Rattle.labelling.specs.Entry.{isNone, makeFault, makeAnswer, makeWork}
 use Rattle.lists.proofs.Tests.{eqb-self, same-test, by-test, by-equal, and-l, and-r, and-i, or-e, tests}
+use Rattle.labelling.proofs.Distances.{far-e, far-i}
 use Rattle.labelling.proofs.Members.{each, every, rise-at, all-used, used-head, used-tail, used-from, from-used, used-at, at-used, head-rise, tail-rise, used-rise}
 use Rattle.labelling.proofs.Order.{before}
 use Rattle.labelling.proofs.Best.{lowTies}
@@ -180,12 +181,12 @@ makeWork03 ws k o =
 -- ---- refusal 6, for every list
 
 has-agrees : (x : ℕ) (ss : List Site) → hasRank x ss ≡ hasX x ss
-unfolding hasRank hasX rankOf
+unfolding hasRank hasX rankBy
 has-agrees x [] = refl
 has-agrees x (s ∷ ss) = ap (λ (b : Bool). eqb (s .x) x || b) (has-agrees x ss)
 
 differ-agrees : (ss : List Site) → ranksDiffer ss ≡ xsDiffer ss
-unfolding ranksDiffer xsDiffer rankOf
+unfolding ranksDiffer xsDiffer rankBy
 differ-agrees [] = refl
 differ-agrees (s ∷ ss) = ap₂ (λ (p q : Bool). not p && q) (has-agrees (s .x) ss) (differ-agrees ss)
 
@@ -295,11 +296,11 @@ module _ (s : Sheet) (o : Sound s) (js : List ℕ) (long : length js ≡ length 
     where
       pair : (j k : ℕ) → j < k → isUsed k js ≡ true → (i : ℕ) × (i < length js) × (getD js i 0 ≡ j) → (i : ℕ) × (i < length js) × (getD js i 0 ≡ k) → heightOf s j + s .gap ≤ heightOf s k
       pair j k l u (a, ha, ea) (b, hb, eb) =
-          let f : (eqb (getD js a 0) (getD js b 0) || leb (s .gap) (apart (heightOf s (getD js a 0)) (heightOf s (getD js b 0)))) ≡ true
+          let f : (eqb (getD js a 0) (getD js b 0) || farBy (s .gap) (heightOf s (getD js a 0)) (heightOf s (getD js b 0))) ≡ true
           = each s js long (gapKept s (tieAt s js a)) (each s js long (gapsOf s (tied s js)) h a (omega arith)) b (omega arith) in
-          let g : leb (s .gap) (apart (heightOf s (getD js a 0)) (heightOf s (getD js b 0))) ≡ true = rw (ne-eqb (getD js a 0) (getD js b 0) (λ (e : getD js a 0 ≡ getD js b 0). omega arith)) at f in
-          let q : leb (s .gap) (apart (heightOf s j) (heightOf s k)) ≡ true = rw (ea, eb) at g in
-          omega (arith, leb-true (s .gap) (apart (heightOf s j) (heightOf s k)) q, up j k l u)
+          let g : farBy (s .gap) (heightOf s (getD js a 0)) (heightOf s (getD js b 0)) ≡ true = rw (ne-eqb (getD js a 0) (getD js b 0) (λ (e : getD js a 0 ≡ getD js b 0). omega arith)) at f in
+          let q : farBy (s .gap) (heightOf s j) (heightOf s k) ≡ true = rw (ea, eb) at g in
+          omega (arith, far-e (s .gap) (heightOf s j) (heightOf s k) q, up j k l u)
 
   gaps-of-03 : gapsKept03 s (usedOf s js) ≡ true → gapsKept s (tied s js) ≡ true
   gaps-of-03 h = every s js long (gapsOf s (tied s js)) λ a ha. every s js long (gapKept s (tieAt s js a)) λ b hb. at a b (omega arith) (omega arith)
@@ -307,18 +308,19 @@ module _ (s : Sheet) (o : Sound s) (js : List ℕ) (long : length js ≡ length 
       far : (a b : ℕ) → a < length js → b < length js → getD js a 0 < getD js b 0 → heightOf s (getD js a 0) + s .gap ≤ heightOf s (getD js b 0)
       far a b ha hb l = far-all s (usedOf s js) (o .gapped) (used-rise 0 (length (s .slots)) js) h (getD js a 0) (getD js b 0) (used-in (getD js a 0) (used-at js a ha)) (used-in (getD js b 0) (used-at js b hb)) l
 
-      at : (a b : ℕ) → a < length js → b < length js → (eqb (getD js a 0) (getD js b 0) || leb (s .gap) (apart (heightOf s (getD js a 0)) (heightOf s (getD js b 0)))) ≡ true
+      at : (a b : ℕ) → a < length js → b < length js → (eqb (getD js a 0) (getD js b 0) || farBy (s .gap) (heightOf s (getD js a 0)) (heightOf s (getD js b 0))) ≡ true
       at a b ha hb =
           by-test (eqb (getD js a 0) (getD js b 0)) (λ e. rw e) λ e. rw e
           (by-test (ltb (getD js a 0) (getD js b 0))
-          (λ l. le-leb (s .gap) (apart (heightOf s (getD js a 0)) (heightOf s (getD js b 0))) (omega (arith, far a b ha hb (ltb-true (getD js a 0) (getD js b 0) l))))
-          λ l. le-leb (s .gap) (apart (heightOf s (getD js a 0)) (heightOf s (getD js b 0))) (omega (arith, far b a hb ha (omega (arith, ltb-false (getD js a 0) (getD js b 0) l, eqb-false (getD js a 0) (getD js b 0) e)))))
+          (λ l. far-i (s .gap) (heightOf s (getD js a 0)) (heightOf s (getD js b 0)) (omega (arith, far a b ha hb (ltb-true (getD js a 0) (getD js b 0) l))))
+          λ l. far-i (s .gap) (heightOf s (getD js a 0)) (heightOf s (getD js b 0)) (omega (arith, far b a hb ha (omega (arith, ltb-false (getD js a 0) (getD js b 0) l, eqb-false (getD js a 0) (getD js b 0) e)))))
 
   pub gaps-agree : gapsKept s (tied s js) ≡ gapsKept03 s (usedOf s js)
   gaps-agree = same-test (gapsKept s (tied s js)) (gapsKept03 s (usedOf s js)) gaps-03 gaps-of-03
 
   -- THE LEAST BROKEN RULE of 1 to 5
   pub broken-agrees : brokenIn s js ≡ brokenIn03 s js
+  unfolding countsBy clearBy
   broken-agrees =
       ap₂ (λ (a c : Bool). cond (not a) 1
       (cond (not (boundsKept s js 0 (s .colours))) 2
@@ -328,7 +330,7 @@ module _ (s : Sheet) (o : Sound s) (js : List ℕ) (long : length js ≡ length 
 -- ---- lengths and the order, for every sheet and all ties
 
 drops-agree : (s : Sheet) (ts : List Tied) → drops s ts ≡ drops03 s ts
-unfolding drops drops03 siteShare
+unfolding drops drops03 shareBy
 drops-agree s [] = refl
 drops-agree s (t ∷ ts) = ap (λ (n : ℕ). apart (heightOf s (t .slot)) (t .site .y) + n) (drops-agree s ts)
 
@@ -336,13 +338,13 @@ pub length-agrees : (s : Sheet) (js : List ℕ) → lengthOf s js ≡ lengthOf03
 length-agrees s js = ap (λ (n : ℕ). backbones s js (usedOf s js) + n) (drops-agree s (tied s js))
 
 next-agrees : (a b : ℕ) (ts : List Tied) → nextRank a b ts ≡ nextX a b ts
-unfolding nextRank nextX rankOf
+unfolding nextRank nextX rankBy
 next-agrees a b [] = refl
 next-agrees a b (t ∷ ts) =
     ap₂ (λ (x y : ℕ). cond (ltb a (t .site .x + 1) && ltb (t .site .x) b) x y) (next-agrees a (t .site .x) ts) (next-agrees a b ts)
 
 slot-agrees : (x : ℕ) (ts : List Tied) → slotAt x ts ≡ slotAt03 x ts
-unfolding slotAt slotAt03 rankOf
+unfolding slotAt slotAt03 rankBy
 slot-agrees x [] = refl
 slot-agrees x (t ∷ ts) = ap (λ (n : ℕ). cond (eqb (t .site .x) x) (t .slot) n) (slot-agrees x ts)
 

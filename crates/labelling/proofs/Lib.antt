@@ -2,6 +2,7 @@ pub mod Answer
 pub mod Best
 pub mod ByRank
 pub mod Counted
+pub mod Distances
 pub mod Document03
 pub mod Earlier
 pub mod Examples

@@ -15,9 +15,10 @@ use Rattle.labelling.specs.Pairs.{startOf, missesPairs, clearsPairs}
 use Rattle.lists.proofs.Tests.{by-test, same-test}
 use Rattle.labelling.proofs.Members.{each, every, all-used, used-all, used-at}
 use Rattle.labelling.proofs.Best.{lowTies}
-use Rattle.labelling.specs.Lawful.{Rules, RuleTwo, Miss, CountsAgainst}
+use Rattle.labelling.specs.Lawful.{Rules, RuleTwo, Miss}
 use Rattle.labelling.proofs.LeftEnd.{left-le, left-is}
-use Rattle.labelling.proofs.Rules.{counts-e, counts-i, counted-left, used-of, of-used}
+use Rattle.labelling.proofs.Distances.{counts-left}
+use Rattle.labelling.proofs.Rules.{used-of, of-used}
 
 -- a test of a label by its slot and left end that a label further right passes too
 abbrev pub Falls : ((slot left : ℕ) → Bool) → Type 0
@@ -38,7 +39,7 @@ clears-falls s t k d e l = step (eqb (t .slot) k) (isClear s k (t .site .y))
 
     step : (p g : Bool) → (p || not (counts s d x) || g) ≡ true → (p || not (counts s e x) || g) ≡ true
     step true g h = refl
-    step false g h = by-test (counts s e x) (λ q. rw q (rw (counts-i s d x (counted-left s d e x l (counts-e s e x q))) at h)) λ q. rw q
+    step false g h = by-test (counts s e x) (λ q. rw q (rw (counts-left (s .gap) d e x l q) at h)) λ q. rw q
 
 module _ (s : Sheet) (js : List ℕ) (long : length js ≡ length (s .sites)) where
   module _ (inside : all (insideBy (s .width)) (s .sites) ≡ true) where
@@ -75,7 +76,7 @@ pub record InOrder (s : Sheet) (js : List ℕ) (i j : ℕ) : Type 0 where
   pub colour : getD js i 0 ≡ getD js j 0 → (siteAt s i) .colour ≡ (siteAt s j) .colour
   pub far : (getD js i 0 ≡ getD js j 0 → ⊥) → isFar s (getD js i 0) ((siteAt s i) .colour) (getD js j 0) ((siteAt s j) .colour) ≡ true
   pub misses : (getD js i 0 ≡ getD js j 0 → ⊥) → startOf s (siteAt s i) ≤ (siteAt s j) .x → Miss (heightOf s (getD js i 0)) ((siteAt s j) .y) (heightOf s (getD js j 0))
-  pub clear : (getD js i 0 ≡ getD js j 0 → ⊥) → CountsAgainst s (startOf s (siteAt s i)) ((siteAt s j) .x) → isClear s (getD js i 0) ((siteAt s j) .y) ≡ true
+  pub clear : (getD js i 0 ≡ getD js j 0 → ⊥) → counts s (startOf s (siteAt s i)) ((siteAt s j) .x) ≡ true → isClear s (getD js i 0) ((siteAt s j) .y) ≡ true
 
 -- EVERY PAIR
 abbrev pub AllInOrder : Sheet → (ties : List ℕ) → Type 0
@@ -87,7 +88,7 @@ module _ (s : Sheet) (inside : all (insideBy (s .width)) (s .sites) ≡ true) (j
     colour = r .one i j hi hj;
     far = r .three i j hi hj;
     misses = λ n c. r .four j (getD js i 0) hj used (λ q. n (sym q)) (omega (arith, left-le s js long i hi));
-    clear = λ n c. le-leb (s .gap) _ (r .five j (getD js i 0) hj used (λ q. n (sym q)) (counted-left s _ _ ((siteAt s j) .x) (left-le s js long i hi) c));
+    clear = λ n c. r .five j (getD js i 0) hj used (λ q. n (sym q)) (counts-left (s .gap) _ _ ((siteAt s j) .x) (left-le s js long i hi) c);
   }
     where
       used : isUsed (getD js i 0) js ≡ true
@@ -102,8 +103,8 @@ module _ (s : Sheet) (inside : all (insideBy (s .width)) (s .sites) ≡ true) (j
         subst (λ (z : ℕ). Miss (heightOf s z) ((siteAt s i) .y) (heightOf s (getD js i 0))) eq
         (p q i hq hi .misses (λ t. n (sym t ∙ eq)) (omega arith));
     five = λ i k hi u n e. let (q, hq, eq, rq) = left-is s js long inside k u in
-        leb-true (s .gap) _ (subst (λ (z : ℕ). isClear s z ((siteAt s i) .y) ≡ true) eq
-        (p q i hq hi .clear (λ t. n (sym t ∙ eq)) (subst (λ (z : ℕ). CountsAgainst s z ((siteAt s i) .x)) rq e)));
+        subst (λ (z : ℕ). isClear s z ((siteAt s i) .y) ≡ true) eq
+        (p q i hq hi .clear (λ t. n (sym t ∙ eq)) (subst (λ (z : ℕ). counts s z ((siteAt s i) .x) ≡ true) rq e));
   }
 
   -- THEOREM 0: the rules are every pair in order, and rule 2

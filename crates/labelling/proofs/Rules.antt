@@ -4,7 +4,7 @@ use mathlib.Core.Path.{_≡_, refl, subst}
 use mathlib.Core.Logic.{_⊎_, inl, inr, _↔_}
 use mathlib.Core.Bool.{Bool, true, false, _&&_, _||_, not, true≢false, false≢true, cond}
 use mathlib.Core.List.{List, [], _∷_}
-use Prim.Native.Nat.{ℕ, zero, suc, _+_, _≤_, _<_, min, max}
+use Prim.Native.Nat.{ℕ, zero, suc, _+_, _<_, min, max}
 use native.Mathlib.Omega.{arith}
 use lib.Dec.{ltb, leb, eqb}
 use lib.ListN.{length, getD}
@@ -13,7 +13,7 @@ use Rattle.sheet.specs.Limits.{unbounded}
 use Rattle.sheet.specs.Sheet.{all, Colour, Sheet}
 pub use Rattle.labelling.specs.Layout.{siteAt}
 pub use Rattle.labelling.specs.Lawful.{Bounded, Rules}
-use Rattle.labelling.specs.Lawful.{RuleOne, RuleTwo, RuleThree, Miss, RuleFour, CountsAgainst, RuleFive}
+use Rattle.labelling.specs.Lawful.{RuleOne, RuleTwo, RuleThree, Miss, RuleFour, RuleFive}
 use Rattle.labelling.specs.Layout.{Tied, tieAt, tied, heightOf, isUsed, usedOf, lesser, leftEnd, colourKept, coloursOf, coloursKept, slotsOf, boundsKept, noColour, isFar, gapKept, gapsOf, gapsKept, verticalHas, misses, missesAll, reaches, counts, isClear, clears, clearsAll, brokenIn}
 use Rattle.lists.proofs.Tests.{by-test, and-l, and-r, and-i, or-e, is-false, not-f, not-e, tests}
 use Rattle.labelling.proofs.Members.{each, every, all-used, used-all, used-from, from-used}
@@ -49,16 +49,6 @@ each-bounds s js c (k ∷ ks) f =
     go : Bounded s js c k → (eqb (k .bound) unbounded || leb (length (usedOf s (slotsOf c (tied s js)))) (k .bound)) ≡ true
     go (inl e) = rw (eq-eqb (k .bound) unbounded e)
     go (inr e) = by-test (eqb (k .bound) unbounded) (λ f. rw f) λ f. rw (f, le-leb (length (usedOf s (slotsOf c (tied s js)))) (k .bound) e)
-
--- a site counts: what the test says; and it counts against a label further left too
-pub counts-e : (s : Sheet) (e x : ℕ) → counts s e x ≡ true → CountsAgainst s e x
-counts-e s e x h = leb-true e x h
-
-pub counts-i : (s : Sheet) (e x : ℕ) → CountsAgainst s e x → counts s e x ≡ true
-counts-i s e x h = le-leb e x h
-
-pub counted-left : (s : Sheet) (d e x : ℕ) → d ≤ e → CountsAgainst s e x → CountsAgainst s d x
-counted-left s d e x l h = omega arith
 
 -- `lesser` is min
 pub lesser-min : (a b : ℕ) → lesser a b ≡ min a b
@@ -160,8 +150,8 @@ module _ (s : Sheet) (js : List ℕ) (long : length js ≡ length (s .sites)) wh
 
     pub rule-five : (all (clearsAll s js) (tied s js) ≡ true) ↔ RuleFive s js
     rule-five = (
-      (λ h i k l u n e. leb-true (s .gap) _ (five i k .0 (by-labels (clears s js) .0 h i k l u) (ne-eqb (getD js i 0) k n) (counts-i s (leftEnd s js k) (x i) e))),
-      λ r. by-labels (clears s js) .1 λ i k l u. five i k .1 λ n e. le-leb (s .gap) _ (r i k l u (eqb-false (getD js i 0) k n) (counts-e s (leftEnd s js k) (x i) e)),
+      (λ h i k l u n e. five i k .0 (by-labels (clears s js) .0 h i k l u) (ne-eqb (getD js i 0) k n) e),
+      λ r. by-labels (clears s js) .1 λ i k l u. five i k .1 λ n e. r i k l u (eqb-false (getD js i 0) k n) e,
     )
       where
         x : ℕ → ℕ

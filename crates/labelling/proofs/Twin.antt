@@ -15,9 +15,10 @@ use Rattle.lists.proofs.Tests.{by-test, by-order, by-equal}
 use Rattle.sheet.specs.Limits.{lengthTop, countTop}
 use Rattle.sheet.specs.Sheet.{kindOf, bits, Sheet, headIn, sheetIn, sheetFault}
 use Rattle.sheet.proofs.Accepted.{Sound, sound, some-words}
-use Rattle.labelling.specs.Layout.{Tied, siteAt, heightOf, leftEnd, siteShare, backbones, drops, lengthOf, usedOf, tied, firstNumber, secondNumber, best, firstWord, statedCount, statedLength, layoutTies, isLayout, sheetPart, layoutPart, judgeFault, judged}
-use Rattle.labelling.specs.Lawful.{Ties, Rules, CountsAgainst, Better, IsAnswer, Lawful}
+use Rattle.labelling.specs.Layout.{Tied, siteAt, heightOf, leftEnd, counts, siteShare, backbones, drops, lengthOf, usedOf, tied, firstNumber, secondNumber, best, firstWord, statedCount, statedLength, layoutTies, isLayout, sheetPart, layoutPart, judgeFault, judged, shareBy}
+use Rattle.labelling.specs.Lawful.{Ties, Rules, Better, IsAnswer, Lawful}
 use Rattle.labelling.specs.Twin.{asOneSided, twinHead, twinSheet, twinLayout, twinWords, twinFaultIn, TwinOf, TwinLawful, TwinOfTwin, NotWorse, BestNotWorse}
+use Rattle.labelling.proofs.Distances.{counts-all}
 use Rattle.labelling.proofs.Answer.{answer-is, answer-none}
 use Rattle.labelling.proofs.Judge.{sheet-part, judged-so}
 use Rattle.labelling.proofs.Words.{formed, form, length-low, stated-count, stated-length}
@@ -57,13 +58,9 @@ same-sheet : (s : Sheet) → s .isTwoSided ≡ false → s ≡ asOneSided s
 same-sheet s e =
     λ i. record { isTwoSided = e i; isShortest = s .isShortest; gap = s .gap; width = s .width; slots = s .slots; colours = s .colours; sites = s .sites }
 
--- against a label that begins at the left edge every site counts
-counted-all : (s : Sheet) (x : ℕ) → CountsAgainst s 0 x
-counted-all s x = omega arith
-
 -- a site's share is the same
 share-one : (s : Sheet) (h y : ℕ) → siteShare (asOneSided s) h y ≡ siteShare s h y
-unfolding siteShare
+unfolding shareBy
 share-one s h y = refl
 
 drops-one : (s : Sheet) (ts : List Tied) → drops (asOneSided s) ts ≡ drops s ts
@@ -87,7 +84,7 @@ module _ (s : Sheet) (two : s .isTwoSided ≡ true) (js : List ℕ) where
     two = r .two;
     three = r .three;
     four = λ i k l u n e. r .four i k l u n (omega (arith, left-zero k));
-    five = λ i k l u n e. r .five i k l u n (subst⁻¹ (λ (z : ℕ). CountsAgainst s z ((siteAt s i) .x)) (left-zero k) (counted-all s ((siteAt s i) .x)));
+    five = λ i k l u n e. r .five i k l u n (subst⁻¹ (λ (z : ℕ). counts s z ((siteAt s i) .x) ≡ true) (left-zero k) (counts-all (s .gap) ((siteAt s i) .x)));
   }
 
   backbones-one : (ks : List ℕ) → backbones (asOneSided s) js ks ≤ backbones s js ks

@@ -10,10 +10,11 @@ use lib.ListN.{length, getD}
 use borrow.Author.Tests.{ltb-true, eqb-true, eqb-false, lt-ltb, eq-eqb}
 use Rattle.sheet.specs.Limits.{mostSlots, mostSites, wordTop, numberTop, mostNumber, byteTop, lengthTop, countTop}
 use Rattle.sheet.specs.Sheet.{all, kindOf, bits, Site, Sheet}
-use Rattle.labelling.specs.Layout.{tiedOf, tied, heightOf, siteShare, isUsed, usedFrom, usedOf, leftEnd, countOf, backbones, drops, lengthOf, brokenIn, tieWord, tieWords, firstWord, layoutWords, statedCount, statedLength, tiesIn, isTie, isLayout, brokenBy, isLawful, answerOf, layoutBody, layoutTies, wordsFor}
+use Rattle.labelling.specs.Layout.{tiedOf, tied, heightOf, isUsed, usedFrom, usedOf, leftEnd, countOf, backbones, drops, lengthOf, brokenIn, tieWord, tieWords, firstWord, layoutWords, statedCount, statedLength, tiesIn, isTie, isLayout, brokenBy, isLawful, answerOf, layoutBody, layoutTies, wordsFor}
 use Rattle.labelling.specs.Promise.{areWords, same}
 use Rattle.lists.proofs.Tests.{by-test, and-l, and-r, and-i, eqb-self}
 use Rattle.sheet.proofs.Accepted.{Sound, lowY, lowN}
+use Rattle.labelling.proofs.Distances.{share-le}
 use Rattle.labelling.proofs.Best.{Obeys, lowTies}
 
 -- SIZES
@@ -37,11 +38,6 @@ height-low [] k h = omega arith
 height-low (x ∷ hs) zero h = ltb-true x numberTop (and-l (lowN x) (all lowN hs) h)
 height-low (x ∷ hs) (suc k) h = height-low hs k (and-r (lowN x) (all lowN hs) h)
 
--- a site's share is at most the greatest number
-pub share-le : (s : Sheet) (a b : ℕ) → a < numberTop → b < numberTop → siteShare s a b ≤ mostNumber
-unfolding siteShare
-share-le s a b p q = omega arith
-
 drops-le : (s : Sheet) (ss : List Site) (js : List ℕ) → all lowN (s .slots) ≡ true → all lowY ss ≡ true → drops s (tiedOf ss js) ≤ length ss * mostNumber
 unfolding drops tiedOf all
 drops-le s [] js h k = omega arith
@@ -49,7 +45,7 @@ drops-le s (t ∷ ss) [] h k = omega arith
 drops-le s (t ∷ ss) (j ∷ js) h k =
     omega (
       arith,
-      share-le s (heightOf s j) (t .y) (height-low (s .slots) j h) (ltb-true (t .y) numberTop (and-l (lowY t) (all lowY ss) k)),
+      share-le (heightOf s j) (t .y) (height-low (s .slots) j h) (ltb-true (t .y) numberTop (and-l (lowY t) (all lowY ss) k)),
       drops-le s ss js h (and-r (lowY t) (all lowY ss) k),
     )
 

@@ -8,7 +8,7 @@ use Prim.Native.Nat.{ℕ, zero, suc, _≤_, _<_}
 use lib.ListN.{length, getD}
 use Rattle.sheet.specs.Limits.{unbounded}
 use Rattle.sheet.specs.Sheet.{kindOf, bits, Colour, Sheet, rankOf}
-use Rattle.labelling.specs.Layout.{siteAt, tied, apart, heightOf, isUsed, usedOf, leftEnd, slotsOf, noColour, isFar, countOf, lengthOf, statedCount, statedLength, firstNumber, secondNumber, layoutTies, wordsFor}
+use Rattle.labelling.specs.Layout.{siteAt, tied, heightOf, isUsed, usedOf, leftEnd, slotsOf, noColour, isFar, counts, isClear, countOf, lengthOf, statedCount, statedLength, firstNumber, secondNumber, layoutTies, wordsFor}
 
 -- one tie for each site, to a slot below m
 pub record Ties (s : Sheet) (js : List ℕ) : Type 0 where
@@ -42,15 +42,11 @@ RuleFour s js =
     (i k : ℕ) → i < length (s .sites) → isUsed k js ≡ true → (getD js i 0 ≡ k → ⊥) → leftEnd s js k ≤ (siteAt s i) .x →
     Miss (heightOf s k) ((siteAt s i) .y) (heightOf s (getD js i 0))
 
--- 5: a backbone lies at least D in height from every site of another label whose x is at or right of its left end; a site at x is
--- counted against a label with this left end
-abbrev pub CountsAgainst : Sheet → (left x : ℕ) → Type 0
-CountsAgainst s e x = e ≤ x
-
+-- 5: a backbone lies at least D in height from every site of another label whose x is at or right of its left end
 abbrev pub RuleFive : Sheet → (ties : List ℕ) → Type 0
 RuleFive s js =
-    (i k : ℕ) → i < length (s .sites) → isUsed k js ≡ true → (getD js i 0 ≡ k → ⊥) → CountsAgainst s (leftEnd s js k) ((siteAt s i) .x) →
-    s .gap ≤ apart (heightOf s k) ((siteAt s i) .y)
+    (i k : ℕ) → i < length (s .sites) → isUsed k js ≡ true → (getD js i 0 ≡ k → ⊥) → counts s (leftEnd s js k) ((siteAt s i) .x) ≡ true →
+    isClear s k ((siteAt s i) .y) ≡ true
 
 -- 6: the count and the length that the layout's words state are those of its ties
 abbrev pub RuleSix : Sheet → (words : List ℕ) → Type 0

@@ -9,11 +9,28 @@ use lib.ListN.{length, getD, drop}
 use Rattle.sheet.specs.Limits.{unbounded, kindTop, lengthTop}
 use Rattle.sheet.specs.Sheet.{all, kindOf, bits, Site, Colour, Sheet, rankOf, rankTop, sheetIn, sheetFault}
 
--- SITES, SLOTS AND TIES
+-- BY NUMBERS: what rules 3 and 5 and the length ask of heights and of x, one definition each. The sheet's definitions below cite
+-- them, and so do the judge's model, the maker's and the code; their laws are proofs/Distances
 -- how far apart two heights are: a drop without its sign
 abbrev pub apart : ℕ → ℕ → ℕ
 apart a b = (a - b) + (b - a)
 
+-- rule 3: the heights of two labels are at least D apart
+unfoldable pub farBy : (gap height other : ℕ) → Bool
+farBy d h k = leb d (apart h k)
+
+-- rule 5: a site at x counts against a label with this left end; a label's height is at least D from a site of height y
+unfoldable pub countsBy : (gap left x : ℕ) → Bool
+countsBy d e x = leb e x
+
+unfoldable pub clearBy : (gap height y : ℕ) → Bool
+clearBy d h y = leb d (apart h y)
+
+-- rule 6: a site's share of the length, by the height of its slot and its own: its drop without the sign
+unfoldable pub shareBy : (height y : ℕ) → ℕ
+shareBy h y = apart h y
+
+-- SITES, SLOTS AND TIES
 -- what stands where a list has no item: no rule asks for it. A colour that the sheet does not have is unbounded, so that no budget has a
 -- digit for it
 abbrev pub noSite : Site
@@ -101,7 +118,7 @@ boundsKept s js c (k ∷ ks) =
 -- RULE 3: any two used slots are at least D apart in height
 -- two labels, by slot and colour, are far enough apart
 abbrev pub isFar : Sheet → (slot colour other its : ℕ) → Bool
-isFar s j c k d = leb (s .gap) (apart (heightOf s j) (heightOf s k))
+isFar s j c k d = farBy (s .gap) (heightOf s j) (heightOf s k)
 
 -- the labels of two sites, of one site and all, of all
 abbrev pub gapKept : Sheet → Tied → Tied → Bool
@@ -141,11 +158,11 @@ missesAll s js t = all (misses s js t) (usedOf s js)
 -- RULE 5: a backbone lies at least D in height from every site of another label whose x is at or right of its left end
 -- a site at x is counted against a label with this left end
 abbrev pub counts : Sheet → (left x : ℕ) → Bool
-counts s e x = leb e x
+counts s e x = countsBy (s .gap) e x
 
 -- the backbone at a slot lies at least D in height from a site of height y
 abbrev pub isClear : Sheet → (slot y : ℕ) → Bool
-isClear s k y = leb (s .gap) (apart (heightOf s k) y)
+isClear s k y = clearBy (s .gap) (heightOf s k) y
 
 -- the backbone at a slot from a left end on lies clear of a site, or the slot is the site's own
 abbrev pub clearsFrom : Sheet → Tied → (slot left : ℕ) → Bool
@@ -168,9 +185,9 @@ unfoldable pub backbones : Sheet → (ties used : List ℕ) → ℕ
 backbones s js [] = 0
 backbones s js (k ∷ ks) = (s .width - leftEnd s js k) + backbones s js ks
 
--- a site's share of the length, by the height of its slot and its own: its drop without the sign
-unfoldable pub siteShare : Sheet → (height y : ℕ) → ℕ
-siteShare s h y = apart h y
+-- a site's share of the length
+abbrev pub siteShare : Sheet → (height y : ℕ) → ℕ
+siteShare s h y = shareBy h y
 
 -- the sum of the sites' shares
 unfoldable pub drops : Sheet → List Tied → ℕ

@@ -10,11 +10,11 @@ use borrow.Author.Tests.{eqb-true}
 use lib.ListN.{getD}
 use Rattle.lists.proofs.Tests.{clash, and-l, and-r, and-i, is-false}
 use Rattle.sheet.specs.Limits.{mostNumber}
-use Rattle.sheet.specs.Sheet.{bits, Sheet}
-use Rattle.labelling.specs.Layout.{tiesIn, siteShare}
+use Rattle.sheet.specs.Sheet.{bits}
+use Rattle.labelling.specs.Layout.{tiesIn, shareBy}
+use Rattle.labelling.proofs.Distances.{share-le}
 use Rattle.labelling.specs.Counted.{allBefore, sumBefore, isTaken, isFirst}
 use Rattle.labelling.proofs.Counted.{all-before, at-taken}
-use Rattle.decoding.specs.Decoding.{shareBy}
 use Rattle.words.specs.declared.tied.Head.{Head}
 use Rattle.layouts.specs.declared.labels.Among.the-variants.{All}
 use Rattle.layouts.specs.Model.{oneIf, amongBy, Low, leastBefore, leftOn, lengthAt, mostAdded}
@@ -89,26 +89,22 @@ ties-at [] i = refl
 ties-at (w ∷ ws) zero = refl
 ties-at (w ∷ ws) (suc i) = ties-at ws i
 
--- LENGTHS: the share by any sheet with this head; what a site adds is low
-pub share-by : (h : Head) (a b r : ℕ) → ((s : Sheet) → r ≡ siteShare s a b) → r ≡ shareBy h a b
-unfolding siteShare
-share-by h a b r f = f (record { isTwoSided = h .twosided; isShortest = true; gap = h .gap; width = h .width; slots = []; colours = []; sites = [] })
-
+-- LENGTHS: what a site adds is low
 pub length-le : (h : Head) (hs xs ys cs js : List ℕ) (n : ℕ) → Low h hs ys → (i : ℕ) → lengthAt h hs xs ys cs js n i ≤ mostAdded
 length-le h hs xs ys cs js n l i =
-    omega (arith, l .width, l .heights (getD js i 0), l .ys i, cond-le (isFirst (amongBy All cs) js i) (h .width - leftOn h xs js n (getD js i 0)))
+    omega (arith, l .width, share-le _ _ (l .heights (getD js i 0)) (l .ys i), cond-le (isFirst (amongBy All cs) js i) (h .width - leftOn h xs js n (getD js i 0)))
   where
     cond-le : (b : Bool) (n : ℕ) → cond b n 0 ≤ n
     cond-le true n = omega arith
     cond-le false n = omega arith
 
 -- a site's part by the callees' results: its slot k and the slot's height, its share r, whether it is the first of its label
-module _ (h : Head) (hs xs ys cs js : List ℕ) (n i : ℕ) {k a r : ℕ} (ek : k ≡ getD js i 0) (ea : a ≡ getD hs k 0) (es : (s : Sheet) → r ≡ siteShare s a (getD ys i 0)) where
-  share-is : r ≡ shareBy h (getD hs (getD js i 0) 0) (getD ys i 0)
-  share-is = share-by h a (getD ys i 0) r es ∙ ap (λ (z : ℕ). shareBy h z (getD ys i 0)) (ea ∙ ap (λ (z : ℕ). getD hs z 0) ek)
+module _ (h : Head) (hs xs ys cs js : List ℕ) (n i : ℕ) {k a r : ℕ} (ek : k ≡ getD js i 0) (ea : a ≡ getD hs k 0) (es : r ≡ shareBy a (getD ys i 0)) where
+  share-is : r ≡ shareBy (getD hs (getD js i 0) 0) (getD ys i 0)
+  share-is = es ∙ ap (λ (z : ℕ). shareBy z (getD ys i 0)) (ea ∙ ap (λ (z : ℕ). getD hs z 0) ek)
 
   pub share-low : Low h hs ys → r ≤ mostNumber
-  share-low l = omega (arith, share-is, l .heights (getD js i 0), l .ys i)
+  share-low l = omega (arith, share-is, share-le _ _ (l .heights (getD js i 0)) (l .ys i))
 
   module _ {b : Bool} (eb : b ≡ isFirst (amongBy All cs) js i) where
     pub length-other : b ≡ false → r ≡ lengthAt h hs xs ys cs js n i

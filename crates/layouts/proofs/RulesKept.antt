@@ -9,7 +9,7 @@ use lib.Dec.{eqb}
 use lib.ListN.{length, getD}
 use Rattle.lists.proofs.Tests.{by-test}
 use Rattle.sheet.specs.Sheet.{all, insideBy, Site, Sheet, Colour}
-use Rattle.labelling.specs.Layout.{noSite, siteAt, Tied, tieAt, tiedOf, tied, heightOf, usedOf, leastX, leftEnd, colourKept, coloursKept, slotsOf, boundsKept, gapKept, gapsKept, missesAll, clearsAll, countOf, siteShare, lengthOf, statedCount, statedLength, brokenBy, layoutTies}
+use Rattle.labelling.specs.Layout.{noSite, siteAt, Tied, tieAt, tiedOf, tied, heightOf, usedOf, leastX, leftEnd, colourKept, coloursKept, slotsOf, boundsKept, gapKept, gapsKept, missesAll, clearsAll, countOf, lengthOf, statedCount, statedLength, brokenBy, layoutTies, shareBy}
 use Rattle.labelling.specs.Pairs.{missesPair, clearsPair}
 use Rattle.labelling.specs.Counted.{allBefore, sumBefore, isFirst, anySite}
 use Rattle.labelling.proofs.Counted.{tied-is, count-counted, colour-counted, backbones-counted, drops-counted}
@@ -137,11 +137,10 @@ module _ (s : Sheet) (hs xs ys cs : List ℕ) (d : Decoded s hs xs ys cs) (js : 
     labels-are = sym (count-counted s js long low)
 
     pub length-is : lengthOn (headBy s) hs xs ys cs js n ≡ lengthOf s js
-    unfolding siteShare
     length-is =
         ap (λ (f : ℕ → ℕ). sumBefore f n)
         (fun-ext λ i. ap₂ _+_ (ap (λ (z : ℕ). cond (isFirst anySite js i) (s .width - z) 0) (left-is (getD js i 0)))
-        (ap₂ (siteShare s) (d .heights (getD js i 0)) (d .ys i))) ∙
+        (ap₂ shareBy (d .heights (getD js i 0)) (d .ys i))) ∙
         sum-plus _ _ n ∙
         ap₂ _+_ (sym (backbones-counted s js long low)) (sym (drops-counted s js long))
 

@@ -8,7 +8,7 @@ use lib.ListN.{length, getD}
 use Rattle.sheet.specs.Limits.{mostSites, numberTop}
 use Rattle.rules.specs.Rules.{boundKept, isStated}
 use Rattle.labelling.specs.Counted.{allBefore, sumBefore, isFirst}
-use Rattle.decoding.specs.Decoding.{shareBy}
+use Rattle.labelling.specs.Layout.{shareBy}
 use Rattle.words.specs.declared.tied.TiedSite.{TiedSite}
 use Rattle.words.specs.declared.tied.Head.{Head}
 use Rattle.layouts.specs.declared.pairs.Test.{Test}
@@ -71,7 +71,7 @@ leftOn h xs js n k = cond (h .twosided) 0 (leastBefore k (h .width) (λ i. getD 
 -- what a site adds to the length, and the length
 abbrev pub lengthAt : Head → (heights xs ys colours ties : List ℕ) → (count site : ℕ) → ℕ
 lengthAt h hs xs ys cs js n i =
-    cond (isFirst (amongBy All cs) js i) (h .width - leftOn h xs js n (getD js i 0)) 0 + shareBy h (getD hs (getD js i 0) 0) (getD ys i 0)
+    cond (isFirst (amongBy All cs) js i) (h .width - leftOn h xs js n (getD js i 0)) 0 + shareBy (getD hs (getD js i 0) 0) (getD ys i 0)
 
 abbrev pub lengthOn : Head → (heights xs ys colours ties : List ℕ) → (count : ℕ) → ℕ
 lengthOn h hs xs ys cs js n = sumBefore (lengthAt h hs xs ys cs js n) n

@@ -60,7 +60,7 @@ or-by F false false A B s t q n a e h = e
 
 -- a site's colour has no part in its rank
 rank-any : (w c : ℕ) → rankOf (siteIn w c) ≡ rankIn w
-unfolding rankOf
+unfolding rankBy
 rank-any w c = refl
 
 pub inside : (x c : ℕ) (ws : List ℕ) → all (insideBy x) (sitesIn c ws) ≡ allInside x ws

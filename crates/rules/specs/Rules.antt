@@ -5,7 +5,7 @@ use Prim.Native.Nat.{ℕ}
 use lib.Dec.{leb, eqb}
 use Rattle.sheet.specs.Limits.{unbounded}
 use Rattle.sheet.specs.Sheet.{bits}
-use Rattle.labelling.specs.Layout.{apart, verticalHas}
+use Rattle.labelling.specs.Layout.{farBy, countsBy, clearBy, verticalHas}
 use Rattle.words.specs.declared.tied.TiedSite.{TiedSite}
 use Rattle.words.specs.declared.tied.Head.{Head}
 use Rattle.words.specs.Starts.{startOf}
@@ -20,7 +20,7 @@ boundKept n b = eqb b unbounded || leb n b
 
 -- 3: used slots at least D apart
 abbrev pub gapsPass : Head → (t u : TiedSite) → Bool
-gapsPass h t u = eqb (t .slot) (u .slot) || leb (h .gap) (apart (t .height) (u .height))
+gapsPass h t u = eqb (t .slot) (u .slot) || farBy (h .gap) (t .height) (u .height)
 
 -- 4: t's vertical has no point of the backbone that u's label has from u on
 abbrev pub missesPass : Head → (t u : TiedSite) → Bool
@@ -28,7 +28,7 @@ missesPass h t u = eqb (t .slot) (u .slot) || not (leb (startOf h u) (t .x) && v
 
 -- 5: the backbone that u's label has from u on lies at least D from t
 abbrev pub clearsPass : Head → (t u : TiedSite) → Bool
-clearsPass h t u = eqb (t .slot) (u .slot) || not (leb (startOf h u) (t .x)) || leb (h .gap) (apart (u .height) (t .y))
+clearsPass h t u = eqb (t .slot) (u .slot) || not (countsBy (h .gap) (startOf h u) (t .x)) || clearBy (h .gap) (u .height) (t .y)
 
 -- 6: a layout's first word states this count (bits 27 to 21) and this length (bits 20 to 0)
 abbrev pub isStated : (word labels size : ℕ) → Bool

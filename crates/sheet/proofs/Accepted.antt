@@ -10,7 +10,7 @@ use lib.Dec.{ltb, leb, eqb}
 use lib.ListN.{length, length-drop}
 use borrow.Author.Tests.{ltb-true, ltb-false, leb-true, eqb-true, eqb-false, lt-ltb, eq-eqb, ne-eqb}
 use Rattle.sheet.specs.Limits.{mostSlots, mostColours, mostSites, mostBudgets, mostWords, numberTop}
-use Rattle.sheet.specs.Sheet.{all, kindOf, bits, hasSpare, inOrder, Site, Sheet, slotsIn, sitesIn, coloursIn, headIn, bodyOf, sheetIn, productOf, rising, rankOf, rankTop, hasRank, ranksDiffer, isHead, countsFit, insideBy, sheetFault}
+use Rattle.sheet.specs.Sheet.{all, kindOf, bits, hasSpare, inOrder, Site, Sheet, slotsIn, sitesIn, coloursIn, headIn, bodyOf, sheetIn, productOf, rising, rankOf, rankTop, hasRank, ranksDiffer, isHead, countsFit, insideBy, sheetFault, rankBy}
 use Rattle.lists.proofs.Tests.{by-test, and-l, and-r, and-i, or-e, not-f}
 
 -- a chain of refusals that comes to 0
@@ -220,7 +220,7 @@ few-words ss ok =
     omega (arith, parts-length 0 0 (bodyOf ss) (unrefused ss ok .order), length-drop 1 ss, o .few-slots, o .few-colours, o .few-sites)
 
 pub rank-low : (s : Site) → s .x < numberTop → s .y < numberTop → rankOf s < rankTop
-unfolding rankOf
+unfolding rankBy
 rank-low s h k = omega arith
 
 pub low-x : (ss : List Site) → all lowX ss ≡ true → all lowY ss ≡ true → (x : ℕ) → hasRank x ss ≡ true → x < rankTop

@@ -114,9 +114,12 @@ rising [] = true
 rising (x ∷ []) = true
 rising (x ∷ y ∷ xs) = ltb x y && rising (y ∷ xs)
 
--- a site's place in the order of choice, as one number: its x ("take the sites by rising x")
-unfoldable pub rankOf : Site → ℕ
-rankOf s = s .x
+-- a site's place in the order of choice, as one number: its x ("take the sites by rising x"). By its numbers, and of a site
+unfoldable pub rankBy : (x y : ℕ) → ℕ
+rankBy x y = x
+
+abbrev pub rankOf : Site → ℕ
+rankOf s = rankBy (s .x) (s .y)
 
 -- a number above every rank
 abbrev pub rankTop : ℕ

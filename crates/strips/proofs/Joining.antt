@@ -5,9 +5,10 @@ use mathlib.Core.Bool.{true, false}
 use mathlib.Core.List.{List}
 use Prim.Native.Nat.{ℕ, suc, _+_, _-_, _<_, _≤_}
 use native.Mathlib.Omega.{arith}
-use lib.ListN.{length}
+use lib.ListN.{length, getD}
 use borrow.Author.Tests.{lt-ltb, ltb-true, eqb-true}
 use Rattle.lists.proofs.Tests.{by-test, by-either, and-both, and-of}
+use Rattle.labelling.proofs.Distances.{share-le}
 use Rattle.optimum.specs.Strips.{Point, Strip, opens, joinsUp, joinsDown}
 use Rattle.optimum.specs.OneSided.{topWord}
 use Rattle.arrays.specs.declared.Measures.{Measures}
@@ -67,4 +68,6 @@ module _ (q : Measures) (hs bs : List ℕ) (p : Strip) (s : Point) where
 
   -- a join costs less than none
   pub join-low : (k : ℕ) → OfSheet (onSlots q hs) → SiteIn q s → joinCost q hs s k < topWord
-  join-low k o i = by-test (q .head .shortest) (λ e. rw e (omega (arith, o .heightLow k, i .yLow))) (λ e. rw e (omega (arith, o .heightLow k, i .yLow)))
+  join-low k o i =
+      let h = share-le (getD hs k 0) (s .y) (o .heightLow k) (i .yLow) in
+      by-test (q .head .shortest) (λ e. rw e (omega (arith, h))) (λ e. rw e (omega (arith, h)))

@@ -7,9 +7,10 @@ use native.Mathlib.Omega.{arith}
 use native.Mathlib.Numerals.{add-one}
 use lib.Dec.{leb, ltb}
 use lib.ListN.{length, getD}
-use borrow.Author.Tests.{leb-true, le-leb, lt-leb, lt-ltb, le-ltb}
+use borrow.Author.Tests.{le-leb, lt-leb, lt-ltb, le-ltb}
 use Rattle.lists.proofs.Tests.{by-order}
-use Rattle.labelling.specs.Layout.{apart}
+use Rattle.labelling.specs.Layout.{farBy}
+use Rattle.labelling.proofs.Distances.{far-down as further-down, far-up as further-up}
 use Rattle.optimum.specs.Slots.{Slots, farFrom}
 use Rattle.optimum.specs.Strips.{Point, Strip}
 use Rattle.arrays.specs.declared.Measures.{Measures}
@@ -38,8 +39,8 @@ module _ (q : Measures) (hs : List ℕ) (rising : (j k : ℕ) → j < k → k < 
   far-down zero e j k c ha hj hk f = refl
   far-down (suc i) e j k c ha hj hk f =
       let m : leb (length hs) i ≡ false = lt-leb (length hs) i (omega arith) in
-      let d : q .head .gap ≤ apart (getD hs i 0) (getD hs j 0) = leb-true _ _ (rw m at f) in
-      rw m (le-leb (q .head .gap) (apart (getD hs i 0) (getD hs k 0)) (omega (arith, rising i j ha (omega arith), rise-le (slotsBy q hs) rising j k hj hk)))
+      let d : farBy (q .head .gap) (getD hs i 0) (getD hs j 0) ≡ true = rw m at f in
+      rw m (further-down (q .head .gap) (getD hs i 0) (getD hs j 0) (getD hs k 0) (rising i j ha (omega arith)) (rise-le (slotsBy q hs) rising j k hj hk) d)
 
   far-up : (b e j k c : ℕ) → j ≤ k → k + 1 < b → farFrom S b e k c ≡ true → farFrom S b e j c ≡ true
   unfolding farFrom
@@ -49,8 +50,8 @@ module _ (q : Measures) (hs : List ℕ) (rising : (j k : ℕ) → j < k → k < 
       (λ l. rw (le-leb (length hs) i l))
       (λ l.
       let m : leb (length hs) i ≡ false = lt-leb (length hs) i l in
-      let d : q .head .gap ≤ apart (getD hs i 0) (getD hs k 0) = leb-true _ _ (rw m at f) in
-      rw m (le-leb (q .head .gap) (apart (getD hs i 0) (getD hs j 0)) (omega (arith, rising k i (omega arith) l, rise-le (slotsBy q hs) rising j k hj (omega arith)))))
+      let d : farBy (q .head .gap) (getD hs i 0) (getD hs k 0) ≡ true = rw m at f in
+      rw m (further-up (q .head .gap) (getD hs i 0) (getD hs k 0) (getD hs j 0) (rising k i (omega arith) l) (rise-le (slotsBy q hs) rising j k hj (omega arith)) d))
 
   module _ (p : Strip) (s : Point) (w : Window) (low : p .b < length hs + 2) (u : FirstFar S p s (w .from)) (v : FarEnd S p s (w .from) (w .to)) where
     leaves : (k : ℕ) → p .a ≤ k → k + 1 < p .b → gapLeft S p s k ≡ leb (w .from) k && ltb k (w .to)

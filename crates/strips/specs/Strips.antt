@@ -5,7 +5,7 @@ use mathlib.Core.List.{List}
 use Prim.Native.Nat.{ℕ, suc, _+_, _-_, _<_, _≤_, min}
 use lib.Dec.{leb, ltb}
 use lib.ListN.{length, getD}
-use Rattle.labelling.specs.Layout.{apart}
+use Rattle.labelling.specs.Layout.{shareBy}
 use Rattle.optimum.specs.Slots.{Slots, farFrom, clearFrom}
 use Rattle.optimum.specs.Strips.{Point, Strip, Instance, joinsUp, joinsDown}
 use Rattle.optimum.specs.OneSided.{topWord}
@@ -48,10 +48,10 @@ pub record WindowOf (S : Slots) (p : Strip) (s : Point) (w : Window) : Type 0 wh
 
 -- what a step costs that opens a label, and one that joins it
 abbrev pub openCost : Measures → (heights : List ℕ) → Point → (slot : ℕ) → ℕ
-openCost q hs s k = wordBy q 1 (q .head .width - s .x + apart (getD hs k 0) (s .y))
+openCost q hs s k = wordBy q 1 (q .head .width - s .x + shareBy (getD hs k 0) (s .y))
 
 abbrev pub joinCost : Measures → (heights : List ℕ) → Point → (slot : ℕ) → ℕ
-joinCost q hs s k = wordBy q 0 (apart (getD hs k 0) (s .y))
+joinCost q hs s k = wordBy q 0 (shareBy (getD hs k 0) (s .y))
 
 -- the least that joining a label costs
 unfoldable pub joinLeast : Measures → (heights bounds : List ℕ) → Strip → Point → ℕ

@@ -23,7 +23,7 @@ use rows::Strip;
 use words::NONE;
 use words::both;
 use words::choose;
-use words::drops::apart_of;
+use words::drops::share_of;
 use words::either;
 use words::get;
 use words::is_not;
@@ -145,18 +145,14 @@ pub fn open_cost(q: Measures, heights: &[u32], s: Site, k: u32) -> u32
     requires { ⌜ OfSheet (onSlots q (now heights)) × SiteIn q (pointOf s) ⌝ }
     ensures { λ r. ⌜ r ≡ openCost q (now (heights .entry)) (pointOf s) k ⌝ }
 {
-    cost_word(
-        q,
-        1,
-        monus(q.head.width, s.x) + apart_of(get(heights, k), s.y),
-    )
+    cost_word(q, 1, monus(q.head.width, s.x) + share_of(get(heights, k), s.y))
 }
 
 fn join_cost(q: Measures, heights: &[u32], s: Site, k: u32) -> u32
     requires { ⌜ OfSheet (onSlots q (now heights)) × SiteIn q (pointOf s) ⌝ }
     ensures { λ r. ⌜ r ≡ joinCost q (now (heights .entry)) (pointOf s) k ⌝ }
 {
-    cost_word(q, 0, apart_of(get(heights, k), s.y))
+    cost_word(q, 0, share_of(get(heights, k), s.y))
 }
 
 // The least that joining a label costs.

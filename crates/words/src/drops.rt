@@ -2,8 +2,7 @@
 ghost use mathlib.Core.Path.{_≡_};
 ghost use Prim.Native.Nat.{_<_};
 ghost use lib.IntN.{pos, natAbs, _-ℤ_};
-ghost use Rattle.sheet.specs.Sheet.{Sheet};
-ghost use Rattle.labelling.specs.Layout.{apart, siteShare};
+ghost use Rattle.labelling.specs.Layout.{apart, shareBy};
 ghost use Rattle.words.specs.Signs.{signTop};
 
 // How far two heights lie apart.
@@ -38,7 +37,7 @@ pub fn magnitude(d: i32) -> u32
 // A site's share of the length, by the height of its slot and its own.
 pub fn share_of(h: u32, y: u32) -> u32
     requires { ⌜ (h < signTop) × (y < signTop) ⌝ }
-    ensures { λ r. ⌜ ((s : Sheet) → r ≡ siteShare s h y) ⌝ }
+    ensures { λ r. ⌜ r ≡ shareBy h y ⌝ }
 {
     magnitude(drop_of(h, y))
 }

@@ -9,7 +9,7 @@ ghost use Prim.Native.Nat.{_+_, _-_, _<_, min};
 ghost use lib.Dec.{eqb, leb, ltb};
 ghost use lib.ListN.{getD};
 ghost use Rattle.sheet.specs.Limits.{byteTop, topWord};
-ghost use Rattle.sheet.specs.Sheet.{kindOf, bits};
+ghost use Rattle.sheet.specs.Sheet.{kindOf, bits, rankBy};
 ghost use Rattle.sheet.specs.Words.{rankIn};
 ghost use Rattle.search.specs.Cost.{plus};
 
@@ -48,6 +48,9 @@ pub const KIND_TOP: u32 = 268435456;
 
 pub const NUMBER_TOP: u32 = 16384;
 
+// Above every rank.
+pub const RANK_TOP: u32 = NUMBER_TOP;
+
 pub const BYTE_TOP: u32 = 256;
 
 pub const LENGTH_TOP: u32 = 2097152;
@@ -84,11 +87,18 @@ pub fn high_field(w: u32) -> u32
     w / NUMBER_TOP % NUMBER_TOP
 }
 
-// A site's rank: its x.
+// A site's rank, by its numbers: its x.
+pub fn rank_by(x: u32, y: u32) -> u32
+    ensures { λ r. ⌜ r ≡ rankBy x y ⌝ }
+{
+    x
+}
+
+// The rank of the site in a word.
 pub fn rank_of(w: u32) -> u32
     ensures { λ r. ⌜ r ≡ rankIn w ⌝ }
 {
-    w / NUMBER_TOP % NUMBER_TOP
+    rank_by(high_field(w), low_field(w))
 }
 
 // Bits 25 to 14: the gap.

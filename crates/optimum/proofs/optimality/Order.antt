@@ -14,7 +14,7 @@ use Rattle.search.proofs.Cost.{least-le, least-is, first-le, first-is}
 use Rattle.search.specs.Sums.{sum}
 use Rattle.search.proofs.Sums.{sum-cong, sum-add, sum-zero, sum-point, sum-pos, sum-ones}
 use Rattle.sheet.specs.Limits.{numberTop}
-use Rattle.sheet.specs.Sheet.{Site, Sheet, rankOf, rankTop, hasRank, ranksDiffer}
+use Rattle.sheet.specs.Sheet.{Site, Sheet, rankOf, rankTop, hasRank, ranksDiffer, rankBy}
 use Rattle.sheet.proofs.Accepted.{Sound, lowX, lowY, rank-low}
 use Rattle.labelling.specs.Layout.{isUsed}
 use Rattle.labelling.proofs.Counted.{sumOver}
@@ -55,12 +55,12 @@ module _ (s : Sheet) (o : Sound s) where
 
   -- x does not fall as the rank rises
   pub rank-x : (i j : ℕ) → i < length (s .sites) → j < length (s .sites) → rankAt s i ≤ rankAt s j → (getD (s .sites) i noSite) .x ≤ (getD (s .sites) j noSite) .x
-  unfolding rankOf
+  unfolding rankBy
   rank-x i j hi hj h = omega (arith, y-low i hi, y-low j hj)
 
   -- base only: with columns this holds where the x differ
   pub x-rank : (i j : ℕ) → (getD (s .sites) i noSite) .x ≤ (getD (s .sites) j noSite) .x → rankAt s i ≤ rankAt s j
-  unfolding rankOf
+  unfolding rankBy
   x-rank i j h = h
 
 -- ---- lists of sites
@@ -82,7 +82,7 @@ pub record Ordered (s : Sheet) (n a : ℕ) (is : List ℕ) : Type 0 where
 
 module _ (s : Sheet) (o : Sound s) where
   low-at : (i : ℕ) → i < length (s .sites) → rankAt s i < rankTop
-  low-at i h = rank-low _ (ltb-true _ _ (all-at lowX noSite (s .sites) (o .xs) i h)) (ltb-true _ _ (all-at lowY noSite (s .sites) (o .ys) i h))
+  low-at i h = rank-low (getD (s .sites) i noSite) (ltb-true _ _ (all-at lowX noSite (s .sites) (o .xs) i h)) (ltb-true _ _ (all-at lowY noSite (s .sites) (o .ys) i h))
 
   -- how many sites lie at a or right of it
   count : ℕ → ℕ

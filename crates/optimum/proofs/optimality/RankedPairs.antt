@@ -20,6 +20,7 @@ use Rattle.optimum.specs.Slots.{farEnough}
 use Rattle.optimum.specs.OneSided.{xOf, pointAt, pointsAt, instanceOf}
 use Rattle.optimum.proofs.Pairs.{Pair, PairAll, Pairs}
 use Rattle.optimum.proofs.optimality.Order.{rank-x, x-rank, Rise, gather, same-site}
+use Rattle.labelling.proofs.Distances.{counts-right, right-counts}
 use Rattle.optimum.proofs.optimality.Distances.{good}
 
 abbrev pub yOf : Sheet → ℕ → ℕ
@@ -40,7 +41,7 @@ unfolding farEnough
 pairs-rising s o t js p i j hi hj h =
     let q = p i j hi hj in
     let x : startOf s (siteAt s i) ≤ xOf s j = omega (arith, start-one s t (siteAt s i), rank-x s o i j hi hj (omega arith)) in
-    (q .colour, λ n. (q .far n, q .clear n x, q .misses n x))
+    (q .colour, λ n. (q .far n, q .clear n (counts-right (s .gap) _ _ x), q .misses n x))
 
 pub rising-pairs : (s : Sheet) → Sound s → s .isTwoSided ≡ false → (js : List ℕ) → AllPairs s js → AllInOrder s js
 unfolding farEnough
@@ -48,7 +49,7 @@ rising-pairs s o t js p i j hi hj = record {
   colour = λ e. by-three (λ h. p i j hi hj h .0 e) (λ h. sym (p j i hj hi h .0 (sym e))) (λ q. ap (colourOf s) q);
   far = λ n. by-three (λ h. p i j hi hj h .1 n .0) (λ h. good s o .far-sym (getD js j 0) (suc (colourOf s j)) (getD js i 0) (suc (colourOf s i)) (p j i hj hi h .1 (λ e. n (sym e)) .0)) (λ q. absurd (n (ap (λ (z : ℕ). getD js z 0) q)));
   misses = λ n r. by-three (λ h. p i j hi hj h .1 n .2) (λ h. absurd (before r h)) (λ q. absurd (n (ap (λ (z : ℕ). getD js z 0) q)));
-  clear = λ n r. by-three (λ h. p i j hi hj h .1 n .1) (λ h. absurd (before r h)) (λ q. absurd (n (ap (λ (z : ℕ). getD js z 0) q)));
+  clear = λ n r. by-three (λ h. p i j hi hj h .1 n .1) (λ h. absurd (before (right-counts (s .gap) _ _ r) h)) (λ q. absurd (n (ap (λ (z : ℕ). getD js z 0) q)));
 }
   where
     by-three : {A : Type 0} → (rankAt s i < rankAt s j → A) → (rankAt s j < rankAt s i → A) → (i ≡ j → A) → A

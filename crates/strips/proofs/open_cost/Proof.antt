@@ -1,15 +1,14 @@
 use mathlib.Core.Path.{_∙_}
-use Prim.Native.Nat.{_-_}
+use Prim.Native.Nat.{_<_}
 use native.Mathlib.Omega.{arith}
 use borrow.Author.Needs.{needs}
+use Rattle.sheet.specs.Limits.{numberTop}
+use Rattle.labelling.proofs.Distances.{share-le}
 use Rattle.strips.proofs.open_cost.Statement.{statement}
 use Rattle.strips.proofs.open_cost.Tie as tie
-use Rattle.strips.proofs.open_cost.Reads as reads
-use Rattle.strips.proofs.open_cost.Lts as lts
-use Rattle.words.proofs.drops.apart_of.Reads as apart-of-reads
-use Rattle.costs.proofs.cost_word.Reads as cost-word-reads
-use Rattle.words.proofs.get.Reads as get-reads
-use Rattle.words.proofs.monus.Reads as monus-reads
+
+abbrev begin : tie.After-get → tie.Start
+begin c = c .before .before .before
 
 monus-requires : tie.Need-monus-requires
 monus-requires c κs = search needs
@@ -17,22 +16,28 @@ monus-requires c κs = search needs
 get-requires : tie.Need-get-requires
 get-requires c κs = search needs
 
-apart-of-requires : tie.Need-apart-of-requires
-apart-of-requires c κs = search needs
+-- the slot's height is low
+height-low : (c : tie.After-get) → c .get .result < numberTop
+height-low c = omega (arith, c .get .ensures, begin c .pre .0 .heightLow (begin c .args .k))
+
+share-of-requires : tie.Need-share-of-requires
+share-of-requires c κs = (omega (arith, height-low c), omega (arith, begin c .pre .1 .yLow))
 
 add-cost-word : tie.Need-add-cost-word
 add-cost-word c =
-    let p = c .before .before .before .before .pre in omega (arith, p .0 .narrow, p .0 .heightLow (c .before .before .before .before .args .k), p .1 .yLow)
+    let p = begin (c .before) .pre in
+    omega (arith, p .0 .narrow, c .share-of .ensures, c .before .before .monus .ensures, share-le _ _ (height-low (c .before)) (p .1 .yLow))
 
 cost-word-requires : tie.Need-cost-word-requires
 cost-word-requires c κs =
-    let p = c .before .before .before .before .pre in omega (arith, p .0 .narrow, p .0 .heightLow (c .before .before .before .before .args .k), p .1 .yLow)
+    let p = begin (c .before) .pre in
+    omega (arith, p .0 .narrow, c .share-of .ensures, c .before .before .monus .ensures, share-le _ _ (height-low (c .before)) (p .1 .yLow))
 
 returns : tie.Need-returns
 returns c =
-    c .cost-word .ensures ∙ rw (c .before .apart-of .ensures, c .before .before .get .ensures, c .before .before .before .monus .ensures)
+    c .cost-word .ensures ∙ rw (c .before .share-of .ensures, c .before .before .get .ensures, c .before .before .before .monus .ensures)
 
 pub open-cost-spec : {M : Type 1} → statement M
 open-cost-spec =
     tie.close
-    (tie.spec monus-requires get-requires apart-of-requires add-cost-word cost-word-requires returns)
+    (tie.spec monus-requires get-requires share-of-requires add-cost-word cost-word-requires returns)

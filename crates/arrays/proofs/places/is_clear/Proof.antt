@@ -22,12 +22,12 @@ returns-2 c =
 get-requires : tie.Need-get-requires
 get-requires c κs = search needs
 
-is-clear-at-requires : tie.Need-is-clear-at-requires
-is-clear-at-requires c κs = search needs
+is-clear-requires : tie.Need-is-clear-requires
+is-clear-requires c κs = search needs
 
 returns-3 : tie.Need-returns-3
 returns-3 c =
-    c .is-clear-at .ensures ∙ rw (c .before .get .ensures) (sym (clear-label _ _ _ (omega arith) (omega arith)))
+    c .is-clear .ensures ∙ rw (c .before .get .ensures) (sym (clear-label _ _ _ (omega arith) (omega arith)))
 
 pub is-clear-spec : {M : Type 1} → statement M
 is-clear-spec =
@@ -38,5 +38,5 @@ is-clear-spec =
     cast-if2
     returns-2
     get-requires
-    is-clear-at-requires
+    is-clear-requires
     returns-3)

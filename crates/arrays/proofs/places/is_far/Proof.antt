@@ -25,15 +25,12 @@ get-requires c κs = search needs
 get-requires-2 : tie.Need-get-requires-2
 get-requires-2 c κs = search needs
 
-apart-of-requires : tie.Need-apart-of-requires
-apart-of-requires c κs = search needs
-
-at-most-requires : tie.Need-at-most-requires
-at-most-requires c κs = search needs
+is-far-requires : tie.Need-is-far-requires
+is-far-requires c κs = search needs
 
 returns-3 : tie.Need-returns-3
 returns-3 c =
-    c .at-most .ensures ∙ rw (c .before .apart-of .ensures, c .before .before .get2 .ensures, c .before .before .before .get .ensures) (sym (far-label _ _ _ _ _ (omega arith) (omega arith)))
+    c .is-far .ensures ∙ rw (c .before .get2 .ensures, c .before .before .get .ensures) (sym (far-label _ _ _ _ _ (omega arith) (omega arith)))
 
 pub is-far-spec : {M : Type 1} → statement M
 is-far-spec =
@@ -45,6 +42,5 @@ is-far-spec =
     returns-2
     get-requires
     get-requires-2
-    apart-of-requires
-    at-most-requires
+    is-far-requires
     returns-3)

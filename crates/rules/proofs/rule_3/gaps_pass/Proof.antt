@@ -3,8 +3,8 @@ use borrow.Author.Needs.{needs}
 use Rattle.rules.proofs.rule_3.gaps_pass.Statement.{statement}
 use Rattle.rules.proofs.rule_3.gaps_pass.Tie as tie
 
-apart-of-requires : tie.Need-apart-of-requires
-apart-of-requires c κs = search needs
+is-far-requires : tie.Need-is-far-requires
+is-far-requires c κs = search needs
 
 same-requires : tie.Need-same-requires
 same-requires c κs = search needs
@@ -14,7 +14,7 @@ either-requires c κs = search needs
 
 returns : tie.Need-returns
 returns c =
-    rw (c .either .ensures, c .before .same .ensures, c .before .before .before .apart-of .ensures) refl
+    rw (c .either .ensures, c .before .same .ensures, c .before .before .is-far .ensures) refl
 
 pub gaps-pass-spec : {M : Type 1} → statement M
-gaps-pass-spec = tie.close (tie.spec apart-of-requires same-requires either-requires returns)
+gaps-pass-spec = tie.close (tie.spec is-far-requires same-requires either-requires returns)

@@ -1,5 +1,5 @@
 use Rattle.words.proofs.drops.Signed.{diff-size, diff-back}
-use Rattle.labelling.specs.Layout.{siteShare}
+use Rattle.labelling.specs.Layout.{shareBy}
 use mathlib.Core.Path.{_∙_}
 use native.Mathlib.Omega.{arith}
 use borrow.Author.Needs.{needs}
@@ -15,9 +15,9 @@ magnitude-requires c κs =
     rw (c .drop-of .ensures, diff-back (a .h) (a .y) (c .before .pre .0) (c .before .pre .1)) (omega (arith, diff-size (a .h) (a .y)))
 
 returns : tie.Need-returns
-unfolding siteShare
+unfolding shareBy
 returns c =
-    λ s. let a = c .before .before .args in let p = c .before .before .pre in
+    let a = c .before .before .args in let p = c .before .before .pre in
     c .magnitude .ensures ∙ rw (c .before .drop-of .ensures, diff-back (a .h) (a .y) (p .0) (p .1)) (diff-size (a .h) (a .y))
 
 pub share-of-spec : {M : Type 1} → statement M

@@ -1,0 +1,84 @@
+-- Laws of what rules 3 and 5 and the length ask by numbers: heights far enough apart, a label clear of a site, a site that counts, a
+-- site's share. No other proof spells these out, but Document03, which holds them to document 03's. Assumes nothing.
+use mathlib.Core.Path.{_≡_}
+use mathlib.Core.Bool.{true}
+use Prim.Native.Nat.{ℕ, _≤_, _<_}
+use native.Mathlib.Omega.{arith}
+use borrow.Author.Tests.{leb-true, le-leb}
+use Rattle.sheet.specs.Limits.{numberTop, mostNumber}
+use Rattle.labelling.specs.Layout.{apart, farBy, countsBy, clearBy, shareBy}
+
+-- ---- two labels
+
+pub far-e : (d a b : ℕ) → farBy d a b ≡ true → d ≤ apart a b
+unfolding farBy
+far-e d a b f = leb-true d (apart a b) f
+
+pub far-i : (d a b : ℕ) → d ≤ apart a b → farBy d a b ≡ true
+unfolding farBy
+far-i d a b h = le-leb d (apart a b) h
+
+pub far-sym : (d a b : ℕ) → farBy d a b ≡ true → farBy d b a ≡ true
+far-sym d a b f = far-i d b a (omega (arith, far-e d a b f))
+
+pub far-trans : (d a b c : ℕ) → a < b → b < c → farBy d a b ≡ true → farBy d b c ≡ true → farBy d a c ≡ true
+far-trans d a b c p q f g = far-i d a c (omega (arith, far-e d a b f, far-e d b c g))
+
+-- one further down from a label above, one further up from a label below
+pub far-down : (d a b c : ℕ) → a < b → b ≤ c → farBy d a b ≡ true → farBy d a c ≡ true
+far-down d a b c p q f = far-i d a c (omega (arith, far-e d a b f))
+
+pub far-up : (d a b c : ℕ) → b < a → c ≤ b → farBy d a b ≡ true → farBy d a c ≡ true
+far-up d a b c p q f = far-i d a c (omega (arith, far-e d a b f))
+
+-- ---- a label and a site
+
+clear-e : (d h y : ℕ) → clearBy d h y ≡ true → d ≤ apart h y
+unfolding clearBy
+clear-e d h y f = leb-true d (apart h y) f
+
+clear-i : (d h y : ℕ) → d ≤ apart h y → clearBy d h y ≡ true
+unfolding clearBy
+clear-i d h y l = le-leb d (apart h y) l
+
+-- a site beyond another label
+pub far-above : (d a b y : ℕ) → a < b → b ≤ y → farBy d a b ≡ true → clearBy d a y ≡ true
+far-above d a b y p q f = clear-i d a y (omega (arith, far-e d a b f))
+
+pub far-below : (d a b y : ℕ) → b < a → y < b → farBy d a b ≡ true → clearBy d a y ≡ true
+far-below d a b y p q f = clear-i d a y (omega (arith, far-e d a b f))
+
+pub clear-above : (d a b y : ℕ) → a < b → b ≤ y → clearBy d b y ≡ true → clearBy d a y ≡ true
+clear-above d a b y p q f = clear-i d a y (omega (arith, clear-e d b y f))
+
+pub clear-below : (d a b y : ℕ) → b < a → y < b → clearBy d b y ≡ true → clearBy d a y ≡ true
+clear-below d a b y p q f = clear-i d a y (omega (arith, clear-e d b y f))
+
+-- a label that is clear of a site is not at its height
+pub clear-off : (d h y : ℕ) → 0 < d → clearBy d h y ≡ true → h ≡ y → ⊥
+clear-off d h y g f e = omega (arith, clear-e d h y f)
+
+-- ---- a site that counts against a label: it counts against one further left too, and every site against one at the left edge
+
+pub counts-left : (d c e x : ℕ) → c ≤ e → countsBy d e x ≡ true → countsBy d c x ≡ true
+unfolding countsBy
+counts-left d c e x l f = le-leb c x (omega (arith, leb-true e x f))
+
+pub counts-all : (d x : ℕ) → countsBy d 0 x ≡ true
+unfolding countsBy
+counts-all d x = le-leb 0 x (omega arith)
+
+-- a site at a left end or right of it counts, and no other: the second goes with document 02's clearance at the tip
+pub counts-right : (d e x : ℕ) → e ≤ x → countsBy d e x ≡ true
+unfolding countsBy
+counts-right d e x l = le-leb e x l
+
+pub right-counts : (d e x : ℕ) → countsBy d e x ≡ true → e ≤ x
+unfolding countsBy
+right-counts d e x f = leb-true e x f
+
+-- ---- a site's share is at most the greatest number
+
+pub share-le : (h y : ℕ) → h < numberTop → y < numberTop → shareBy h y ≤ mostNumber
+unfolding shareBy
+share-le h y p q = omega arith
