@@ -7,7 +7,7 @@ use native.Mathlib.Omega.{arith}
 use lib.Dec.{eqb, leb, ltb}
 use borrow.Author.Tests.{ltb-true, ltb-false, le-leb, lt-leb}
 use Rattle.lists.proofs.Tests.{by-test, clash}
-use Rattle.sheet.specs.Sheet.{all, kindOf, bits, Site, siteIn, slotsIn, sitesIn, rising, insideBy, rankOf, hasRank, ranksDiffer}
+use Rattle.sheet.specs.Sheet.{all, kindOf, bits, Site, siteIn, slotsIn, sitesIn, rising, insideBy, hasRank, ranksDiffer}
 use Rattle.sheet.specs.Words.{rankIn}
 use Rattle.sheet.proofs.Counts.{colour-no-site}
 use Rattle.refusals.specs.Wordwise.{risesFrom, allInside, someRanked, allNew}
@@ -58,11 +58,6 @@ or-by F true false A B s t q n a e h = a
 or-by F false true A B s t q n a e h = h ∙ ap (λ (r : Bool). t || r) e
 or-by F false false A B s t q n a e h = e
 
--- a site's colour has no part in its rank
-rank-any : (w c : ℕ) → rankOf (siteIn w c) ≡ rankIn w
-unfolding rankBy
-rank-any w c = refl
-
 pub inside : (x c : ℕ) (ws : List ℕ) → all (insideBy x) (sitesIn c ws) ≡ allInside x ws
 unfolding sitesIn allInside all
 inside x c [] = refl
@@ -75,7 +70,7 @@ unfolding sitesIn someRanked hasRank
 has-rank r c [] = refl
 has-rank r c (w ∷ ws) =
     or-by (λ l. hasRank r l) (eqb (kindOf w) 3) (eqb (kindOf w) 4) (sitesIn (suc c) ws) (sitesIn c ws) (siteIn w (c - 1)) (eqb (rankIn w) r) (someRanked r ws)
-    (colour-no-site (kindOf w)) (has-rank r (suc c) ws) (has-rank r c ws) (ap (λ (n : ℕ). eqb n r || hasRank r (sitesIn c ws)) (rank-any w (c - 1)))
+    (colour-no-site (kindOf w)) (has-rank r (suc c) ws) (has-rank r c ws) refl
 
 pub differ : (c : ℕ) (ws : List ℕ) → ranksDiffer (sitesIn c ws) ≡ allNew ws
 unfolding sitesIn allNew ranksDiffer
@@ -83,4 +78,4 @@ differ c [] = refl
 differ c (w ∷ ws) =
     and-by (λ l. ranksDiffer l) (eqb (kindOf w) 3) (eqb (kindOf w) 4) (sitesIn (suc c) ws) (sitesIn c ws) (siteIn w (c - 1)) (not (someRanked (rankIn w) ws)) (allNew ws)
     (colour-no-site (kindOf w)) (differ (suc c) ws) (differ c ws)
-    (ap (λ (t : Bool). not t && ranksDiffer (sitesIn c ws)) (ap (λ (n : ℕ). hasRank n (sitesIn c ws)) (rank-any w (c - 1)) ∙ has-rank (rankIn w) c ws))
+    (ap (λ (t : Bool). not t && ranksDiffer (sitesIn c ws)) (has-rank (rankIn w) c ws))
