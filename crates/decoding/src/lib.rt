@@ -7,9 +7,9 @@ ghost use lib.Dec.{eqb};
 ghost use Prim.Native.Nat.{_+_, _<_, _≤_};
 ghost use lib.ListN.{length, drop};
 ghost use Rattle.sheet.specs.Limits.{mostSlots, mostColours, mostSites, topWord};
-ghost use Rattle.sheet.specs.Sheet.{sheetIn, sheetFault};
+ghost use Rattle.sheet.specs.Sheet.{coloursIn, sheetIn, sheetFault};
 ghost use Rattle.sheet.specs.Words.{countKind};
-ghost use Rattle.decoding.specs.Decoding.{headBy, boundsOf, xsOf, ysOf, coloursOf, collected, siteColours};
+ghost use Rattle.decoding.specs.Decoding.{numbersBy, headBy, boundsOf, siteCountsOf, xsOf, ysOf, coloursOf, collected, siteColours};
 use words::BYTE_TOP;
 use words::COLOUR;
 use words::MOST_COLOURS;
@@ -18,6 +18,9 @@ use words::MOST_SLOTS;
 use words::NUMBER_TOP;
 use words::SITE;
 use words::SLOT;
+use words::body::body_of;
+use words::body::count_kind;
+use words::body::sites_run;
 use words::tied::Head;
 ghost use Rattle.lists.specs.Arrays.{padded};
 
@@ -35,15 +38,15 @@ pub fn head_of(sheet: &[u32]) -> Head
 }
 
 // A field of each word of a kind: w / place % size.
-pub fn collect(sheet: &[u32], kind: u32, place: u32, size: u32, out: &mut [u32])
+fn collect(body: &[u32], kind: u32, place: u32, size: u32, out: &mut [u32])
     requires { ⌜ (0 < place) × (0 < size) ⌝ }
-    requires { ⌜ countKind kind (drop 1 (now sheet)) ≤ length (now out) ⌝ }
-    ensures { λ _. ⌜ now (out .exit) ≡ collected kind place size (drop 1 (now (sheet .entry))) ++ drop (countKind kind (drop 1 (now (sheet .entry)))) (now (out .entry)) ⌝ }
+    requires { ⌜ countKind kind (now body) ≤ length (now out) ⌝ }
+    ensures { λ _. ⌜ now (out .exit) ≡ collected kind place size (now (body .entry)) ++ drop (countKind kind (now (body .entry))) (now (out .entry)) ⌝ }
 {
     let mut n: usize = 0;
-    let mut i: usize = 1;
-    while i < sheet.len() {
-        let w = sheet[i];
+    let mut i: usize = 0;
+    while i < body.len() {
+        let w = body[i];
         if words::kind_of(w) == kind {
             out[n] = w / place % size;
             n += 1;
@@ -64,19 +67,37 @@ fn colour_after(c: u32, kind: u32) -> u32
 }
 
 // The number of each site's colour.
-pub fn site_colours(sheet: &[u32], out: &mut [u32])
-    requires { ⌜ countKind 4 (drop 1 (now sheet)) ≤ length (now out) ⌝ }
-    requires { ⌜ countKind 3 (drop 1 (now sheet)) ≤ mostColours ⌝ }
-    ensures { λ _. ⌜ now (out .exit) ≡ siteColours 0 (drop 1 (now (sheet .entry))) ++ drop (countKind 4 (drop 1 (now (sheet .entry)))) (now (out .entry)) ⌝ }
+fn site_colours(body: &[u32], out: &mut [u32])
+    requires { ⌜ countKind 4 (now body) ≤ length (now out) ⌝ }
+    requires { ⌜ countKind 3 (now body) ≤ mostColours ⌝ }
+    ensures { λ _. ⌜ now (out .exit) ≡ siteColours 0 (now (body .entry)) ++ drop (countKind 4 (now (body .entry))) (now (out .entry)) ⌝ }
 {
     let mut n: usize = 0;
     let mut c: u32 = 0;
-    let mut i: usize = 1;
-    while i < sheet.len() {
-        let k = words::kind_of(sheet[i]);
+    let mut i: usize = 0;
+    while i < body.len() {
+        let k = words::kind_of(body[i]);
         c = colour_after(c, k);
         if k == SITE {
             out[n] = words::monus(c, 1);
+            n += 1;
+        }
+        i += 1;
+    }
+}
+
+// How many sites each colour has.
+fn count_sites(body: &[u32], out: &mut [u32])
+    requires { ⌜ countKind 3 (now body) ≤ length (now out) ⌝ }
+    requires { ⌜ countKind 4 (now body) ≤ mostSites ⌝ }
+    ensures { λ _. ⌜ now (out .exit) ≡ siteCountsOf (coloursIn (now (body .entry))) ++ drop (countKind 3 (now (body .entry))) (now (out .entry)) ⌝ }
+{
+    let mut n: usize = 0;
+    let mut i: usize = 0;
+    while i < body.len() {
+        if words::kind_of(body[i]) == COLOUR {
+            let run = sites_run(body, i + 1);
+            out[n] = run as u32;
             n += 1;
         }
         i += 1;
@@ -91,7 +112,7 @@ pub fn heights_of(sheet: &[u32]) -> [u32; MOST_SLOTS]
     ensures { λ r. ⌜ r ≡ padded mostSlots (sheetIn (now (sheet .entry)) .slots) ⌝ }
 {
     let mut out = [0u32; MOST_SLOTS];
-    collect(sheet, SLOT, 1, NUMBER_TOP, &mut out);
+    collect(body_of(sheet), SLOT, 1, NUMBER_TOP, &mut out);
     out
 }
 
@@ -101,7 +122,17 @@ pub fn bounds_of(sheet: &[u32]) -> [u32; MOST_COLOURS]
     ensures { λ r. ⌜ r ≡ padded mostColours (boundsOf (sheetIn (now (sheet .entry)) .colours)) ⌝ }
 {
     let mut out = [0u32; MOST_COLOURS];
-    collect(sheet, COLOUR, 1, BYTE_TOP, &mut out);
+    collect(body_of(sheet), COLOUR, 1, BYTE_TOP, &mut out);
+    out
+}
+
+// How many sites each colour has.
+fn site_counts_of(sheet: &[u32]) -> [u32; MOST_COLOURS]
+    requires { ⌜ sheetFault (now sheet) ≡ 0 ⌝ }
+    ensures { λ r. ⌜ r ≡ padded mostColours (siteCountsOf (sheetIn (now (sheet .entry)) .colours)) ⌝ }
+{
+    let mut out = [0u32; MOST_COLOURS];
+    count_sites(body_of(sheet), &mut out);
     out
 }
 
@@ -111,7 +142,7 @@ pub fn xs_of(sheet: &[u32]) -> [u32; MOST_SITES]
     ensures { λ r. ⌜ r ≡ padded mostSites (xsOf (sheetIn (now (sheet .entry)) .sites)) ⌝ }
 {
     let mut out = [0u32; MOST_SITES];
-    collect(sheet, SITE, NUMBER_TOP, NUMBER_TOP, &mut out);
+    collect(body_of(sheet), SITE, NUMBER_TOP, NUMBER_TOP, &mut out);
     out
 }
 
@@ -120,7 +151,7 @@ pub fn ys_of(sheet: &[u32]) -> [u32; MOST_SITES]
     ensures { λ r. ⌜ r ≡ padded mostSites (ysOf (sheetIn (now (sheet .entry)) .sites)) ⌝ }
 {
     let mut out = [0u32; MOST_SITES];
-    collect(sheet, SITE, 1, NUMBER_TOP, &mut out);
+    collect(body_of(sheet), SITE, 1, NUMBER_TOP, &mut out);
     out
 }
 
@@ -129,6 +160,51 @@ pub fn colours_of(sheet: &[u32]) -> [u32; MOST_SITES]
     ensures { λ r. ⌜ r ≡ padded mostSites (coloursOf (sheetIn (now (sheet .entry)) .sites)) ⌝ }
 {
     let mut out = [0u32; MOST_SITES];
-    site_colours(sheet, &mut out);
+    site_colours(body_of(sheet), &mut out);
     out
+}
+
+// ---- all of them
+
+// An accepted sheet's numbers, by value: what its head says, how many slots (m), colours (C) and sites (n) it has, and their arrays.
+pub struct Numbers {
+    pub head: Head,
+    pub slots: usize,
+    pub kinds: usize,
+    pub sites: usize,
+    pub heights: [u32; MOST_SLOTS],
+    pub bounds: [u32; MOST_COLOURS],
+    pub site_counts: [u32; MOST_COLOURS],
+    pub xs: [u32; MOST_SITES],
+    pub ys: [u32; MOST_SITES],
+    pub colours: [u32; MOST_SITES],
+}
+
+pub fn numbers_of(sheet: &[u32]) -> Numbers
+    requires { ⌜ sheetFault (now sheet) ≡ 0 ⌝ }
+    ensures { λ r. ⌜ r ≡ numbersBy (sheetIn (now (sheet .entry))) ⌝ }
+{
+    let head = head_of(sheet);
+    let body = body_of(sheet);
+    let slots = count_kind(body, SLOT);
+    let kinds = count_kind(body, COLOUR);
+    let sites = count_kind(body, SITE);
+    let heights = heights_of(sheet);
+    let bounds = bounds_of(sheet);
+    let site_counts = site_counts_of(sheet);
+    let xs = xs_of(sheet);
+    let ys = ys_of(sheet);
+    let colours = colours_of(sheet);
+    Numbers {
+        head: head,
+        slots: slots,
+        kinds: kinds,
+        sites: sites,
+        heights: heights,
+        bounds: bounds,
+        site_counts: site_counts,
+        xs: xs,
+        ys: ys,
+        colours: colours,
+    }
 }

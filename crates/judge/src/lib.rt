@@ -17,6 +17,7 @@ use decoding::ys_of;
 use layouts::least_broken::broken_by;
 use reader::faults::sheet_fault;
 use words::COLOUR;
+use words::TIES_AT;
 use words::body::body_of;
 use words::body::count_kind;
 
@@ -48,7 +49,7 @@ fn rule_of(sheet: &[u32], layout: &[u32]) -> u8
         &xs,
         &ys,
         &colours,
-        &layout[1..],
+        &layout[TIES_AT..],
     )
 }
 

@@ -8,6 +8,7 @@ use refusals::refusal_11::is_tie;
 use words::LAYOUT;
 use words::SITE;
 use words::SLOT;
+use words::TIES_AT;
 use words::body::body_of;
 use words::body::count_kind;
 use words::both;
@@ -31,7 +32,7 @@ pub fn layout_start(stored: &[u32]) -> usize
 fn are_ties(m: usize, layout: &[u32]) -> bool
     ensures { λ r. ⌜ r ≡ all (tieFits m) (layoutBody (now (layout .entry))) ⌝ }
 {
-    let mut i: usize = 1;
+    let mut i = TIES_AT;
     while i < layout.len() {
         if !is_tie(m, layout[i]) {
             return false;
@@ -45,11 +46,11 @@ fn are_ties(m: usize, layout: &[u32]) -> bool
 pub fn is_layout(sheet: &[u32], layout: &[u32]) -> bool
     ensures { λ r. ⌜ r ≡ isLayout (sheetIn (now (sheet .entry))) (now (layout .entry)) ⌝ }
 {
-    if layout.len() == 0 {
+    if layout.len() < TIES_AT {
         return false;
     }
     let body = body_of(sheet);
-    let long = layout.len() - 1 == count_kind(body, SITE);
+    let long = layout.len() - TIES_AT == count_kind(body, SITE);
     let m = count_kind(body, SLOT);
     both(
         both(long, same(kind_of(layout[0]), LAYOUT)),

@@ -16,6 +16,7 @@ pub mod Order
 pub mod Pairs
 pub mod Promise03
 pub mod Rules
+pub mod Stored
 pub mod Verdict
 pub mod Words
 pub mod Twin

@@ -234,9 +234,13 @@ unfoldable pub tiesIn : (words : List ℕ) → List ℕ
 tiesIn [] = []
 tiesIn (w ∷ ws) = bits w 0 8 ∷ tiesIn ws
 
--- a layout's words after its first, and the ties in them
+-- the place of a layout's first tie
+abbrev pub tiesAt : ℕ
+tiesAt = 1
+
+-- a layout's words from there on, and the ties in them
 abbrev pub layoutBody : (words : List ℕ) → List ℕ
-layoutBody ws = drop 1 ws
+layoutBody ws = drop tiesAt ws
 
 abbrev pub layoutTies : (words : List ℕ) → List ℕ
 layoutTies ws = tiesIn (layoutBody ws)
@@ -247,7 +251,7 @@ isTie s w = eqb (kindOf w) 9 && eqb (bits w 8 20) 0 && ltb (bits w 0 8) (length 
 
 -- the number of a layout's words: n + 1
 abbrev pub wordsFor : Sheet → ℕ
-wordsFor s = length (s .sites) + 1
+wordsFor s = length (s .sites) + tiesAt
 
 -- a layout of a sheet, whoever wrote it: one word of kind 8, then one of kind 9 for each site
 abbrev pub isLayout : Sheet → (words : List ℕ) → Bool
@@ -357,3 +361,7 @@ judgeFault ws =
 -- the judge's verdict where it refuses nothing: the least broken rule, or 0
 abbrev pub judged : (words : List ℕ) → ℕ
 judged ws = brokenBy (sheetIn (sheetPart ws)) (layoutPart ws)
+
+-- the refusal of a tool over lawful stored sheets: the judge's; then 13, its verdict isn't 0; or 0
+abbrev pub storedFault : (words : List ℕ) → ℕ
+storedFault ws = cond (not (eqb (judgeFault ws) 0)) (judgeFault ws) (cond (not (eqb (judged ws) 0)) 13 0)

@@ -9,7 +9,7 @@ use lib.Dec.{ltb, eqb}
 use lib.ListN.{length, drop}
 use Rattle.sheet.specs.Limits.{sidePlace}
 use Rattle.sheet.specs.Sheet.{bits, Sheet, headIn, bodyOf, sheetIn, sheetFault}
-use Rattle.labelling.specs.Layout.{lengthOf, firstWord, statedCount, statedLength, layoutBody, layoutTies, firstNumber, secondNumber, sheetPart, layoutPart, judgeFault, judged}
+use Rattle.labelling.specs.Layout.{lengthOf, firstWord, statedCount, statedLength, layoutBody, layoutTies, firstNumber, secondNumber, sheetPart, layoutPart, judgeFault, judged, storedFault}
 use Rattle.labelling.specs.Lawful.{Ties, Rules, Lawful, IsAnswer}
 
 -- THE TWIN
@@ -44,11 +44,9 @@ twinWords ws =
     cond (sheetIn (sheetPart ws) .isTwoSided) (twinSheet (sheetPart ws) ++ twinLayout (sheetIn (sheetPart ws)) (layoutPart ws)) ws
 
 -- THE TWIN TOOL
--- the refusal, with an area of so many words: 1 to 7 and 11 as the judge; then 13, the judge's answer isn't 0; then 9, the area is
--- shorter than the stored sheet; or 0
+-- the refusal, with an area of so many words: 1 to 7, 11 and 13 of any stored sheet; then 9, the area is shorter than it; or 0
 abbrev pub twinFaultIn : (stored : List ℕ) → (lent : ℕ) → ℕ
-twinFaultIn ws n =
-    cond (not (eqb (judgeFault ws) 0)) (judgeFault ws) (cond (not (eqb (judged ws) 0)) 13 (cond (ltb n (length ws)) 9 0))
+twinFaultIn ws n = cond (not (eqb (storedFault ws) 0)) (storedFault ws) (cond (ltb n (length ws)) 9 0)
 
 abbrev pub twinFault : (stored out : List ℕ) → ℕ
 twinFault ws o = twinFaultIn ws (length o)

@@ -4,7 +4,7 @@ use mathlib.Core.Bool.{true}
 use mathlib.Core.List.{List, [], _∷_}
 use Prim.Native.Nat.{ℕ, zero, suc, _<_}
 use native.Mathlib.Omega.{arith}
-use lib.ListN.{length, getD, drop, length-drop}
+use lib.ListN.{length, getD, length-drop}
 use borrow.Author.Tests.{ltb-true}
 use Rattle.lists.specs.Arrays.{padded}
 use Rattle.lists.proofs.Tests.{and-l, and-r}
@@ -12,7 +12,7 @@ use Rattle.lists.proofs.Arrays.{padded-at, padded-long}
 use Rattle.sheet.specs.Limits.{mostSlots, mostSites, numberTop}
 use Rattle.sheet.specs.Sheet.{all, Site, Sheet, sheetIn, sheetFault}
 use Rattle.sheet.proofs.Accepted.{sound, lowY}
-use Rattle.labelling.specs.Layout.{noSite, isLayout}
+use Rattle.labelling.specs.Layout.{noSite, tiesAt, layoutBody, isLayout}
 use Rattle.labelling.proofs.Words.{height-low, formed}
 use Rattle.decoding.specs.Decoding.{headBy, xsOf, ysOf, coloursOf}
 use Rattle.decoding.proofs.Fields.{xs-long, ys-long, colours-long}
@@ -31,13 +31,13 @@ module _ (ss ls : List ℕ) (ok : sheetFault ss ≡ 0) (form : isLayout (sheetIn
   s = sheetIn ss
 
   -- as many ties as sites
-  pub long : length (drop 1 ls) ≡ length (s .sites)
-  long = omega (arith, formed s ls form .long, length-drop 1 ls)
+  pub long : length (layoutBody ls) ≡ length (s .sites)
+  long = omega (arith, formed s ls form .long, length-drop tiesAt ls)
 
   pub some : 0 < length ls
   some = omega (arith, formed s ls form .long)
 
-  pub fits : (xs ys cs ws : List ℕ) → xs ≡ padded mostSites (xsOf (s .sites)) → ys ≡ padded mostSites (ysOf (s .sites)) → cs ≡ padded mostSites (coloursOf (s .sites)) → ws ≡ drop 1 ls → Fits xs ys cs ws
+  pub fits : (xs ys cs ws : List ℕ) → xs ≡ padded mostSites (xsOf (s .sites)) → ys ≡ padded mostSites (ysOf (s .sites)) → cs ≡ padded mostSites (coloursOf (s .sites)) → ws ≡ layoutBody ls → Fits xs ys cs ws
   fits xs ys cs ws ex ey ec ew =
       rw (ex, ey, ec, ew)
       (record {

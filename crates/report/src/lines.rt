@@ -4,8 +4,7 @@ ghost use mathlib.Core.Bool.{cond};
 ghost use mathlib.Core.List.{[], _∷_, _++_};
 ghost use Prim.Native.Nat.{_-_, _≤_};
 ghost use lib.Dec.{eqb};
-ghost use lib.ListN.{drop};
-ghost use Rattle.sheet.specs.Sheet.{bits, kindOf, sitesIn, sheetIn};
+ghost use Rattle.sheet.specs.Sheet.{bits, kindOf, sitesIn, bodyOf, sheetIn};
 ghost use Rattle.report.specs.Text.{decimal, written, pastOf};
 ghost use Rattle.report.specs.Lines.{refusedLine, layoutLine, slotAt, siteLines, lineOf, layoutText};
 use crate::text::put_byte;
@@ -13,6 +12,7 @@ use crate::text::put_bytes;
 use crate::text::put_decimal;
 use words::COLOUR;
 use words::SITE;
+use words::body::body_at;
 use words::byte_field;
 use words::count_field;
 use words::get;
@@ -94,13 +94,13 @@ fn one_of(kind: u32, word: u32) -> usize
 }
 
 fn put_site_lines(text: &mut [u8], at: usize, layout: &[u32], sheet: &[u32]) -> usize
-    ensures { λ r. ⌜ r ≡ pastOf (now (text .entry)) at (siteLines (now (layout .entry)) 0 (sitesIn 0 (drop 1 (now (sheet .entry))))) ⌝ }
-    ensures { λ r. ⌜ now (text .exit) ≡ written (now (text .entry)) at (siteLines (now (layout .entry)) 0 (sitesIn 0 (drop 1 (now (sheet .entry))))) ⌝ }
+    ensures { λ r. ⌜ r ≡ pastOf (now (text .entry)) at (siteLines (now (layout .entry)) 0 (sitesIn 0 (bodyOf (now (sheet .entry))))) ⌝ }
+    ensures { λ r. ⌜ now (text .exit) ≡ written (now (text .entry)) at (siteLines (now (layout .entry)) 0 (sitesIn 0 (bodyOf (now (sheet .entry))))) ⌝ }
 {
     let mut past = at;
     let mut site: usize = 0;
     let mut colours: usize = 0;
-    let mut i: usize = 1;
+    let mut i = body_at(sheet);
     while i < sheet.len() {
         let word = sheet[i];
         past = put_line_of(text, past, layout, site, colours, word);

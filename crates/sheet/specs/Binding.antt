@@ -16,9 +16,12 @@ unfoldable pub bindingOnly : List ℕ → List ℕ
 bindingOnly [] = []
 bindingOnly (w ∷ ws) = bindingWord w (sitesRun ws) ∷ bindingOnly ws
 
--- the same for a colour, and for the colours
+-- the same for a bound over so many sites, for a colour, and for the colours
+abbrev pub bindingBound : (bound sites : ℕ) → ℕ
+bindingBound b n = cond (leb n b) unbounded b
+
 abbrev pub bindingColour : Colour → Colour
-bindingColour c = record { bound = cond (leb (c .sites) (c .bound)) unbounded (c .bound); sites = c .sites }
+bindingColour c = record { bound = bindingBound (c .bound) (c .sites); sites = c .sites }
 
 unfoldable pub bindingColours : List Colour → List Colour
 bindingColours [] = []

@@ -86,9 +86,13 @@ sitesIn c (w ∷ ws) =
 abbrev pub headIn : List ℕ → ℕ
 headIn ws = getD ws 0 0
 
+-- the place of the first word after the head
+abbrev pub bodyAt : List ℕ → ℕ
+bodyAt ws = 1
+
 -- the body of a sheet: its words after the head, where slots, colours and sites stand
 abbrev pub bodyOf : List ℕ → List ℕ
-bodyOf ws = drop 1 ws
+bodyOf ws = drop (bodyAt ws) ws
 
 -- the sheet in a list of words; of the head bit 27 is the side, bit 26 the aim, bits 25 to 14 the gap, bits 13 to 0 the width
 abbrev pub sheetIn : (words : List ℕ) → Sheet

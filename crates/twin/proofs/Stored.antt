@@ -12,7 +12,7 @@ use Rattle.lists.specs.Arrays.{padded}
 use Rattle.sheet.specs.Limits.{mostSlots, mostSites, kindTop, lengthTop, topWord}
 use Rattle.sheet.specs.Sheet.{kindOf, bits, Sheet, headIn, sheetIn, sheetFault}
 use Rattle.sheet.proofs.Accepted.{sound, some-words, few-words}
-use Rattle.labelling.specs.Layout.{lengthOf, firstWord, statedCount, tiesIn, layoutTies, isLayout, sheetPart, layoutPart, judgeFault}
+use Rattle.labelling.specs.Layout.{lengthOf, firstWord, statedCount, tiesIn, layoutBody, layoutTies, isLayout, sheetPart, layoutPart, judgeFault}
 use Rattle.labelling.specs.Twin.{asOneSided, twinHead, twinWords}
 use Rattle.labelling.proofs.Judge.{judged-so}
 use Rattle.labelling.proofs.Words.{formed, length-tiesIn, ties-low}
@@ -46,12 +46,12 @@ module _ (ss ls : List ℕ) (ok : sheetFault ss ≡ 0) (form : isLayout (sheetIn
   -- what is found with it is the length on the one-sided sheet
   pub length-found : (h g : Head) (r : ℕ) (hs xs ys cs ws : List ℕ) →
       h ≡ headOneSided g → g ≡ headBy s → hs ≡ padded mostSlots (s .slots) → xs ≡ padded mostSites (xsOf (s .sites)) → ys ≡ padded mostSites (ysOf (s .sites)) →
-      cs ≡ padded mostSites (coloursOf (s .sites)) → ws ≡ drop 1 ls → r ≡ lengthOn h hs xs ys cs (tiesIn ws) (length ws) → r ≡ lengthOf (asOneSided s) (layoutTies ls)
+      cs ≡ padded mostSites (coloursOf (s .sites)) → ws ≡ layoutBody ls → r ≡ lengthOn h hs xs ys cs (tiesIn ws) (length ws) → r ≡ lengthOf (asOneSided s) (layoutTies ls)
   length-found h g r hs xs ys cs ws eh eg es ex ey ec et e =
-      let q : r ≡ lengthOn (headBy (asOneSided s)) (padded mostSlots (s .slots)) (padded mostSites (xsOf (s .sites))) (padded mostSites (ysOf (s .sites))) (padded mostSites (coloursOf (s .sites))) (layoutTies ls) (length (drop 1 ls)) =
+      let q : r ≡ lengthOn (headBy (asOneSided s)) (padded mostSlots (s .slots)) (padded mostSites (xsOf (s .sites))) (padded mostSites (ysOf (s .sites))) (padded mostSites (coloursOf (s .sites))) (layoutTies ls) (length (layoutBody ls)) =
       e ∙ rw (eh, eg, es, ex, ey, ec, et) refl in
       q ∙ ap (lengthOn (headBy (asOneSided s)) (padded mostSlots (s .slots)) (padded mostSites (xsOf (s .sites))) (padded mostSites (ysOf (s .sites))) (padded mostSites (coloursOf (s .sites))) (layoutTies ls)) (long ss ls ok form) ∙
-      length-is (asOneSided s) _ _ _ _ (decoded (asOneSided s) mostSlots mostSites) (layoutTies ls) (length-tiesIn (drop 1 ls) ∙ long ss ls ok form) (ties-low s (drop 1 ls) (formed s ls form .ties))
+      length-is (asOneSided s) _ _ _ _ (decoded (asOneSided s) mostSlots mostSites) (layoutTies ls) (length-tiesIn (layoutBody ls) ∙ long ss ls ok form) (ties-low s (layoutBody ls) (formed s ls form .ties))
 
   -- THE FIRST WORD with another length: it is a word, and the twin's
   pub first-fits : (w n r : ℕ) → w ≡ getD ls 0 0 → n ≡ bits w 0 21 → r ≡ lengthOf (asOneSided s) (layoutTies ls) → w - n + r ≤ topWord

@@ -11,6 +11,7 @@ use decoding::heights_of;
 use decoding::xs_of;
 use decoding::ys_of;
 use layouts::rule_6::total_length;
+use words::TIES_AT;
 use words::tied::Head;
 
 // Gap and width of a head, one-sided.
@@ -41,6 +42,6 @@ pub fn one_sided_length(sheet: &[u32], layout: &[u32]) -> u32
         &xs,
         &ys,
         &colours,
-        &layout[1..],
+        &layout[TIES_AT..],
     )
 }

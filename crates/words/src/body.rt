@@ -1,19 +1,27 @@
 // A sheet's words as a list: those after the head, how many are of a kind, how many sites follow a colour at once.
 ghost use mathlib.Core.Path.{_≡_};
 ghost use lib.ListN.{drop};
-ghost use Rattle.sheet.specs.Sheet.{bodyOf, sitesRun};
+ghost use Rattle.sheet.specs.Sheet.{bodyAt, bodyOf, sitesRun};
 ghost use Rattle.sheet.specs.Words.{countKind};
 use crate::SITE;
 use crate::kind_of;
+
+// The place of the first word after the head.
+pub fn body_at(sheet: &[u32]) -> usize
+    ensures { λ r. ⌜ r ≡ bodyAt (now (sheet .entry)) ⌝ }
+{
+    1
+}
 
 // The words after the head.
 pub fn body_of(sheet: &[u32]) -> &[u32]
     ensures { λ r. ⌜ now r ≡ bodyOf (now (sheet .entry)) ⌝ }
 {
-    if sheet.len() == 0 {
-        return sheet;
+    let at = body_at(sheet);
+    if sheet.len() < at {
+        return &sheet[..0];
     }
-    &sheet[1..]
+    &sheet[at..]
 }
 
 // The words of a kind.

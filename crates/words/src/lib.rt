@@ -31,6 +31,9 @@ pub const LAYOUT: u32 = 8;
 
 pub const TIE: u32 = 9;
 
+// The place of a layout's first tie.
+pub const TIES_AT: usize = 1;
+
 // The limits of a sheet and the bounds of its fields: sheet/specs/Limits has them for definitions.
 pub const MOST_SLOTS: usize = 48;
 

@@ -1,3 +1,4 @@
+use Rattle.labelling.specs.Layout.{tiesAt}
 use Rattle.lists.proofs.Places.{part-from}
 use Rattle.sheet.specs.Words.{countKind}
 use Rattle.layouts.proofs.Fitting.{some, fits, low}
@@ -90,7 +91,7 @@ broken-by-requires c κs =
     let h = c .before .before .before .before .before .before in
     let a = begin h .args in
     let p = begin h .pre in
-    (fits (a .sheet .now) (a .layout .now) (p .0) (p .1) _ _ _ _ (h .before .before .before .before .before .before .xs-of .ensures) (h .before .before .before .before .before .ys-of .ensures) (h .before .before .before .before .colours-of .ensures) (part-from (a .layout .now) 1), low (a .sheet .now) (a .layout .now) (p .0) (p .1) _ _ _ (h .head-of .ensures) (h .before .before .before .before .before .before .before .before .heights-of .ensures) (h .before .before .before .before .before .ys-of .ensures))
+    (fits (a .sheet .now) (a .layout .now) (p .0) (p .1) _ _ _ _ (h .before .before .before .before .before .before .xs-of .ensures) (h .before .before .before .before .before .ys-of .ensures) (h .before .before .before .before .colours-of .ensures) (part-from (a .layout .now) tiesAt), low (a .sheet .now) (a .layout .now) (p .0) (p .1) _ _ _ (h .head-of .ensures) (h .before .before .before .before .before .before .before .before .heights-of .ensures) (h .before .before .before .before .before .ys-of .ensures))
 
 returns : tie.Need-returns
 returns c =
@@ -98,7 +99,7 @@ returns c =
     let a = begin h .args in
     let p = begin h .pre in
     let b = bounds-part (a .sheet .now) (a .layout .now) (p .0) (p .1) _ _ (h .before .before .before .before .before .before .before .bounds-of .ensures) (h .before .before .count-kind .ensures ∙ ap (countKind 3) (h .before .before .before .body-of .ensures)) in
-    ruled (a .sheet .now) (a .layout .now) (p .0) (p .1) _ _ _ _ _ _ _ _ _ (h .head-of .ensures) refl (h .before .before .before .before .before .before .before .before .heights-of .ensures) (b .0) (h .before .before .before .before .before .before .xs-of .ensures) (h .before .before .before .before .before .ys-of .ensures) (h .before .before .before .before .colours-of .ensures) (part-from (a .layout .now) 1) (c .broken-by .ensures)
+    ruled (a .sheet .now) (a .layout .now) (p .0) (p .1) _ _ _ _ _ _ _ _ _ (h .head-of .ensures) refl (h .before .before .before .before .before .before .before .before .heights-of .ensures) (b .0) (h .before .before .before .before .before .before .xs-of .ensures) (h .before .before .before .before .before .ys-of .ensures) (h .before .before .before .before .colours-of .ensures) (part-from (a .layout .now) tiesAt) (c .broken-by .ensures)
 
 pub rule-of-spec : {M : Type 1} → statement M
 rule-of-spec =

@@ -1,6 +1,7 @@
 use borrow.Author.Tests.{not-true, not-false}
 use Rattle.sheet.specs.Sheet.{all}
 use Rattle.lists.proofs.Places.{stop, go}
+use Rattle.labelling.specs.Layout.{layoutBody}
 use Rattle.refusals.specs.Wordwise.{tieFits}
 use Rattle.judge.proofs.refusal_11.Parts.{ties-at, ties-end}
 use mathlib.Core.Path.{_≡_, sym, _∙_}
@@ -11,7 +12,7 @@ use Rattle.judge.proofs.refusal_11.are_ties.Statement.{statement}
 use Rattle.judge.proofs.refusal_11.are_ties.Tie as tie
 
 abbrev Inv-loop : tie.InvT-loop
-Inv-loop m layout i₀ i = all (tieFits m) (drop 1 layout) ≡ all (tieFits m) (drop i layout)
+Inv-loop m layout i₀ i = all (tieFits m) (layoutBody layout) ≡ all (tieFits m) (drop i layout)
 
 abbrev μ-loop : tie.MeasureT-loop
 μ-loop m layout i₀ i = length layout - i

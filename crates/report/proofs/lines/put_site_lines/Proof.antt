@@ -1,5 +1,5 @@
 use lib.ListN.{drop-of-length-le, length, getD, drop}
-use Rattle.sheet.specs.Sheet.{sitesIn}
+use Rattle.sheet.specs.Sheet.{sitesIn, bodyOf}
 use Rattle.report.specs.Lines.{siteLines, lineOf}
 use Rattle.report.proofs.LinesPut.{lines-at}
 use Rattle.report.proofs.Written.{Left, left-all, left-more, left-none}
@@ -12,14 +12,17 @@ use Rattle.report.proofs.lines.put_site_lines.Statement.{statement}
 use Rattle.report.proofs.lines.put_site_lines.Tie as tie
 
 abbrev Inv-loop : tie.InvT-loop
-Inv-loop text₀ at layout sheet past₀ site₀ colours₀ i₀ text past site colours i = (site < i) × (colours < i) × Left text₀ at (siteLines layout 0 (sitesIn 0 (drop 1 sheet))) text past (siteLines layout site (sitesIn colours (drop i sheet)))
+Inv-loop text₀ at layout sheet past₀ site₀ colours₀ i₀ text past site colours i = (site < i) × (colours < i) × Left text₀ at (siteLines layout 0 (sitesIn 0 (bodyOf sheet))) text past (siteLines layout site (sitesIn colours (drop i sheet)))
 
 abbrev μ-loop : tie.MeasureT-loop
 μ-loop text₀ at layout sheet past₀ site₀ colours₀ i₀ text past site colours i = length sheet - i
 
 loop-holds : tie.Need-loop-holds Inv-loop μ-loop
 loop-holds c =
-    (omega arith, omega arith, left-all _ _ _)
+    rw (c .body-at .ensures) (omega arith, omega arith, left-all _ _ _)
+
+body-at-requires : tie.Need-body-at-requires Inv-loop μ-loop
+body-at-requires c κs = search needs
 
 mul-word : tie.Need-mul-word Inv-loop μ-loop
 mul-word c = search needs
@@ -54,7 +57,7 @@ loop-less c =
 
 loop-again : tie.Need-loop-again Inv-loop μ-loop
 loop-again c =
-    let a = c .before .before .before .before .before .before .before .before .before .before .before .before .args in let l = c .before .before .before .before .before .before .before .before .loop in let w = getD (a .sheet .now) (l .i) 0 in
+    let a = c .before .before .before .before .before .before .before .before .before .before .before .before .before .args in let l = c .before .before .before .before .before .before .before .before .loop in let w = getD (a .sheet .now) (l .i) 0 in
     let e = c .before .one-of .ensures in let f = c .one-of2 .ensures in (
       omega (arith, e .1, l .inv .0),
       omega (arith, f .1, l .inv .1),
@@ -69,7 +72,7 @@ returns : tie.Need-returns Inv-loop μ-loop
 unfolding siteLines sitesIn
 returns c =
     let l = c .before .loop in
-    left-none (l .inv .2) (rw (drop-of-length-le (c .before .before .before .before .before .args .sheet .now) (c .loop-test .left)) refl)
+    left-none (l .inv .2) (rw (drop-of-length-le (c .before .before .before .before .before .before .args .sheet .now) (c .loop-test .left)) refl)
 
 pub put-site-lines-spec : {M : Type 1} → statement M
 put-site-lines-spec =
@@ -77,6 +80,7 @@ put-site-lines-spec =
     (tie.spec
     Inv-loop
     μ-loop
+    body-at-requires
     loop-holds
     mul-word
     shared-slice-read-word

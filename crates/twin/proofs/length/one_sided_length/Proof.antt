@@ -1,3 +1,4 @@
+use Rattle.labelling.specs.Layout.{tiesAt}
 use Rattle.lists.proofs.Places.{part-from}
 use Rattle.layouts.proofs.Fitting.{some, fits}
 use Rattle.twin.proofs.Stored.{low-one, length-found}
@@ -60,14 +61,14 @@ total-length-requires c κs =
     let h = c .before .before .before .before .before in
     let a = begin (c .before .before .before .before .before) .args in
     let p = begin (c .before .before .before .before .before) .pre in
-    (fits (a .sheet .now) (a .layout .now) (p .0) (p .1) _ _ _ _ (h .before .before .before .before .xs-of .ensures) (h .before .before .before .ys-of .ensures) (h .before .before .colours-of .ensures) (part-from (a .layout .now) 1), low-one (a .sheet .now) (a .layout .now) (p .0) (p .1) _ _ _ _ (h .one-sided .ensures) (h .before .head-of .ensures) (h .before .before .before .before .before .heights-of .ensures) (h .before .before .before .ys-of .ensures))
+    (fits (a .sheet .now) (a .layout .now) (p .0) (p .1) _ _ _ _ (h .before .before .before .before .xs-of .ensures) (h .before .before .before .ys-of .ensures) (h .before .before .colours-of .ensures) (part-from (a .layout .now) tiesAt), low-one (a .sheet .now) (a .layout .now) (p .0) (p .1) _ _ _ _ (h .one-sided .ensures) (h .before .head-of .ensures) (h .before .before .before .before .before .heights-of .ensures) (h .before .before .before .ys-of .ensures))
 
 returns : tie.Need-returns
 returns c =
     let h = c .before .before .before .before .before .before in
     let a = begin (c .before .before .before .before .before .before) .args in
     let p = begin (c .before .before .before .before .before .before) .pre in
-    length-found (a .sheet .now) (a .layout .now) (p .0) (p .1) _ _ _ _ _ _ _ _ (h .one-sided .ensures) (h .before .head-of .ensures) (h .before .before .before .before .before .heights-of .ensures) (h .before .before .before .before .xs-of .ensures) (h .before .before .before .ys-of .ensures) (h .before .before .colours-of .ensures) (part-from (a .layout .now) 1) (c .total-length .ensures)
+    length-found (a .sheet .now) (a .layout .now) (p .0) (p .1) _ _ _ _ _ _ _ _ (h .one-sided .ensures) (h .before .head-of .ensures) (h .before .before .before .before .before .heights-of .ensures) (h .before .before .before .before .xs-of .ensures) (h .before .before .before .ys-of .ensures) (h .before .before .colours-of .ensures) (part-from (a .layout .now) tiesAt) (c .total-length .ensures)
 
 pub one-sided-length-spec : {M : Type 1} → statement M
 one-sided-length-spec =

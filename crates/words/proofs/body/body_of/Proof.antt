@@ -1,19 +1,29 @@
 -- `words::body::body_of` meets its contract.
-use mathlib.Core.Path.{sym, _∙_}
+use lib.ListN.{drop-of-length-le}
+use Rattle.lists.proofs.Places.{part-from}
+use Rattle.sheet.specs.Sheet.{bodyAt}
+use mathlib.Core.Path.{refl, sym}
 use Prim.Native.Nat.{_≤_}
 use native.Mathlib.Omega.{arith}
-use lib.ListN.{drop-of-length-le, length}
+use lib.ListN.{length}
 use borrow.Author.Needs.{needs}
-use Rattle.lists.proofs.Places.{part-from}
 use Rattle.words.proofs.body.body_of.Statement.{statement}
 use Rattle.words.proofs.body.body_of.Tie as tie
 
+body-at-requires : tie.Need-body-at-requires
+body-at-requires c κs = search needs
+
+slice-aggregate-result : tie.Need-slice-aggregate-result
+slice-aggregate-result c = search needs
+
 returns : tie.Need-returns
 returns c =
-    let s = c .before .args .sheet .now in
-    let none : length s ≤ 0 = omega arith in
-    let short : length s ≤ 1 = omega arith in
-    drop-of-length-le s none ∙ sym (drop-of-length-le s short)
+    let s = c .before .before .before .before .args .sheet .now in
+    let short : length s ≤ bodyAt s = omega (arith, c .before .before .body-at .ensures) in
+    sym (drop-of-length-le s short)
+
+mul-result : tie.Need-mul-result
+mul-result c = search needs
 
 sub-result : tie.Need-sub-result
 sub-result c = search needs
@@ -26,7 +36,17 @@ part-result-end c = search needs
 
 returns-2 : tie.Need-returns-2
 returns-2 c =
-    part-from (c .before .before .args .sheet .now) 1
+    rw (part-from (c .before .before .before .before .args .sheet .now) (c .before .before .body-at .result), c .before .before .body-at .ensures) refl
 
 pub body-of-spec : {M : Type 1} → statement M
-body-of-spec = tie.close (tie.spec returns sub-result part-result-start part-result-end returns-2)
+body-of-spec =
+    tie.close
+    (tie.spec
+    body-at-requires
+    slice-aggregate-result
+    returns
+    mul-result
+    sub-result
+    part-result-start
+    part-result-end
+    returns-2)

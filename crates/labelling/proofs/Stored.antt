@@ -1,0 +1,41 @@
+-- The refusal of a stored sheet, by its causes, and what a stored sheet has of which nothing is refused. Assumes nothing.
+use mathlib.Core.Path.{_≡_, refl, sym, _∙_}
+use mathlib.Core.Bool.{true}
+use mathlib.Core.List.{List}
+use Prim.Native.Nat.{ℕ}
+use native.Mathlib.Omega.{arith}
+use lib.Dec.{eqb}
+use borrow.Author.Tests.{eq-eqb, ne-eqb}
+use Rattle.lists.proofs.Tests.{by-equal}
+use Rattle.sheet.specs.Sheet.{sheetIn, sheetFault}
+use Rattle.labelling.specs.Layout.{isLayout, sheetPart, layoutPart, judgeFault, judged, storedFault}
+use Rattle.labelling.specs.Lawful.{Lawful}
+use Rattle.labelling.proofs.Judge.{judged-so}
+
+module _ (ws : List ℕ) where
+  -- THE REFUSAL
+  pub stored-judge : (judgeFault ws ≡ 0 → ⊥) → storedFault ws ≡ judgeFault ws
+  stored-judge n = rw (ne-eqb (judgeFault ws) 0 n) refl
+
+  pub stored-unlawful : judgeFault ws ≡ 0 → (judged ws ≡ 0 → ⊥) → storedFault ws ≡ 13
+  stored-unlawful h n = rw (eq-eqb (judgeFault ws) 0 h, ne-eqb (judged ws) 0 n) refl
+
+  pub stored-none : judgeFault ws ≡ 0 → judged ws ≡ 0 → storedFault ws ≡ 0
+  stored-none h v = rw (eq-eqb (judgeFault ws) 0 h, eq-eqb (judged ws) 0 v) refl
+
+  -- NOTHING IS REFUSED
+  module _ (z : storedFault ws ≡ 0) where
+    pub stored-judged : judgeFault ws ≡ 0
+    stored-judged = by-equal (judgeFault ws) 0 (λ h. h) (λ n. sym (stored-judge n) ∙ z)
+
+    pub stored-verdict : judged ws ≡ 0
+    stored-verdict = by-equal (judged ws) 0 (λ v. v) (λ n. absurd (omega (arith, stored-unlawful stored-judged n)))
+
+    pub stored-accepted : sheetFault (sheetPart ws) ≡ 0
+    stored-accepted = judged-so .1 ws .3 .0 stored-judged .0
+
+    pub stored-layout : isLayout (sheetIn (sheetPart ws)) (layoutPart ws) ≡ true
+    stored-layout = judged-so .1 ws .3 .0 stored-judged .1
+
+    pub stored-lawful : Lawful (sheetIn (sheetPart ws)) (layoutPart ws)
+    stored-lawful = judged-so .1 ws .5 stored-judged .1 .0 stored-verdict
