@@ -10,12 +10,15 @@ use Prim.Native.Nat.{ℕ, zero, suc, _+_, _-_, _≤_, _<_}
 use native.Mathlib.Omega.{arith}
 use lib.Dec.{ltb, leb, eqb}
 use lib.ListN.{length, getD, drop, replicate, length-append}
-use borrow.Author.Tests.{ltb-true, ltb-false, leb-true, eqb-true, eqb-false, lt-ltb, le-leb, eq-eqb, ne-eqb}
+use borrow.Author.Tests.{ltb-true, ltb-false, leb-true, eqb-true, eqb-false, lt-ltb, le-leb, eq-eqb, ne-eqb, le-ltb, lt-leb}
+use Rattle.sheet.specs.Refusals.{unless, given}
 use Rattle.sheet.specs.Sheet.{all, inOrder, Site, Sheet, sheetIn, productOf, rising, hasRank, ranksDiffer, isHead, countsFit, insideBy, sheetFault, workFor, rankBy}
 use Rattle.labelling.specs.Layout.{tiesIn, Tied, tieAt, tied, apart, farBy, countsBy, clearBy, shareBy, heightOf, isUsed, usedOf, leftEnd, colourKept, coloursOf, coloursKept, boundsKept, gapKept, gapsOf, gapsKept, verticalHas, missesAll, clearsAll, countOf, backbones, drops, lengthOf, brokenIn, layoutWords, statedCount, statedLength, isLayout, isLawful, brokenBy, nextRank, slotAt, byRank, comesFirst, isBetter, betterOf, bestOver, bestFrom, best, answer, answerBy, sheetPart, layoutPart, judgeFault, judged, layoutBody, layoutTies}
 use Rattle.labelling.specs.Entry.{isNone, makeFault, makeAnswer, makeWork}
-use Rattle.lists.proofs.Tests.{eqb-self, same-test, by-test, by-equal, and-l, and-r, and-i, or-e, tests}
+use Rattle.lists.proofs.Tests.{eqb-self, same-test, by-test, by-equal, and-l, and-r, and-i, or-e, tests, by-order}
 use Rattle.labelling.proofs.Distances.{far-e, far-i}
+use Rattle.sheet.proofs.Refusals.{turned}
+use Rattle.labelling.proofs.Refusals.{make-chain, judge-chain}
 use Rattle.labelling.proofs.Members.{each, every, rise-at, all-used, used-head, used-tail, used-from, from-used, used-at, at-used, head-rise, tail-rise, used-rise}
 use Rattle.labelling.proofs.Order.{before}
 use Rattle.labelling.proofs.Best.{lowTies}
@@ -190,15 +193,34 @@ unfolding ranksDiffer xsDiffer rankBy
 differ-agrees [] = refl
 differ-agrees (s ∷ ss) = ap₂ (λ (p q : Bool). not p && q) (has-agrees (s .x) ss) (differ-agrees ss)
 
+-- the chain of document 03 is the list of refusals
+chain : (a b c d e f g : Bool) →
+    given (unless a 1 ∷ unless b 2 ∷ unless c 3 ∷ unless d 4 ∷ unless e 5 ∷ unless f 6 ∷ unless g 7 ∷ []) ≡
+    cond (not a) 1 (cond (not b) 2 (cond (not c) 3 (cond (not d) 4 (cond (not e) 5 (cond (not f) 6 (cond (not g) 7 0))))))
+unfolding given
+chain false b c d e f g = refl
+chain true false c d e f g = refl
+chain true true false d e f g = refl
+chain true true true false e f g = refl
+chain true true true true false f g = refl
+chain true true true true true false g = refl
+chain true true true true true true false = refl
+chain true true true true true true true = refl
+
 pub sheet-agrees : (ws : List ℕ) → sheetFault ws ≡ sheetFault03 ws
 sheet-agrees ws =
-    ap (λ (b : Bool). cond (not (isHead ws)) 1
+    chain (isHead ws) (inOrder 0 (drop 1 ws)) (countsFit (sheetIn ws)) (rising (sheetIn ws .slots)) (all (insideBy (sheetIn ws .width)) (sheetIn ws .sites))
+    (ranksDiffer (sheetIn ws .sites)) (leb (productOf (sheetIn ws .colours)) 64) ∙
+    ap₂ (λ (b p : Bool). cond (not (isHead ws)) 1
     (cond (not (inOrder 0 (drop 1 ws))) 2
     (cond (not (countsFit (sheetIn ws))) 3
     (cond (not (rising (sheetIn ws .slots))) 4
     (cond (not (all (insideBy (sheetIn ws .width)) (sheetIn ws .sites))) 5
-    (cond (not b) 6 (cond (ltb 64 (productOf (sheetIn ws .colours))) 7 0)))))))
-    (differ-agrees (sheetIn ws .sites))
+    (cond (not b) 6 (cond p 7 0)))))))
+    (differ-agrees (sheetIn ws .sites)) (ap not (turned (productOf (sheetIn ws .colours)) 64) ∙ twice (ltb 64 (productOf (sheetIn ws .colours))))
+  where
+    twice : (b : Bool) → not (not b) ≡ b
+    twice b = by-test b (λ e. rw e) (λ e. rw e)
 
 -- ---- rule 1, for every list of tied sites
 
@@ -413,7 +435,7 @@ lawful-agrees s o b =
 
 pub fault-agrees : (ws k o : List ℕ) → makeFault ws k o ≡ makeFault03 ws k o
 fault-agrees ws k o =
-    ap (λ (f : ℕ). cond (not (eqb f 0)) f (late (best (sheetIn ws)))) (sheet-agrees ws) ∙
+    make-chain ws k o ∙ ap (λ (f : ℕ). cond (not (eqb f 0)) f (late (best (sheetIn ws)))) (sheet-agrees ws) ∙
     by-equal (sheetFault03 ws) 0
     (λ e. ap (λ (r : Option (List ℕ)). cond (not (eqb (sheetFault03 ws) 0)) (sheetFault03 ws) (late r)) (best-agrees (sheetIn ws) (sound ws (sheet-agrees ws ∙ e))))
     λ e. early (sheetFault03 ws) _ _ e
@@ -447,7 +469,7 @@ work-area-agrees ws k o =
     ap (λ (f : ℕ). cond (eqb f 0 || eqb f 10) (replicate (workFor (sheetIn ws)) 0 ++ drop (workFor (sheetIn ws)) k) k) (fault-agrees ws k o)
 
 pub judge-agrees : (ws : List ℕ) → judgeFault ws ≡ judgeFault03 ws
-judge-agrees ws = ap (λ (f : ℕ). cond (not (eqb f 0)) f (cond (isLayout (sheetIn (sheetPart ws)) (layoutPart ws)) 0 11)) (sheet-agrees (sheetPart ws))
+judge-agrees ws = judge-chain ws ∙ ap (λ (f : ℕ). cond (not (eqb f 0)) f (cond (isLayout (sheetIn (sheetPart ws)) (layoutPart ws)) 0 11)) (sheet-agrees (sheetPart ws))
 
 pub judged-agrees : (ws : List ℕ) → judgeFault ws ≡ 0 → judged ws ≡ judged03 ws
 judged-agrees ws h =

@@ -5,6 +5,7 @@ use mathlib.Core.List.{List, [], _∷_}
 use mathlib.Core.Option.{none, some}
 use Prim.Native.Nat.{ℕ}
 use native.Mathlib.Omega.{arith}
+use Rattle.sheet.specs.Refusals.{given}
 use Rattle.sheet.specs.Sheet.{all, inOrder, slotsIn, sitesRun, coloursIn, sitesIn, productOf, rising, hasRank, ranksDiffer, sheetIn, sheetFault, rankBy}
 use Rattle.labelling.specs.Layout.{tiedOf, isUsed, usedFrom, leastX, slotsOf, boundsKept, backbones, drops, tieWords, tiesIn, nextRank, slotAt, byRank, comesFirst, bestOver, bestFrom, sheetPart, best, answerOf, shareBy, farBy, countsBy, clearBy}
 use Rattle.labelling.specs.Promise.{a, shortest, twoSided, gapThree, gapFour, boundZero, headAlone, laidOut, turnedDown, Examples}
@@ -21,7 +22,7 @@ refuses ws f s e k o w n =
     let c : Called ws k o none = subst (Called ws k o) e (called ws k o (f, w, n, s)) in c .fault
 
 pub examples : Examples
-unfolding all inOrder slotsIn sitesRun coloursIn sitesIn productOf rising rankBy hasRank ranksDiffer tiedOf isUsed usedFrom leastX slotsOf boundsKept backbones farBy countsBy clearBy shareBy drops tieWords tiesIn nextRank slotAt byRank comesFirst bestOver bestFrom sheetPart
+unfolding given all inOrder slotsIn sitesRun coloursIn sitesIn productOf rising rankBy hasRank ranksDiffer tiedOf isUsed usedFrom leastX slotsOf boundsKept backbones farBy countsBy clearBy shareBy drops tieWords tiesIn nextRank slotAt byRank comesFirst bestOver bestFrom sheetPart
 examples = (
   (refl, refl, refl, refl, refl, refl, refl, refl, refl, refl, refl, refl, refl),
   (

@@ -1,5 +1,5 @@
 -- THE JUDGE: what it gives on every list of words. Assumes nothing.
-use mathlib.Core.Path.{_≡_, refl, _∙_, ap, ap₂}
+use mathlib.Core.Path.{_≡_, refl, _∙_, ap, ap₂, subst⁻¹}
 use mathlib.Core.Logic.{_⊎_, inl, inr, _↔_}
 use mathlib.Core.Bool.{Bool, true, false, not, true≢false, false≢true, cond}
 use mathlib.Core.List.{List, [], _∷_, _++_}
@@ -15,6 +15,7 @@ use Rattle.labelling.specs.Layout.{isLayout, brokenBy, sheetPart, layout
 use Rattle.labelling.specs.Promise.{JudgedSo, isEight, EveryListJudged, LayoutJudged}
 use Rattle.lists.proofs.Tests.{by-test, by-equal, and-l, and-r, and-i}
 use Rattle.sheet.proofs.Accepted.{Unrefused, unrefused, Step, step, fault-seven}
+use Rattle.labelling.proofs.Refusals.{judge-chain}
 use Rattle.labelling.proofs.Words.{Formed, formed}
 use Rattle.labelling.proofs.Verdict.{broken-least, broken-lawful}
 
@@ -33,7 +34,7 @@ no-eight z (w ∷ ws) bs h k l = go (step z w ws h .1) (λ y i. no-eight y ws bs
 -- an accepted sheet before a layout is the sheet part
 pub sheet-part : (ws b : List ℕ) → sheetFault ws ≡ 0 → isLayout (sheetIn ws) b ≡ true → sheetPart (ws ++ b) ≡ ws
 unfolding sheetPart
-sheet-part [] b h l = absurd (omega arith)
+sheet-part [] b h l = absurd (false≢true (unrefused [] h .head))
 sheet-part (w ∷ ws) b h l =
     let u : Unrefused (w ∷ ws) = unrefused (w ∷ ws) h in
     let f : Formed (sheetIn (w ∷ ws)) b = formed (sheetIn (w ∷ ws)) b l in
@@ -44,7 +45,7 @@ layout-judged : LayoutJudged
 layout-judged ws b aw ab h l =
     let e : sheetPart (ws ++ b) ≡ ws = sheet-part ws b h l in
     let d : layoutPart (ws ++ b) ≡ b = ap (λ (v : List ℕ). drop (length v) (ws ++ b)) e ∙ drop-append-seam ws b in (
-      ap₂ (λ (v c : List ℕ). cond (not (eqb (sheetFault v) 0)) (sheetFault v) (cond (isLayout (sheetIn v) c) 0 11)) e d ∙
+      judge-chain (ws ++ b) ∙ ap₂ (λ (v c : List ℕ). cond (not (eqb (sheetFault v) 0)) (sheetFault v) (cond (isLayout (sheetIn v) c) 0 11)) e d ∙
           fine (sheetFault ws) (isLayout (sheetIn ws) b) h l,
       ap₂ (λ (v c : List ℕ). brokenBy (sheetIn v) c) e d,
     )
@@ -97,7 +98,9 @@ refusal f t h = by-equal f 0 (λ e. rw (eq-eqb f 0 e) (none t e)) λ e. rw (ne-e
 
 every-list-judged : EveryListJudged
 every-list-judged ws =
-    let r = refusal (sheetFault (sheetPart ws)) (isLayout (sheetIn (sheetPart ws)) (layoutPart ws)) (fault-seven (sheetPart ws)) in (
+    let f = sheetFault (sheetPart ws) in
+    let t = isLayout (sheetIn (sheetPart ws)) (layoutPart ws) in
+    let r = subst⁻¹ (Refusal f t) (judge-chain ws) (refusal f t (fault-seven (sheetPart ws))) in (
       (parts ws, all-before ws, begins ws),
       r .0,
       r .1,

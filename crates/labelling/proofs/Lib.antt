@@ -15,6 +15,7 @@ pub mod Members
 pub mod Order
 pub mod Pairs
 pub mod Promise03
+pub mod Refusals
 pub mod Rules
 pub mod Stored
 pub mod Verdict

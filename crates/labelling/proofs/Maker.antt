@@ -17,6 +17,7 @@ pub use Rattle.labelling.specs.Entry.{Serves, cleared}
 use Rattle.labelling.specs.Entry.{makeFault, makeAnswer, makeWork, isNone}
 use Rattle.labelling.specs.Promise.{takesSheet, begun}
 use Rattle.lists.proofs.Tests.{by-test, by-order, by-equal}
+use Rattle.labelling.proofs.Refusals.{make-chain}
 use Rattle.labelling.proofs.Best.{Obeys, IsBest, best-is}
 use Rattle.sheet.proofs.Accepted.{sound, fault-seven}
 use Rattle.labelling.proofs.Words.{length-tieWords}
@@ -29,7 +30,7 @@ stage f k w o n t b p q r s = rw (eq-eqb f 0 p, s, le-ltb k w q, le-ltb o n r)
 
 pub fault-is : (ws k o : List ℕ) → Serves ws k o → makeFault ws k o ≡ cond (isNone (best (sheetIn ws))) 10 0
 fault-is ws k o (f, w, n, s) =
-    stage (sheetFault ws) (length k) (workFor (sheetIn ws)) (length o) (wordsFor (sheetIn ws)) (sheetIn ws .isTwoSided) (isNone (best (sheetIn ws))) f w n s
+    make-chain ws k o ∙ stage (sheetFault ws) (length k) (workFor (sheetIn ws)) (length o) (wordsFor (sheetIn ws)) (sheetIn ws .isTwoSided) (isNone (best (sheetIn ws))) f w n s
 
 -- what a call does, by what is best
 pub record Called (ws k o : List ℕ) (b : Option (List ℕ)) : Type 0 where
@@ -97,20 +98,20 @@ kept-by ws k o n e l u =
     }
 
 pub refused-sheet : (ws k o : List ℕ) → 0 < sheetFault ws → Result ws k o (sheetFault ws) o k
-refused-sheet ws k o l = kept-by ws k o (sheetFault ws) (first (sheetFault ws) _ l) l (λ q. omega (arith, fault-seven ws))
+refused-sheet ws k o l = kept-by ws k o (sheetFault ws) (make-chain ws k o ∙ first (sheetFault ws) _ l) l (λ q. omega (arith, fault-seven ws))
   where
     first : (f r : ℕ) → 0 < f → cond (not (eqb f 0)) f r ≡ f
     first f r l = rw (ne-eqb f 0 (λ q. omega arith))
 
 pub refused-side : (ws k o : List ℕ) → sheetFault ws ≡ 0 → sheetIn ws .isTwoSided ≡ true → Result ws k o 18 o k
-refused-side ws k o e s = kept-by ws k o 18 (second (sheetFault ws) (sheetIn ws .isTwoSided) _ e s) (omega arith) (λ q. omega arith)
+refused-side ws k o e s = kept-by ws k o 18 (make-chain ws k o ∙ second (sheetFault ws) (sheetIn ws .isTwoSided) _ e s) (omega arith) (λ q. omega arith)
   where
     second : (f : ℕ) (t : Bool) (r : ℕ) → f ≡ 0 → t ≡ true → cond (not (eqb f 0)) f (cond t 18 r) ≡ 18
     second f t r e s = rw (eq-eqb f 0 e, s)
 
 pub refused-work : (ws k o : List ℕ) → sheetFault ws ≡ 0 → sheetIn ws .isTwoSided ≡ false → length k < workFor (sheetIn ws) → Result ws k o 8 o k
 refused-work ws k o e s l =
-    kept-by ws k o 8 (third (sheetFault ws) (sheetIn ws .isTwoSided) (length k) (workFor (sheetIn ws)) _ e s l) (omega arith) (λ q. omega arith)
+    kept-by ws k o 8 (make-chain ws k o ∙ third (sheetFault ws) (sheetIn ws .isTwoSided) (length k) (workFor (sheetIn ws)) _ e s l) (omega arith) (λ q. omega arith)
   where
     third : (f : ℕ) (t : Bool) (a b r : ℕ) → f ≡ 0 → t ≡ false → a < b → cond (not (eqb f 0)) f (cond t 18 (cond (ltb a b) 8 r)) ≡ 8
     third f t a b r e s l = rw (eq-eqb f 0 e, s, lt-ltb a b l)
@@ -118,7 +119,7 @@ refused-work ws k o e s l =
 pub refused-out : (ws k o : List ℕ) → sheetFault ws ≡ 0 → sheetIn ws .isTwoSided ≡ false → workFor (sheetIn ws) ≤ length k →
     length o < wordsFor (sheetIn ws) → Result ws k o 9 o k
 refused-out ws k o e s w l =
-    kept-by ws k o 9 (fourth (sheetFault ws) (sheetIn ws .isTwoSided) (length k) (workFor (sheetIn ws)) (length o) (wordsFor (sheetIn ws)) _ e s w l)
+    kept-by ws k o 9 (make-chain ws k o ∙ fourth (sheetFault ws) (sheetIn ws .isTwoSided) (length k) (workFor (sheetIn ws)) (length o) (wordsFor (sheetIn ws)) _ e s w l)
     (omega arith) (λ q. omega arith)
   where
     fourth : (f : ℕ) (t : Bool) (a b c d r : ℕ) → f ≡ 0 → t ≡ false → b ≤ a → c < d →

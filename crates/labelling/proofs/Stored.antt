@@ -10,18 +10,19 @@ use Rattle.lists.proofs.Tests.{by-equal}
 use Rattle.sheet.specs.Sheet.{sheetIn, sheetFault}
 use Rattle.labelling.specs.Layout.{isLayout, sheetPart, layoutPart, judgeFault, judged, storedFault}
 use Rattle.labelling.specs.Lawful.{Lawful}
+use Rattle.labelling.proofs.Refusals.{stored-chain}
 use Rattle.labelling.proofs.Judge.{judged-so}
 
 module _ (ws : List ℕ) where
   -- THE REFUSAL
   pub stored-judge : (judgeFault ws ≡ 0 → ⊥) → storedFault ws ≡ judgeFault ws
-  stored-judge n = rw (ne-eqb (judgeFault ws) 0 n) refl
+  stored-judge n = stored-chain ws ∙ rw (ne-eqb (judgeFault ws) 0 n) refl
 
   pub stored-unlawful : judgeFault ws ≡ 0 → (judged ws ≡ 0 → ⊥) → storedFault ws ≡ 13
-  stored-unlawful h n = rw (eq-eqb (judgeFault ws) 0 h, ne-eqb (judged ws) 0 n) refl
+  stored-unlawful h n = stored-chain ws ∙ rw (eq-eqb (judgeFault ws) 0 h, ne-eqb (judged ws) 0 n) refl
 
   pub stored-none : judgeFault ws ≡ 0 → judged ws ≡ 0 → storedFault ws ≡ 0
-  stored-none h v = rw (eq-eqb (judgeFault ws) 0 h, eq-eqb (judged ws) 0 v) refl
+  stored-none h v = stored-chain ws ∙ rw (eq-eqb (judgeFault ws) 0 h, eq-eqb (judged ws) 0 v) refl
 
   -- NOTHING IS REFUSED
   module _ (z : storedFault ws ≡ 0) where

@@ -10,15 +10,17 @@ use Prim.Native.Nat.{ℕ, _+_, _≤_, _<_}
 use native.Mathlib.Omega.{arith}
 use lib.ListN.{length, drop, length-append, length-drop}
 use lib.Seq.{drop-append-seam}
-use borrow.Author.Tests.{lt-ltb, le-ltb, eq-eqb, ne-eqb}
+use borrow.Author.Tests.{lt-ltb, le-ltb, eq-eqb, ne-eqb, lt-leb, le-leb}
 use Rattle.lists.proofs.Tests.{by-test, by-order, by-equal}
 use Rattle.sheet.specs.Limits.{lengthTop, countTop}
+use Rattle.sheet.specs.Refusals.{given}
 use Rattle.sheet.specs.Sheet.{kindOf, bits, Sheet, headIn, sheetIn, sheetFault}
 use Rattle.sheet.proofs.Accepted.{Sound, sound, some-words}
 use Rattle.labelling.specs.Layout.{Tied, siteAt, heightOf, leftEnd, counts, siteShare, backbones, drops, lengthOf, usedOf, tied, firstNumber, secondNumber, best, firstWord, statedCount, statedLength, layoutTies, isLayout, sheetPart, layoutPart, judgeFault, judged, storedFault, shareBy}
 use Rattle.labelling.specs.Lawful.{Ties, Rules, Better, IsAnswer, Lawful}
 use Rattle.labelling.specs.Twin.{asOneSided, twinHead, twinSheet, twinLayout, twinWords, twinFaultIn, TwinOf, TwinLawful, TwinOfTwin, NotWorse, BestNotWorse}
 use Rattle.labelling.proofs.Distances.{counts-all}
+use Rattle.labelling.proofs.Refusals.{twin-chain}
 use Rattle.labelling.proofs.Answer.{answer-is, answer-none}
 use Rattle.labelling.proofs.Judge.{sheet-part, judged-so}
 use Rattle.labelling.proofs.Stored.{stored-judge, stored-unlawful, stored-none, stored-judged, stored-verdict}
@@ -45,6 +47,7 @@ sheet-twin : (ws : List ℕ) → sheetIn (twinSheet ws) ≡ asOneSided (sheetIn 
 sheet-twin ws = let w : ℕ = headIn ws in rw (head-side w, head-aim w, head-gap w, head-width w) refl
 
 fault-twin : (ws : List ℕ) → sheetFault (twinSheet ws) ≡ sheetFault ws
+unfolding given
 fault-twin [] = refl
 fault-twin (w ∷ ws) = rw (head-kind w, head-gap w, head-width w) refl
 
@@ -234,7 +237,7 @@ twin-of-twin ws h v = same-words (twinWords ws) (ap (λ (t : Sheet). t .isTwoSid
 -- THE TWIN TOOL'S REFUSAL, by its causes
 module _ (ws : List ℕ) (lent : ℕ) where
   stored-refused : (storedFault ws ≡ 0 → ⊥) → twinFaultIn ws lent ≡ storedFault ws
-  stored-refused n = rw (ne-eqb (storedFault ws) 0 n) refl
+  stored-refused n = twin-chain ws lent ∙ rw (ne-eqb (storedFault ws) 0 n) refl
 
   pub fault-judge : (judgeFault ws ≡ 0 → ⊥) → twinFaultIn ws lent ≡ judgeFault ws
   fault-judge n = stored-refused (λ z. n (stored-judged ws z)) ∙ stored-judge ws n
@@ -244,10 +247,10 @@ module _ (ws : List ℕ) (lent : ℕ) where
     fault-unlawful n = stored-refused (λ z. n (stored-verdict ws z)) ∙ stored-unlawful ws h n
 
     pub fault-short : judged ws ≡ 0 → lent < length ws → twinFaultIn ws lent ≡ 9
-    fault-short v l = rw (eq-eqb (storedFault ws) 0 (stored-none ws h v), lt-ltb lent (length ws) l) refl
+    fault-short v l = twin-chain ws lent ∙ rw (eq-eqb (storedFault ws) 0 (stored-none ws h v), lt-leb (length ws) lent l) refl
 
     pub fault-none : judged ws ≡ 0 → length ws ≤ lent → twinFaultIn ws lent ≡ 0
-    fault-none v l = rw (eq-eqb (storedFault ws) 0 (stored-none ws h v), le-ltb lent (length ws) l) refl
+    fault-none v l = twin-chain ws lent ∙ rw (eq-eqb (storedFault ws) 0 (stored-none ws h v), le-leb (length ws) lent l) refl
 
   -- the four cases
   pub by-cause : {P : Type 0} → ((judgeFault ws ≡ 0 → ⊥) → P) → (judgeFault ws ≡ 0 → (judged ws ≡ 0 → ⊥) → P) →

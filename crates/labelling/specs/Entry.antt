@@ -2,12 +2,13 @@
 -- sheet, work area and answer area, as lists of words.
 use mathlib.Core.Path.{_≡_}
 use mathlib.Core.Bool.{Bool, true, false, _||_, not, cond}
-use mathlib.Core.List.{List, _++_}
+use mathlib.Core.List.{List, [], _∷_, _++_}
 use mathlib.Core.Option.{Option, none, some}
 use Prim.Native.Nat.{ℕ, _-_, _≤_}
-use lib.Dec.{ltb, eqb}
+use lib.Dec.{ltb, eqb, leb}
 use lib.ListN.{length, take, drop, replicate}
-use Rattle.sheet.specs.Sheet.{sheetIn, sheetFault, workFor}
+use Rattle.sheet.specs.Refusals.{Refusal, unless, given}
+use Rattle.sheet.specs.Sheet.{sheetIn, sheetRefusals, sheetFault, workFor}
 use Rattle.labelling.specs.Layout.{best, answer, wordsFor}
 
 -- there is none
@@ -22,12 +23,17 @@ Serves ws k o =
 
 -- the refusal: 1 to 7 as the reader; 18, a two-sided sheet (document 02, (n)); 8, the work area is shorter than needed; 9, the answer area has fewer than n + 1 words; 10, no
 -- layout obeys rules 1 to 5; or 0, success
+abbrev pub makeRefusals : (sheet work out : List ℕ) → List Refusal
+makeRefusals ws k o =
+    sheetRefusals ws ++
+    (unless (not (sheetIn ws .isTwoSided)) 18 ∷
+    unless (leb (workFor (sheetIn ws)) (length k)) 8 ∷
+    unless (leb (wordsFor (sheetIn ws)) (length o)) 9 ∷
+    unless (not (isNone (best (sheetIn ws)))) 10 ∷
+    [])
+
 abbrev pub makeFault : (sheet work out : List ℕ) → ℕ
-makeFault ws k o =
-    cond (not (eqb (sheetFault ws) 0)) (sheetFault ws)
-    (cond (sheetIn ws .isTwoSided) 18
-    (cond (ltb (length k) (workFor (sheetIn ws))) 8
-    (cond (ltb (length o) (wordsFor (sheetIn ws))) 9 (cond (isNone (best (sheetIn ws))) 10 0))))
+makeFault ws k o = given (makeRefusals ws k o)
 
 -- the answer area afterwards: success puts the layout in its first n + 1 words
 abbrev pub makeAnswer : (sheet work out : List ℕ) → List ℕ

@@ -7,7 +7,8 @@ use Prim.Native.Nat.{ℕ, zero, suc, _+_, _*_, _-_}
 use lib.Dec.{ltb, leb, eqb}
 use lib.ListN.{length, getD, drop}
 use Rattle.sheet.specs.Limits.{unbounded, kindTop, lengthTop}
-use Rattle.sheet.specs.Sheet.{all, kindOf, bits, Site, Colour, Sheet, rankOf, rankTop, sheetIn, sheetFault}
+use Rattle.sheet.specs.Refusals.{Refusal, unless, given}
+use Rattle.sheet.specs.Sheet.{all, kindOf, bits, Site, Colour, Sheet, rankOf, rankTop, sheetIn, sheetRefusals}
 
 -- BY NUMBERS: what rules 3 and 5 and the length ask of heights and of x, one definition each. The sheet's definitions below cite
 -- them, and so do the judge's model, the maker's and the code; their laws are proofs/Distances
@@ -353,15 +354,19 @@ abbrev pub layoutPart : List ℕ → List ℕ
 layoutPart ws = drop (length (sheetPart ws)) ws
 
 -- the judge's refusal: 1 to 7 on the words before the first of kind 8; then 11, what follows is not a layout of that sheet; or 0
+abbrev pub judgeRefusals : (words : List ℕ) → List Refusal
+judgeRefusals ws = sheetRefusals (sheetPart ws) ++ (unless (isLayout (sheetIn (sheetPart ws)) (layoutPart ws)) 11 ∷ [])
+
 abbrev pub judgeFault : (words : List ℕ) → ℕ
-judgeFault ws =
-    cond (not (eqb (sheetFault (sheetPart ws)) 0)) (sheetFault (sheetPart ws))
-    (cond (isLayout (sheetIn (sheetPart ws)) (layoutPart ws)) 0 11)
+judgeFault ws = given (judgeRefusals ws)
 
 -- the judge's verdict where it refuses nothing: the least broken rule, or 0
 abbrev pub judged : (words : List ℕ) → ℕ
 judged ws = brokenBy (sheetIn (sheetPart ws)) (layoutPart ws)
 
 -- the refusal of a tool over lawful stored sheets: the judge's; then 13, its verdict isn't 0; or 0
+abbrev pub storedRefusals : (words : List ℕ) → List Refusal
+storedRefusals ws = judgeRefusals ws ++ (unless (eqb (judged ws) 0) 13 ∷ [])
+
 abbrev pub storedFault : (words : List ℕ) → ℕ
-storedFault ws = cond (not (eqb (judgeFault ws) 0)) (judgeFault ws) (cond (not (eqb (judged ws) 0)) 13 0)
+storedFault ws = given (storedRefusals ws)

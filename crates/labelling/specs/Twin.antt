@@ -3,13 +3,14 @@
 use mathlib.Core.Path.{_≡_}
 use mathlib.Core.Logic.{_⊎_}
 use mathlib.Core.Bool.{true, false, not, cond}
-use mathlib.Core.List.{List, _∷_, _++_}
+use mathlib.Core.List.{List, _∷_, _++_, []}
 use Prim.Native.Nat.{ℕ, _*_, _-_, _≤_, _<_}
-use lib.Dec.{ltb, eqb}
+use lib.Dec.{ltb, eqb, leb}
 use lib.ListN.{length, drop}
 use Rattle.sheet.specs.Limits.{sidePlace}
+use Rattle.sheet.specs.Refusals.{Refusal, unless, given}
 use Rattle.sheet.specs.Sheet.{bits, Sheet, headIn, bodyOf, sheetIn, sheetFault}
-use Rattle.labelling.specs.Layout.{lengthOf, firstWord, statedCount, statedLength, layoutBody, layoutTies, firstNumber, secondNumber, sheetPart, layoutPart, judgeFault, judged, storedFault}
+use Rattle.labelling.specs.Layout.{lengthOf, firstWord, statedCount, statedLength, layoutBody, layoutTies, firstNumber, secondNumber, sheetPart, layoutPart, judgeFault, judged, storedRefusals}
 use Rattle.labelling.specs.Lawful.{Ties, Rules, Lawful, IsAnswer}
 
 -- THE TWIN
@@ -45,8 +46,11 @@ twinWords ws =
 
 -- THE TWIN TOOL
 -- the refusal, with an area of so many words: 1 to 7, 11 and 13 of any stored sheet; then 9, the area is shorter than it; or 0
+abbrev pub twinRefusals : (stored : List ℕ) → (lent : ℕ) → List Refusal
+twinRefusals ws n = storedRefusals ws ++ (unless (leb (length ws) n) 9 ∷ [])
+
 abbrev pub twinFaultIn : (stored : List ℕ) → (lent : ℕ) → ℕ
-twinFaultIn ws n = cond (not (eqb (storedFault ws) 0)) (storedFault ws) (cond (ltb n (length ws)) 9 0)
+twinFaultIn ws n = given (twinRefusals ws n)
 
 abbrev pub twinFault : (stored out : List ℕ) → ℕ
 twinFault ws o = twinFaultIn ws (length o)

@@ -1,7 +1,6 @@
 // The refusals 1 to 7 in their order, each looked for through the whole list before the next. Their tests: crate refusals.
 ghost use mathlib.Core.Path.{_≡_};
 ghost use Rattle.sheet.specs.Sheet.{sheetFault};
-ghost use Rattle.reader.specs.Faults.{bodyFault};
 use crate::refusal_1::is_head;
 use crate::refusal_2::in_order;
 use crate::refusal_4::rises;
@@ -13,10 +12,21 @@ use words::body::body_of;
 use words::get;
 use words::low_field;
 
-// The number of the first of refusals 4 to 7 that applies, 0 if none does.
-fn body_fault(body: &[u32], width: u32) -> u32
-    ensures { λ r. ⌜ r ≡ bodyFault width (now (body .entry)) ⌝ }
+// The number of the first refusal that applies, 0 if none does.
+pub fn sheet_fault(sheet: &[u32]) -> u32
+    ensures { λ r. ⌜ r ≡ sheetFault (now (sheet .entry)) ⌝ }
 {
+    let body = body_of(sheet);
+    let width = low_field(get(sheet, 0));
+    if !is_head(sheet) {
+        return 1;
+    }
+    if !in_order(body) {
+        return 2;
+    }
+    if !counts_fit(body) {
+        return 3;
+    }
     if !rises(body) {
         return 4;
     }
@@ -30,21 +40,4 @@ fn body_fault(body: &[u32], width: u32) -> u32
         return 7;
     }
     0
-}
-
-// The number of the first refusal that applies, 0 if none does.
-pub fn sheet_fault(sheet: &[u32]) -> u32
-    ensures { λ r. ⌜ r ≡ sheetFault (now (sheet .entry)) ⌝ }
-{
-    let body = body_of(sheet);
-    if !is_head(sheet) {
-        return 1;
-    }
-    if !in_order(body) {
-        return 2;
-    }
-    if !counts_fit(body) {
-        return 3;
-    }
-    body_fault(body, low_field(get(sheet, 0)))
 }

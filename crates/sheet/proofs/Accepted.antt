@@ -10,17 +10,10 @@ use lib.Dec.{ltb, leb, eqb}
 use lib.ListN.{length, length-drop}
 use borrow.Author.Tests.{ltb-true, ltb-false, leb-true, eqb-true, eqb-false, lt-ltb, eq-eqb, ne-eqb}
 use Rattle.sheet.specs.Limits.{mostSlots, mostColours, mostSites, mostBudgets, mostWords, numberTop}
-use Rattle.sheet.specs.Sheet.{all, kindOf, bits, hasSpare, inOrder, Site, Sheet, slotsIn, sitesIn, coloursIn, headIn, bodyOf, sheetIn, productOf, rising, rankOf, rankTop, hasRank, ranksDiffer, isHead, countsFit, insideBy, sheetFault, rankBy}
+use Rattle.sheet.specs.Refusals.{AllPass, numberedTo}
+use Rattle.sheet.specs.Sheet.{all, kindOf, bits, hasSpare, inOrder, Site, Sheet, slotsIn, sitesIn, coloursIn, headIn, bodyOf, sheetIn, productOf, rising, rankOf, rankTop, hasRank, ranksDiffer, isHead, countsFit, insideBy, sheetRefusals, sheetFault, rankBy}
+use Rattle.sheet.proofs.Refusals.{all-pass, at-most}
 use Rattle.lists.proofs.Tests.{by-test, and-l, and-r, and-i, or-e, not-f}
-
--- a chain of refusals that comes to 0
-pub passed : (b : Bool) (n x : ℕ) → 0 < n → cond b n x ≡ 0 → b ≡ false
-passed true n x h e = absurd (omega arith)
-passed false n x h e = refl
-
-pub rest : (b : Bool) (n x : ℕ) → 0 < n → cond b n x ≡ 0 → x ≡ 0
-rest true n x h e = absurd (omega arith)
-rest false n x h e = e
 
 pub record Unrefused (ws : List ℕ) : Type 0 where
   pub head : isHead ws ≡ true
@@ -29,43 +22,21 @@ pub record Unrefused (ws : List ℕ) : Type 0 where
   pub rise : rising (slotsIn (bodyOf ws)) ≡ true
   pub inside : all (insideBy (bits (headIn ws) 0 14)) (sitesIn 0 (bodyOf ws)) ≡ true
   pub differ : ranksDiffer (sitesIn 0 (bodyOf ws)) ≡ true
-  pub product : ltb mostBudgets (productOf (coloursIn (bodyOf ws))) ≡ false
+  pub product : leb (productOf (coloursIn (bodyOf ws))) mostBudgets ≡ true
 
-chain : (a b c d e f g : Bool) →
-    _≡_ {A = ℕ} (cond (not a) 1 (cond (not b) 2 (cond (not c) 3 (cond (not d) 4 (cond (not e) 5 (cond (not f) 6 (cond g 7 0))))))) 0 →
-    (a ≡ true) × (b ≡ true) × (c ≡ true) × (d ≡ true) × (e ≡ true) × (f ≡ true) × (g ≡ false)
-chain true true true true true true false h = (refl, refl, refl, refl, refl, refl, refl)
-chain true true true true true true true h = absurd (omega arith)
-chain true true true true true false g h = absurd (omega arith)
-chain true true true true false f g h = absurd (omega arith)
-chain true true true false e f g h = absurd (omega arith)
-chain true true false d e f g h = absurd (omega arith)
-chain true false c d e f g h = absurd (omega arith)
-chain false b c d e f g h = absurd (omega arith)
+-- the numbers are 1 to 7
+pub numbered : (ws : List ℕ) → numberedTo 7 (sheetRefusals ws) ≡ true
+unfolding numberedTo
+numbered ws = refl
 
 pub unrefused : (ws : List ℕ) → sheetFault ws ≡ 0 → Unrefused ws
+unfolding AllPass
 unrefused ws h =
-    let t = chain (isHead ws) (inOrder 0 (bodyOf ws)) (countsFit (sheetIn ws)) (rising (slotsIn (bodyOf ws)))
-    (all (insideBy (bits (headIn ws) 0 14)) (sitesIn 0 (bodyOf ws))) (ranksDiffer (sitesIn 0 (bodyOf ws)))
-    (ltb mostBudgets (productOf (coloursIn (bodyOf ws)))) h in
-    record { head = t .0; order = t .1; counts = t .2; rise = t .3; inside = t .4; differ = t .5; product = t .6 }
-
--- a refusal's number is at most 7
-at-most-seven : (a b c d e f g : Bool) → cond (not a) 1 (cond (not b) 2 (cond (not c) 3 (cond (not d) 4 (cond (not e) 5 (cond (not f) 6 (cond g 7 0)))))) ≤ 7
-at-most-seven false b c d e f g = omega arith
-at-most-seven true false c d e f g = omega arith
-at-most-seven true true false d e f g = omega arith
-at-most-seven true true true false e f g = omega arith
-at-most-seven true true true true false f g = omega arith
-at-most-seven true true true true true false g = omega arith
-at-most-seven true true true true true true true = omega arith
-at-most-seven true true true true true true false = omega arith
+    let (a, (b, (c, (d, (e, (f, (g, _))))))) = all-pass 7 (sheetRefusals ws) (numbered ws) h in
+    record { head = a; order = b; counts = c; rise = d; inside = e; differ = f; product = g }
 
 pub fault-seven : (ws : List ℕ) → sheetFault ws ≤ 7
-fault-seven ws =
-    at-most-seven (isHead ws) (inOrder 0 (bodyOf ws)) (countsFit (sheetIn ws)) (rising (slotsIn (bodyOf ws)))
-    (all (insideBy (bits (headIn ws) 0 14)) (sitesIn 0 (bodyOf ws))) (ranksDiffer (sitesIn 0 (bodyOf ws)))
-    (ltb mostBudgets (productOf (coloursIn (bodyOf ws))))
+fault-seven ws = at-most 7 (sheetRefusals ws) (numbered ws)
 
 -- bits are low
 pub low14 : (w : ℕ) (i : ℕ) → bits w i 14 < numberTop
@@ -187,7 +158,7 @@ sound ws h =
       rise = u .rise;
       inside = u .inside;
       differ = u .differ;
-      product = ltb-false mostBudgets (productOf (s .colours)) (u .product);
+      product = leb-true (productOf (s .colours)) mostBudgets (u .product);
       wide = omega (arith, eqb-false (bits (headIn ws) 0 14) 0 w0);
       narrow = low14 (headIn ws) 0;
       gapped = omega (arith, eqb-false (bits (headIn ws) 14 12) 0 d0);

@@ -8,9 +8,10 @@ use native.Mathlib.Nat.{mul-le-mul}
 use native.Mathlib.Omega.{arith}
 use lib.Dec.{ltb, leb, eqb}
 use lib.ListN.{length, getD}
-use borrow.Author.Tests.{eqb-true, eq-eqb, ne-eqb}
+use borrow.Author.Tests.{eqb-true, eq-eqb, ne-eqb, le-leb, leb-true}
 use Rattle.lists.proofs.Tests.{by-test, and-l, and-r, tests}
 use Rattle.sheet.specs.Limits.{unbounded, mostBudgets}
+use Rattle.sheet.specs.Refusals.{given}
 use Rattle.sheet.specs.Sheet.{kindOf, bits, hasSpare, inOrder, Site, Colour, Sheet, slotsIn, sitesRun, coloursIn, sitesIn, headIn, bodyOf, sheetIn, productOf, isHead, sheetFault, workFor}
 use Rattle.sheet.specs.Binding.{bindingWord, bindingOnly, bindingColours, withColours, sitesOf}
 use Rattle.sheet.proofs.Accepted.{unrefused, Step, step}
@@ -119,11 +120,12 @@ sheet-binding ws h =
     rw (head-kept ws h .0, head-kept ws h .1, slots-kept b, colours-binding b, sites-kept 0 b)
 
 pub binding-accepted : (ws : List ℕ) → sheetFault ws ≡ 0 → sheetFault (bindingOnly ws) ≡ 0
+unfolding given
 binding-accepted ws h =
     let u = unrefused ws h in
     let b = bodyOf ws in
     let e = head-kept ws (u .head) in
-    let p : ltb mostBudgets (productOf (bindingColours (coloursIn b))) ≡ false = omega (arith, tests, u .product, product-binding (coloursIn b)) in
+    let p : leb (productOf (bindingColours (coloursIn b))) mostBudgets ≡ true = le-leb (productOf (bindingColours (coloursIn b))) mostBudgets (omega (arith, leb-true (productOf (coloursIn b)) mostBudgets (u .product), product-binding (coloursIn b))) in
     rw (length-kept ws, e .0, e .1, order-kept 0 b, slots-kept b, colours-binding b, sites-kept 0 b, length-binding (coloursIn b), u .head, u .order, u .counts, u .rise, u .inside, u .differ, p)
 
 -- A COLOUR'S SITES: those that follow its word at once are all that there are

@@ -1,3 +1,4 @@
+pub mod Refusals
 pub mod Accepted
 pub mod Places
 pub mod Counts

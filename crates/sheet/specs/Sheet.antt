@@ -5,6 +5,7 @@ use mathlib.Core.List.{List, [], _∷_}
 use Prim.Native.Nat.{ℕ, suc, _+_, _*_, _-_, _/_, _%_, _^_}
 use lib.Dec.{ltb, leb, eqb}
 use lib.ListN.{length, getD, drop}
+use Rattle.sheet.specs.Refusals.{Refusal, unless, given}
 use Rattle.sheet.specs.Limits.{mostSlots, mostColours, mostSites, mostBudgets, unbounded, kindTop, numberTop}
 
 -- a test holds of all items of a list
@@ -152,16 +153,22 @@ countsFit s = leb (length (s .slots)) mostSlots && leb (length (s .colours)) mos
 abbrev pub insideBy : (width : ℕ) → Site → Bool
 insideBy w s = leb (s .x) w
 
--- the reader's refusal, 1 to 7 in this order, each looked for through the whole list before the next; 0: an accepted sheet.
--- 1 no head; 2 another kind, out of order, a spare bit; 3 too many; 4 heights not strictly rising; 5 x above W; 6 equal x; 7 P above 64
+-- the reader's refusals in their order, each looked for through the whole list before the next: 1 no head; 2 another kind, out of order,
+-- a spare bit; 3 too many; 4 heights not strictly rising; 5 x above W; 6 equal x; 7 P above 64
+abbrev pub sheetRefusals : (words : List ℕ) → List Refusal
+sheetRefusals ws =
+    unless (isHead ws) 1 ∷
+    unless (inOrder 0 (bodyOf ws)) 2 ∷
+    unless (countsFit (sheetIn ws)) 3 ∷
+    unless (rising (sheetIn ws .slots)) 4 ∷
+    unless (all (insideBy (sheetIn ws .width)) (sheetIn ws .sites)) 5 ∷
+    unless (ranksDiffer (sheetIn ws .sites)) 6 ∷
+    unless (leb (productOf (sheetIn ws .colours)) mostBudgets) 7 ∷
+    []
+
+-- the reader's refusal; 0: an accepted sheet
 abbrev pub sheetFault : (words : List ℕ) → ℕ
-sheetFault ws =
-    cond (not (isHead ws)) 1
-    (cond (not (inOrder 0 (bodyOf ws))) 2
-    (cond (not (countsFit (sheetIn ws))) 3
-    (cond (not (rising (sheetIn ws .slots))) 4
-    (cond (not (all (insideBy (sheetIn ws .width)) (sheetIn ws .sites))) 5
-    (cond (not (ranksDiffer (sheetIn ws .sites))) 6 (cond (ltb mostBudgets (productOf (sheetIn ws .colours))) 7 0))))))
+sheetFault ws = given (sheetRefusals ws)
 
 -- the number of work words: (m+2)² × (C+1)² × (n+1) × P one-sided, (m+2) × (C+1) × P two-sided
 abbrev pub workFor : Sheet → ℕ
