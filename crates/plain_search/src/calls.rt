@@ -116,7 +116,9 @@ pub struct Expected {
     pub needed: u32,
     pub answer: u32,
     pub best: Found,
-    // the last number drawn: the areas' words before the call come from it
+    // the areas' words before the call come from it
+    pub areas: u32,
+    // the last number drawn
     pub seed: u32,
 }
 
@@ -141,6 +143,7 @@ pub fn expected_for(sheet: Sheet) -> Expected {
         needed: needed,
         answer: answer,
         best: best,
+        areas: sheet.second,
         seed: next(out.seed),
     }
 }
@@ -152,7 +155,7 @@ fn work_written(e: Expected) -> Written {
         first: 0,
         other: 0,
         slots: 0,
-        seed: e.seed,
+        seed: e.areas,
     }
 }
 
@@ -164,7 +167,7 @@ fn answer_written(e: Expected) -> Written {
         first: LAYOUT + best.size % KIND,
         other: TIE,
         slots: best.layout,
-        seed: e.seed,
+        seed: e.areas,
     }
 }
 

@@ -28,6 +28,9 @@ pub const SET: u32 = 32;
 pub struct Sheet {
     // the last number drawn, from which the next is
     pub seed: u32,
+    // the last one drawn from the second seed: it gives what the areas hold before a call, and what is added to sheets later, so that
+    // whatever is added the sheets' other numbers stay
+    pub second: u32,
     // 2 if it is two-sided, and 1 more if the aim is the shortest
     pub flags: u32,
     pub gap: u32,

@@ -15,8 +15,8 @@ use plain_search::small_sheet::words::sheet_words;
 const SHEETS: u32 = 20000;
 
 fn is_call_right(words: &[u32], work: &mut [u32], out: &mut [u32], e: Expected) -> bool {
-    fill(work, e.seed);
-    fill(out, e.seed);
+    fill(work, e.areas);
+    fill(out, e.areas);
     let fault = make_layout(words, work, out);
     is_right(e, fault, work, out)
 }

@@ -140,7 +140,7 @@ fn met(recipe: &mut Recipe) -> [bool; 11] {
     let sheet = recipe.sheet();
     let (needed, words) = (sheet.work_words(), sheet.sites.len() as u64 + 1);
     let (short_work, short_answer) = (recipe.lent(needed) < needed, recipe.lent(words) < words);
-    recipe.draw(65_536); // what the areas hold before the call
+    recipe.draw(65_536); // no part of it: what the areas hold is drawn from the program's second seed
 
     // A two-sided sheet is refused whatever is lent.
     let (served, found) = (!sheet.two_sided, find(&sheet));

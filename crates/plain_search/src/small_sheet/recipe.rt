@@ -1,4 +1,4 @@
-// Small sheets from a fixed arithmetic recipe: numbers drawn from a seed.
+// Small sheets from a fixed arithmetic recipe: numbers drawn from a seed, and from a second one what is not of the sheet's first form.
 ghost use Prim.Native.Nat.{_≤_};
 use crate::small_sheet::FACTOR_TOP;
 use crate::small_sheet::NO_BOUND;
@@ -51,6 +51,7 @@ fn make_head(before: Sheet) -> Sheet {
     let h = next(g);
     Sheet {
         seed: next(h),
+        second: next(before.second),
         flags: 2 * (drawn(a, 7) / 7) + drawn(b, 1),
         gap: sum(lesser(drawn(c, 2), drawn(d, 2)), 1),
         width: drawn(e, 3) + 5,
@@ -184,6 +185,7 @@ pub fn make_sheet(before: Sheet) -> Sheet {
 pub fn no_sheet() -> Sheet {
     Sheet {
         seed: 1,
+        second: 2,
         flags: 0,
         gap: 0,
         width: 0,
