@@ -12,9 +12,9 @@ use Rattle.sheet.specs.Sheet.{Colour, Sheet}
 use Rattle.search.proofs.Sums.{listing-first, listing-past}
 use Rattle.labelling.specs.Layout.{noColour}
 use Rattle.optimum.specs.Slots.{farEnough, sheetSlots}
-use Rattle.optimum.specs.OneSided.{leadOf, mayOpen, tipClear, turnOf, heldOf, radicesOf, drawsOf, wordOf, topWord, instanceOf, pointsAt}
+use Rattle.optimum.specs.OneSided.{leadOf, mayOpen, tipClear, markCount, turnOf, heldOf, radicesOf, drawsOf, wordOf, topWord, instanceOf, pointsAt}
 use Rattle.decoding.proofs.Places.{bounds-at, xs-at, ys-at, colours-at}
-use Rattle.arrays.specs.Arrays.{measuresOf, boundsOf, drawsList, xsOf, ysOf, coloursOf, gathered, instanceBy, pointsBy}
+use Rattle.arrays.specs.Arrays.{measuresOf, boundsOf, drawsList, xsOf, ysOf, coloursOf, gathered, turnBy, heldBy, instanceBy, pointsBy}
 
 past : (ks : List Colour) (c : ℕ) → length ks ≤ c → (getD ks c noColour) .bound ≡ unbounded
 past [] c h = refl
@@ -29,14 +29,14 @@ draws-at s c =
 
 -- THE ONE-SIDED INSTANCE
 pub instance-by : (s : Sheet) → instanceBy (measuresOf s) (s .slots) (boundsOf (s .colours)) (radicesOf (s .colours)) (drawsList s) ≡ instanceOf s
-unfolding farEnough leadOf mayOpen tipClear turnOf heldOf wordOf
+unfolding farEnough leadOf mayOpen tipClear turnOf turnBy heldOf heldBy wordOf
 instance-by s = λ i. record {
   slots = sheetSlots s;
   top = topWord;
   lead = leadOf s;
   may = λ t k. not (eqb (bounds-at (s .colours) (t .c) i) 0);
   tip = tipClear s;
-  markCount = 1;
+  markCount = markCount;
   turn = turnOf s;
   held = heldOf s;
   drawOf = λ c. draws-at s c i;

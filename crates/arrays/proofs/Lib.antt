@@ -1,4 +1,5 @@
 pub mod Instances
 pub mod Ordered
 pub mod Standing
+pub mod Marks
 pub mod Narrowed

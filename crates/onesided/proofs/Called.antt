@@ -41,11 +41,8 @@ module _ (ws k out : List ℕ) (t : takesSheet ws k out) where
 
   size-is : (length (pointsAt s (order s)) + 1) * levelSize (length (s .slots)) (length (s .colours)) (productOf (s .colours)) ≡ workFor s
   size-is =
-      ap₂ (λ (n z : ℕ). (n + 1) * z) (points-long s (order s) ∙ ordered s (sound ws (t .1)) .long) (size (length (s .slots) + 2) (length (s .colours) + 1) (productOf (s .colours)))
+      ap (λ (n : ℕ). (n + 1) * levelSize (length (s .slots)) (length (s .colours)) (productOf (s .colours))) (points-long s (order s) ∙ ordered s (sound ws (t .1)) .long)
       ∙ sym (work-cells s (t .4))
-    where
-      size : (a b n : ℕ) → a * b * a * b * n ≡ a * b * a * b * 1 * n
-      size a b n = ap (λ (z : ℕ). z * n) (omega arith)
 
   zeroed-is : (work : List ℕ) → drop (workFor s) work ≡ drop (workFor s) k → laidWork (arraysOf s) work ≡ cleared ws k
   zeroed-is work e =

@@ -1,5 +1,5 @@
 -- The arrays of an accepted sheet are as the table and the walk ask. Assumes nothing.
-use mathlib.Core.Path.{_≡_, refl, sym, ap, ap₂, _∙_, subst⁻¹}
+use mathlib.Core.Path.{_≡_, refl, sym, ap, _∙_, subst⁻¹}
 use mathlib.Core.Bool.{false, cond}
 use mathlib.Core.List.{List, [], _∷_, _++_}
 use Prim.Native.Nat.{ℕ, zero, suc, _+_, _-_, _*_, _≤_, _<_}
@@ -107,16 +107,13 @@ module _ (ws : List ℕ) (f : sheetFault ws ≡ 0) where
         sheet = of-sheet;
         bounded = bounds-long (s .colours);
         ranked = sym gx;
-        fits = fits (length (s .slots) + 2) (length (s .colours) + 1) (productOf (s .colours)) (omega (arith, gx, n-is)) (work-cells s one);
+        fits = fits _ (omega (arith, gx, n-is)) (work-cells s one);
         answerFits = omega (arith, n-is);
       }
     where
-      fits : (a b p : ℕ) → length (gathered (xsOf (s .sites)) (order s)) ≡ length (s .sites) → workFor s ≡ (length (s .sites) + 1) * (a * b * a * b * 1 * p)
-          → (length (gathered (xsOf (s .sites)) (order s)) + 1) * (a * b * a * b * p) ≤ area
-      fits a b p e w =
-          let z : a * b * a * b * 1 * p ≡ a * b * a * b * p = ap (λ (y : ℕ). y * p) (omega arith) in
-          let y = ap₂ (λ (n c : ℕ). (n + 1) * c) e (sym z) in
-          omega arith
+      fits : (size : ℕ) → length (gathered (xsOf (s .sites)) (order s)) ≡ length (s .sites) → workFor s ≡ (length (s .sites) + 1) * size
+          → (length (gathered (xsOf (s .sites)) (order s)) + 1) * size ≤ area
+      fits size e w = let y = ap (λ (n : ℕ). (n + 1) * size) e in omega arith
 
   -- the same for arrays that are equal to these
   pub lays-is : (g : Given) (area : ℕ) (out : List ℕ) → g ≡ arraysOf s → s .isTwoSided ≡ false → workFor s ≤ area → length (s .sites) + 1 ≤ length out → LaysOut g area out

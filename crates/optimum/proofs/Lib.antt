@@ -6,5 +6,6 @@ pub mod Steps
 pub mod Budgets
 pub mod Full
 pub mod Levels
+pub mod Marks
 pub mod Loops
 pub mod Reached

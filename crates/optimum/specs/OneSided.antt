@@ -28,9 +28,13 @@ leadOf s x = s .width - x
 unfoldable pub mayOpen : Sheet → Point → (k : ℕ) → Bool
 mayOpen s t k = not (eqb (boundOf s (t .c)) 0)
 
--- nothing else is asked of a label that this site opens at slot k; a site leaves no mark, and no mark holds one
+-- nothing else is asked of a label that this site opens at slot k
 unfoldable pub tipClear : Sheet → Point → (k : ℕ) → Bool
 tipClear s t k = true
+
+-- how many marks there are: what is proved of rows holds for any number above 0; a site leaves the mark 0, and no mark holds one
+unfoldable pub markCount : ℕ
+markCount = 1
 
 unfoldable pub turnOf : Sheet → Point → (k : ℕ) → ℕ
 turnOf s t k = 0
@@ -47,7 +51,7 @@ instanceOf s =
       lead = leadOf s;
       may = mayOpen s;
       tip = tipClear s;
-      markCount = 1;
+      markCount = markCount;
       turn = turnOf s;
       held = heldOf s;
       drawOf = drawsOf s;

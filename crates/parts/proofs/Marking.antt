@@ -7,7 +7,7 @@ use lib.ListN.{length, getD, set, length-set}
 use lib.Seq.{getD-set-same, getD-set-other}
 use Rattle.lists.proofs.Tests.{by-equal}
 use Rattle.search.specs.Cost.{plus}
-use Rattle.optimum.specs.OneSided.{topWord}
+use Rattle.optimum.specs.OneSided.{topWord, markCount}
 use Rattle.optimum.specs.Strips.{Point, Strip}
 use Rattle.arrays.specs.declared.Measures.{Measures}
 use Rattle.rows.specs.Rows.{rowOf, rowsOf, rowIn, mostPlace, Lies, upperPart, lowerPart, LevelFits}
@@ -53,27 +53,27 @@ fits-place r h =
     record { fewSlots = r .fewSlots; fewColours = r .fewColours; fewBudgets = r .fewBudgets; someBudget = r .someBudget; within = h }
 
 -- what is marked stays so
-pub parts-kept : (q : Measures) (old new : List ℕ) (low m size : ℕ) (p : Strip) (s : Point) {k : ℕ} → Marking old new low size → PartsMarked q old low m p s k → PartsMarked q new low m p s k
+pub parts-kept : (q : Measures) (old new : List ℕ) (low m size : ℕ) (p : Strip) (s : Point) {k d : ℕ} → Marking old new low size → PartsMarked q old low m p s k d → PartsMarked q new low m p s k d
 parts-kept q old new low m size p s f h = record { upper = f .kept _ (h .upper); lower = f .kept _ (h .lower) }
 
 -- the rows of the two parts that a label at slot k leaves of a strip
-module _ {q : Measures} {m low area : ℕ} (r : LevelFits q m low area) (p : Strip) (s : Point) (k : ℕ) (l : Lies m (q .colours) p) (c : s .c < q .colours) (b : k + 1 < p .b) (upper lower : ℕ)
-    (u : upper ≡ low + rowOf m (q .colours) (upperPart p s k) * q .budgets) (w : lower ≡ low + rowOf m (q .colours) (lowerPart p s k) * q .budgets) where
+module _ {q : Measures} {m low area : ℕ} (r : LevelFits q m low area) (p : Strip) (s : Point) (k d : ℕ) (l : Lies m (q .colours) p) (c : s .c < q .colours) (b : k + 1 < p .b) (dl : d < markCount) (upper lower : ℕ)
+    (u : upper ≡ low + rowOf m (q .colours) (upperPart d p s k) * q .budgets) (w : lower ≡ low + rowOf m (q .colours) (lowerPart p s k) * q .budgets) where
   pub both-within : (upper < area) × (lower < area)
   both-within = (
-    omega (arith, u, own-within r (upperPart p s k) (upper-lies m (q .colours) p s k l c b)),
+    omega (arith, u, own-within r (upperPart d p s k) (upper-lies m (q .colours) d p s k l c b dl)),
     omega (arith, w, own-within r (lowerPart p s k) (lower-lies m (q .colours) p s k l c b)),
   )
 
-  pub parts-cost : (work : List ℕ) (t : ℕ) → t ≡ plus topWord (getD work upper 0) (getD work lower 0) → t ≡ partsCost (rowIn work low m (q .colours) (q .budgets)) p s k
+  pub parts-cost : (work : List ℕ) (t : ℕ) → t ≡ plus topWord (getD work upper 0) (getD work lower 0) → t ≡ partsCost (rowIn work low m (q .colours) (q .budgets)) p s k d
   parts-cost work t f =
       f ∙ ap₂ (plus topWord) (ap (λ (z : ℕ). getD work z 0) (u ∙ omega arith)) (ap (λ (z : ℕ). getD work z 0) (w ∙ omega arith))
 
   pub parts-marked : (old : List ℕ) → area ≡ length old
-      → Marking old (set (set old upper 1) lower 1) low (rowsOf m (q .colours) * q .budgets) × PartsMarked q (set (set old upper 1) lower 1) low m p s k
+      → Marking old (set (set old upper 1) lower 1) low (rowsOf m (q .colours) * q .budgets) × PartsMarked q (set (set old upper 1) lower 1) low m p s k d
   parts-marked old a =
-      let f = own-marking r (upperPart p s k) (upper-lies m (q .colours) p s k l c b) old upper a u in
-      let x = own-marked r (upperPart p s k) (upper-lies m (q .colours) p s k l c b) old upper a u in
+      let f = own-marking r (upperPart d p s k) (upper-lies m (q .colours) d p s k l c b dl) old upper a u in
+      let x = own-marked r (upperPart d p s k) (upper-lies m (q .colours) d p s k l c b dl) old upper a u in
       let e : area ≡ length (set old upper 1) = a ∙ sym (length-set old upper 1) in
       let g = own-marking r (lowerPart p s k) (lower-lies m (q .colours) p s k l c b) (set old upper 1) lower e w in
       let y = own-marked r (lowerPart p s k) (lower-lies m (q .colours) p s k l c b) (set old upper 1) lower e w in

@@ -13,6 +13,7 @@ use Rattle.lists.proofs.Tests.{by-equal}
 use Rattle.search.specs.Cost.{plus}
 use Rattle.search.proofs.Cost.{least-cong}
 use Rattle.optimum.specs.OneSided.{topWord}
+use Rattle.optimum.proofs.Marks.{some-mark}
 use Rattle.search.specs.Split.{just}
 use Rattle.search.specs.Sums.{listing}
 use Rattle.search.proofs.Sums.{listing-first, length-listing}
@@ -68,7 +69,7 @@ join-long parts counts acc work row = length-listing _ 0 (length acc)
 -- a strip in range is one of its level
 pub lies : (m C R a ca b cb : ℕ) → StripIn m C R a ca b cb → Lies m C (record { a = a; ca = ca; b = b; cb = cb; d = 0 })
 lies m C R a ca b cb i =
-    record { aLow = omega (arith, i .aLow); caLow = omega (arith, i .caLow); bLow = omega (arith, i .bLow); cbLow = omega (arith, i .cbLow); dLow = refl }
+    record { aLow = omega (arith, i .aLow); caLow = omega (arith, i .caLow); bLow = omega (arith, i .bLow); cbLow = omega (arith, i .cbLow); dLow = some-mark }
 
 pub row-inside : (m C R a ca b cb : ℕ) → StripIn m C R a ca b cb → rowStart m C R a ca b cb + R ≤ levelSize m C R
 row-inside m C R a ca b cb i = row-fits m C R _ (lies m C R a ca b cb i)

@@ -1,19 +1,19 @@
 -- A strip, a site and an end of a strip as the code holds them, and the row of a strip in its level. Definitions.
-use mathlib.Core.Path.{_≡_}
 use mathlib.Core.Bool.{Bool, cond}
 use mathlib.Core.List.{List}
 use Prim.Native.Nat.{ℕ, _+_, _*_, _<_, _≤_}
 use lib.Dec.{eqb, ltb}
 use lib.ListN.{length, getD}
 use Rattle.optimum.specs.Strips.{Point, Strip}
+use Rattle.optimum.specs.OneSided.{markCount}
 use Rattle.arrays.specs.declared.Measures.{Measures}
 use Rattle.rows.specs.declared.Strip as held
 use Rattle.rows.specs.declared.Site as tied
 use Rattle.sheet.specs.Limits.{mostSlots, mostColours, mostBudgets}
 
--- the strip and the site of the model; a strip carries no mark yet
+-- the strip and the site of the model
 abbrev pub stripOf : held.Strip → Strip
-stripOf p = record { a = p .a; ca = p .ca; b = p .b; cb = p .cb; d = 0 }
+stripOf p = record { a = p .a; ca = p .ca; b = p .b; cb = p .cb; d = p .d }
 
 abbrev pub pointOf : tied.Site → Point
 pointOf s = record { x = s .x; y = s .y; c = s .c }
@@ -22,10 +22,10 @@ pointOf s = record { x = s .x; y = s .y; c = s .c }
 
 -- the number of a strip's row in its level; how many rows a level has
 abbrev pub rowOf : (m C : ℕ) → Strip → ℕ
-rowOf m C p = ((p .a * (C + 1) + p .ca) * (m + 2) + p .b) * (C + 1) + p .cb
+rowOf m C p = (((p .a * (C + 1) + p .ca) * (m + 2) + p .b) * (C + 1) + p .cb) * markCount + p .d
 
 abbrev pub rowsOf : (m C : ℕ) → ℕ
-rowsOf m C = (m + 2) * (C + 1) * (m + 2) * (C + 1)
+rowsOf m C = (m + 2) * (C + 1) * (m + 2) * (C + 1) * markCount
 
 -- the words of a level: of m slots, C colours and R budgets; of a sheet's heights
 abbrev pub levelSize : (m C R : ℕ) → ℕ
@@ -44,15 +44,19 @@ pub record Lies (m C : ℕ) (p : Strip) : Type 0 where
   pub caLow : p .ca < C + 1
   pub bLow : p .b < m + 2
   pub cbLow : p .cb < C + 1
-  pub dLow : p .d ≡ 0
+  pub dLow : p .d < markCount
 
 -- the words of a strip's row, in the level that begins at the word `low`; rows of n words
 abbrev pub rowIn : (work : List ℕ) → (low m C n : ℕ) → Strip → (v : ℕ) → ℕ
 rowIn work low m C n p v = getD work (low + rowOf m C p * n + v) 0
 
--- the parts that a label at slot k leaves of a strip
-abbrev pub upperPart : Strip → Point → (k : ℕ) → Strip
-upperPart p s k = record { a = p .a; ca = p .ca; b = k + 1; cb = s .c + 1; d = 0 }
+-- a strip with another mark
+abbrev pub markedBy : (d : ℕ) → Strip → Strip
+markedBy d p = record { a = p .a; ca = p .ca; b = p .b; cb = p .cb; d = d }
+
+-- the parts that a label at slot k leaves of a strip; the site leaves the mark d in the upper one
+abbrev pub upperPart : (d : ℕ) → Strip → Point → (k : ℕ) → Strip
+upperPart d p s k = record { a = p .a; ca = p .ca; b = k + 1; cb = s .c + 1; d = d }
 
 abbrev pub lowerPart : Strip → Point → (k : ℕ) → Strip
 lowerPart p s k = record { a = k + 1; ca = s .c + 1; b = p .b; cb = p .cb; d = 0 }
@@ -61,9 +65,13 @@ lowerPart p s k = record { a = k + 1; ca = s .c + 1; b = p .b; cb = p .cb; d = 0
 abbrev pub endPlace : (C slot colour : ℕ) → ℕ
 endPlace C slot colour = slot * (C + 1) + colour
 
+-- the place of a strip's row below its upper end: by its lower end, then by its mark
+abbrev pub lowPlace : (C : ℕ) → Strip → ℕ
+lowPlace C p = endPlace C (p .b) (p .cb) * markCount + p .d
+
 -- the words of the rows below one upper end
 abbrev pub endWords : Measures → (heights : List ℕ) → ℕ
-endWords q hs = endPlace (q .colours) (length hs + 2) 0 * q .budgets
+endWords q hs = endPlace (q .colours) (length hs + 2) 0 * markCount * q .budgets
 
 -- an upper end: the top edge has no colour, a label has one
 unfoldable pub upperEnd : (slot colour : ℕ) → Bool

@@ -8,17 +8,23 @@ ghost use Prim.Native.Nat.{ℕ, suc, _+_, _*_, _<_, _≤_};
 ghost use lib.ListN.{length, getD, replicate};
 ghost use Rattle.sheet.specs.Limits.{mostSlots, mostColours, mostBudgets};
 ghost use Rattle.optimum.specs.Strips as model;
+ghost use Rattle.optimum.specs.OneSided.{markCount};
 ghost use Rattle.arrays.specs.Arrays.{instanceBy};
 ghost use Rattle.arrays.specs.declared.Measures as measured;
-ghost use Rattle.rows.specs.Rows.{stripOf, pointOf, rowOf, rowsOf, mostPlace, Lies, upperPart, lowerPart, endPlace, upperEnd, LevelFits};
+ghost use Rattle.rows.specs.Rows.{stripOf, pointOf, rowOf, rowsOf, mostPlace, Lies, markedBy, upperPart, lowerPart, endPlace, lowPlace, upperEnd, LevelFits};
 use arrays::Measures;
 
-// A strip: the labels above and below it (0: the top edge, k + 1: slot k, m + 1: the bottom edge) and their colours (0: none, c + 1: colour c).
+// How many marks a strip may have: optimum/specs/OneSided has the number for definitions.
+const MARK_COUNT: usize = 1;
+
+// A strip: the labels above and below it (0: the top edge, k + 1: slot k, m + 1: the bottom edge) and their colours (0: none, c + 1: colour c);
+// d is the mark that the last site tied in it left.
 pub struct Strip {
     pub a: u32,
     pub ca: u32,
     pub b: u32,
     pub cb: u32,
+    pub d: u32,
 }
 
 pub struct Site {
@@ -58,7 +64,7 @@ pub fn rows_of(q: Measures, m: usize) -> usize
 {
     let colours = (q.colours as usize) + 1;
     let ends = m + 2;
-    ends * colours * ends * colours
+    ends * colours * ends * colours * MARK_COUNT
 }
 
 // The place of a strip's row in its level.
@@ -71,14 +77,27 @@ pub fn row_place(q: Measures, m: usize, p: Strip) -> usize
     let ends = m + 2;
     let upper = (p.a as usize) * colours + (p.ca as usize);
     let strip = (upper * ends + (p.b as usize)) * colours + (p.cb as usize);
-    strip * (q.budgets as usize)
+    (strip * MARK_COUNT + (p.d as usize)) * (q.budgets as usize)
 }
 
-// The places of the rows of the two parts that a label at slot k leaves of a strip.
-pub fn part_places(q: Measures, m: usize, p: Strip, s: Site, low: usize, k: u32) -> PartRows
+// A strip with another mark.
+pub fn marked_by(p: Strip, d: u32) -> Strip
+    ensures { λ r. ⌜ stripOf r ≡ markedBy d (stripOf p) ⌝ }
+{
+    Strip {
+        a: p.a,
+        ca: p.ca,
+        b: p.b,
+        cb: p.cb,
+        d: d,
+    }
+}
+
+// The places of the rows of the two parts that a label at slot k leaves of a strip; the site leaves the mark d in the upper one.
+pub fn part_places(q: Measures, m: usize, p: Strip, s: Site, low: usize, k: u32, d: u32) -> PartRows
     requires { ⌜ LevelFits q m low mostPlace ⌝ }
-    requires { ⌜ Lies m (q .colours) (stripOf p) × (s .c < q .colours) × (k + 1 < p .b) ⌝ }
-    ensures { λ r. ⌜ (r .upper ≡ low + rowOf m (q .colours) (upperPart (stripOf p) (pointOf s) k) * q .budgets) × (r .lower ≡ low + rowOf m (q .colours) (lowerPart (stripOf p) (pointOf s) k) * q .budgets) ⌝ }
+    requires { ⌜ Lies m (q .colours) (stripOf p) × (s .c < q .colours) × (k + 1 < p .b) × (d < markCount) ⌝ }
+    ensures { λ r. ⌜ (r .upper ≡ low + rowOf m (q .colours) (upperPart d (stripOf p) (pointOf s) k) * q .budgets) × (r .lower ≡ low + rowOf m (q .colours) (lowerPart (stripOf p) (pointOf s) k) * q .budgets) ⌝ }
 {
     let c = s.c + 1;
     let upper = Strip {
@@ -86,12 +105,14 @@ pub fn part_places(q: Measures, m: usize, p: Strip, s: Site, low: usize, k: u32)
         ca: p.ca,
         b: k + 1,
         cb: c,
+        d: d,
     };
     let lower = Strip {
         a: k + 1,
         ca: c,
         b: p.b,
         cb: p.cb,
+        d: 0,
     };
     PartRows {
         upper: low + row_place(q, m, upper),
@@ -116,11 +137,20 @@ pub fn next_end(colours: u32, e: End) -> End
     }
 }
 
-// The strip below the same upper end whose lower end comes next.
+// The strip below the same upper end whose row comes next: by the mark, then by the lower end.
 pub fn next_below(colours: u32, p: Strip) -> Strip
-    requires { ⌜ (colours ≤ mostColours) × (p .b ≤ mostSlots + 2) × (p .cb ≤ colours) ⌝ }
-    ensures { λ r. ⌜ (r .a ≡ p .a) × (r .ca ≡ p .ca) × (r .cb ≤ colours) × (endPlace colours (r .b) (r .cb) ≡ endPlace colours (p .b) (p .cb) + 1) ⌝ }
+    requires { ⌜ (colours ≤ mostColours) × (p .b ≤ mostSlots + 2) × (p .cb ≤ colours) × (p .d < markCount) ⌝ }
+    ensures { λ r. ⌜ (r .a ≡ p .a) × (r .ca ≡ p .ca) × (r .cb ≤ colours) × (r .d < markCount) × (lowPlace colours (stripOf r) ≡ lowPlace colours (stripOf p) + 1) ⌝ }
 {
+    if (p.d as usize) + 1 < MARK_COUNT {
+        return Strip {
+            a: p.a,
+            ca: p.ca,
+            b: p.b,
+            cb: p.cb,
+            d: p.d + 1,
+        };
+    }
     let e = next_end(
         colours,
         End {
@@ -133,6 +163,7 @@ pub fn next_below(colours: u32, p: Strip) -> Strip
         ca: p.ca,
         b: e.slot,
         cb: e.colour,
+        d: 0,
     }
 }
 
@@ -164,6 +195,7 @@ pub fn hold_of(heights: &[u32], labels: &[u32], y: u32) -> Strip
                 ca: ca,
                 b: b,
                 cb: e,
+                d: 0,
             };
         }
         a = words::choose(none, a, b);
@@ -176,5 +208,6 @@ pub fn hold_of(heights: &[u32], labels: &[u32], y: u32) -> Strip
         ca: ca,
         b: end,
         cb: 0,
+        d: 0,
     }
 }

@@ -46,6 +46,7 @@ fn row_start(q: Measures, m: usize, a: u32, ca: u32, b: u32, cb: u32) -> usize
         ca: ca,
         b: b,
         cb: cb,
+        d: 0,
     };
     row_place(q, m, strip)
 }

@@ -11,7 +11,7 @@ use Rattle.optimum.specs.Slots.{over, under, farFrom, clearFrom}
 use Rattle.optimum.specs.Strips.{Point, Strip, inside, opens, joinsUp, joinsDown, cost}
 use Rattle.optimum.specs.OneSided.{topWord}
 use Rattle.arrays.specs.declared.Measures.{Measures}
-use Rattle.arrays.specs.Arrays.{slotsBy, instanceBy}
+use Rattle.arrays.specs.Arrays.{slotsBy, heldBy, instanceBy}
 use Rattle.strips.specs.Strips.{instanceOn, gapLeft, siteOpens, openCost, joinCost}
 
 -- whatever the radices and draws
@@ -44,19 +44,19 @@ opens-split q hs bs p s k =
     let P = instanceOn q hs bs in
     let e : k + 1 ≡ suc k = omega arith in
     regroup (ltb (p .a) (suc k)) (ltb (suc k) (p .b)) (ltb k (length hs)) (farFrom (slotsBy q hs) (p .a) (p .ca) k (suc (s .c))) (farFrom (slotsBy q hs) (p .b) (p .cb) k (suc (s .c)))
-    (clearFrom (slotsBy q hs) (p .a) (s .y)) (clearFrom (slotsBy q hs) (p .b) (s .y)) (not (eqb (getD bs (s .c) unbounded) 0))
+    (clearFrom (slotsBy q hs) (p .a) (s .y)) (clearFrom (slotsBy q hs) (p .b) (s .y)) (not (eqb (getD bs (s .c) unbounded) 0)) (not (heldBy hs p s))
     ∙ ap (λ (z : ℕ). (ltb (p .a) z && ltb z (p .b) && ltb k (length hs)) && (gapLeft (slotsBy q hs) p s k && siteOpens P p s)) (sym e)
   where
-    regroup : (a b c d e f g h : Bool) → (((((((((a && b) && c) && d) && e) && f) && g) && h) && true) && true) ≡ (((a && b) && c) && ((d && e) && ((f && g) && h)))
-    regroup false b c d e f g h = refl
-    regroup true false c d e f g h = refl
-    regroup true true false d e f g h = refl
-    regroup true true true false e f g h = refl
-    regroup true true true true false f g h = refl
-    regroup true true true true true false g h = refl
-    regroup true true true true true true false h = refl
-    regroup true true true true true true true false = refl
-    regroup true true true true true true true true = refl
+    regroup : (a b c d e f g h i : Bool) → (((((((((a && b) && c) && d) && e) && f) && g) && h) && true) && i) ≡ (((a && b) && c) && ((d && e) && (((f && g) && h) && i)))
+    regroup false b c d e f g h i = refl
+    regroup true false c d e f g h i = refl
+    regroup true true false d e f g h i = refl
+    regroup true true true false e f g h i = refl
+    regroup true true true true false f g h i = refl
+    regroup true true true true true false g h i = refl
+    regroup true true true true true true false h i = refl
+    regroup true true true true true true true false i = refl
+    regroup true true true true true true true true i = refl
 
 pub joins-down-by : (q : Measures) (hs bs : List ℕ) (p : Strip) (s : Point) (k : ℕ)
     → joinsDown (instanceOn q hs bs) p s k ≡ eqb (p .b) (k + 1) && ltb k (length hs) && eqb (p .cb) (s .c + 1) && clearFrom (slotsBy q hs) (p .a) (s .y)
@@ -73,7 +73,3 @@ module _ (q : Measures) (hs bs : List ℕ) (p : Strip) (s : Point) (k : ℕ) whe
   pub cost-joins : opens (instanceOn q hs bs) p s k ≡ false → cost (instanceOn q hs bs) p s k ≡ cond (joinsUp (instanceOn q hs bs) p s k || joinsDown (instanceOn q hs bs) p s k) (joinCost q hs s k) topWord
   unfolding cost
   cost-joins e = rw e
-
-pub and-true : (b : Bool) → b && true ≡ b
-and-true true = refl
-and-true false = refl

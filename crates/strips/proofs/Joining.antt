@@ -1,5 +1,5 @@
 -- What opening a label asks, taken apart, and what joining one costs. Assumes nothing.
-use mathlib.Core.Path.{_≡_, sym, _∙_}
+use mathlib.Core.Path.{_≡_, sym, ap, _∙_}
 use mathlib.Core.Logic.{_⊎_}
 use mathlib.Core.Bool.{true, false}
 use mathlib.Core.List.{List}
@@ -12,9 +12,10 @@ use Rattle.labelling.proofs.Distances.{share-le}
 use Rattle.optimum.specs.Strips.{Point, Strip, opens, joinsUp, joinsDown}
 use Rattle.optimum.specs.OneSided.{topWord}
 use Rattle.arrays.specs.declared.Measures.{Measures}
-use Rattle.arrays.specs.Arrays.{slotsBy}
+use Rattle.arrays.specs.Arrays.{slotsBy, turnBy}
 use Rattle.arrays.specs.Given.{OfSheet, SiteIn, onSlots}
-use Rattle.strips.specs.Strips.{instanceOn, gapLeft, siteOpens, joinCost, joinLeast}
+use Rattle.rows.specs.Rows.{markedBy}
+use Rattle.strips.specs.Strips.{instanceOn, gapLeft, siteOpens, joinCost, riseCost, fallCost, risen, fallen}
 use Rattle.strips.proofs.Decisions.{opens-split}
 
 -- what opening asks, taken apart
@@ -51,16 +52,23 @@ module _ (q : Measures) (hs bs : List ℕ) (p : Strip) (s : Point) where
   unfolding joinsDown
   down-at k j = let w = and-both _ _ (and-both _ _ (and-both _ _ j .0) .0) in (eqb-true _ _ (w .0), ltb-true _ _ (w .1))
 
-  -- no join costs less than the least
-  pub up-least : (k : ℕ) → k < length hs → joinsUp (instanceOn q hs bs) p s k ≡ true → joinLeast q hs bs p s ≤ joinCost q hs s k
-  unfolding joinLeast
+  -- what a join leaves of the strip
+  pub risen-at : (k : ℕ) → joinsUp (instanceOn q hs bs) p s k ≡ true → markedBy (turnBy hs s k) p ≡ risen hs p s
+  risen-at k j = let a = up-at k j in ap (λ (i : ℕ). markedBy (turnBy hs s i) p) (omega arith)
+
+  pub fallen-at : (k : ℕ) → joinsDown (instanceOn q hs bs) p s k ≡ true → markedBy (turnBy hs s k) p ≡ fallen hs p s
+  fallen-at k j = let a = down-at k j .0 in ap (λ (i : ℕ). markedBy (turnBy hs s i) p) (omega arith)
+
+  -- and what it costs
+  pub up-least : (k : ℕ) → k < length hs → joinsUp (instanceOn q hs bs) p s k ≡ true → riseCost q hs bs p s ≤ joinCost q hs s k
+  unfolding riseCost
   up-least k h j =
       let a = up-at k j in
       let e : p .a - 1 ≡ k = omega arith in
       rw (e, lt-ltb k (length hs) h, j) (omega arith)
 
-  pub down-least : (k : ℕ) → joinsDown (instanceOn q hs bs) p s k ≡ true → joinLeast q hs bs p s ≤ joinCost q hs s k
-  unfolding joinLeast
+  pub down-least : (k : ℕ) → joinsDown (instanceOn q hs bs) p s k ≡ true → fallCost q hs bs p s ≤ joinCost q hs s k
+  unfolding fallCost
   down-least k j =
       let a = down-at k j .0 in
       let e : p .b - 1 ≡ k = omega arith in

@@ -1,8 +1,8 @@
 -- The part of an instance that decides what may be done in one strip. Definitions.
 use mathlib.Core.Path.{_≡_}
-use mathlib.Core.Bool.{Bool, true, false, cond, _&&_}
+use mathlib.Core.Bool.{Bool, true, false, cond, not, _&&_}
 use mathlib.Core.List.{List}
-use Prim.Native.Nat.{ℕ, suc, _+_, _-_, _<_, _≤_, min}
+use Prim.Native.Nat.{ℕ, suc, _+_, _-_, _<_, _≤_}
 use lib.Dec.{leb, ltb}
 use lib.ListN.{length, getD}
 use Rattle.labelling.specs.Layout.{shareBy}
@@ -10,9 +10,11 @@ use Rattle.optimum.specs.Slots.{Slots, farFrom, clearFrom}
 use Rattle.optimum.specs.Strips.{Point, Strip, Instance, joinsUp, joinsDown}
 use Rattle.optimum.specs.OneSided.{topWord}
 use Rattle.arrays.specs.declared.Measures.{Measures}
+use Rattle.arrays.specs.Arrays.{turnBy}
 use Rattle.arrays.specs.Given.{onStrip, instanceOf}
 use Rattle.strips.specs.declared.Window.{Window}
 use Rattle.costs.specs.Costs.{wordBy}
+use Rattle.rows.specs.Rows.{markedBy}
 
 -- radices and draws have no part in what is decided on one strip
 abbrev pub instanceOn : Measures → (heights bounds : List ℕ) → Instance
@@ -23,7 +25,7 @@ unfoldable pub gapLeft : Slots → Strip → Point → ℕ → Bool
 gapLeft S p s k = farFrom S (p .a) (p .ca) k (suc (s .c)) && farFrom S (p .b) (p .cb) k (suc (s .c))
 
 unfoldable pub siteOpens : Instance → Strip → Point → Bool
-siteOpens P p s = clearFrom (P .slots) (p .a) (s .y) && clearFrom (P .slots) (p .b) (s .y) && P .may s 0
+siteOpens P p s = clearFrom (P .slots) (p .a) (s .y) && clearFrom (P .slots) (p .b) (s .y) && P .may s 0 && not (P .held p s)
 
 -- of the slots between the strip's ends, from its upper end on: the first that this end lets open a label
 pub record FirstFar (S : Slots) (p : Strip) (s : Point) (first : ℕ) : Type 0 where
@@ -53,8 +55,17 @@ openCost q hs s k = wordBy q 1 (q .head .width - s .x + shareBy (getD hs k 0) (s
 abbrev pub joinCost : Measures → (heights : List ℕ) → Point → (slot : ℕ) → ℕ
 joinCost q hs s k = wordBy q 0 (shareBy (getD hs k 0) (s .y))
 
--- the least that joining a label costs
-unfoldable pub joinLeast : Measures → (heights bounds : List ℕ) → Strip → Point → ℕ
-joinLeast q hs bs p s =
-    min (cond (ltb (p .a - 1) (length hs) && joinsUp (instanceOn q hs bs) p s (p .a - 1)) (joinCost q hs s (p .a - 1)) topWord)
-    (cond (joinsDown (instanceOn q hs bs) p s (p .b - 1)) (joinCost q hs s (p .b - 1)) topWord)
+-- what it costs to join the label above, and the label below; none if that is not lawful
+unfoldable pub riseCost : Measures → (heights bounds : List ℕ) → Strip → Point → ℕ
+riseCost q hs bs p s =
+    cond (ltb (p .a - 1) (length hs) && joinsUp (instanceOn q hs bs) p s (p .a - 1)) (joinCost q hs s (p .a - 1)) topWord
+
+unfoldable pub fallCost : Measures → (heights bounds : List ℕ) → Strip → Point → ℕ
+fallCost q hs bs p s = cond (joinsDown (instanceOn q hs bs) p s (p .b - 1)) (joinCost q hs s (p .b - 1)) topWord
+
+-- the strip as a site leaves it that joins the label above; the label below
+abbrev pub risen : (heights : List ℕ) → Strip → Point → Strip
+risen hs p s = markedBy (turnBy hs s (p .a - 1)) p
+
+abbrev pub fallen : (heights : List ℕ) → Strip → Point → Strip
+fallen hs p s = markedBy (turnBy hs s (p .b - 1)) p

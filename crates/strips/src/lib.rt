@@ -6,9 +6,9 @@ ghost use Prim.Native.Nat.{ℕ, _+_, _<_, _≤_};
 ghost use lib.ListN.{length};
 ghost use Rattle.sheet.specs.Limits.{mostSlots, mostColours};
 ghost use Rattle.optimum.specs.Strips as model;
-ghost use Rattle.strips.specs.Strips.{joinLeast, instanceOn, FirstFar, FarEnd, WindowOf, siteOpens, openCost, joinCost};
+ghost use Rattle.strips.specs.Strips.{riseCost, fallCost, risen, fallen, instanceOn, FirstFar, FarEnd, WindowOf, siteOpens, openCost, joinCost};
 ghost use Rattle.rows.specs.Rows.{stripOf, pointOf, Lies};
-ghost use Rattle.arrays.specs.Arrays.{slotsBy};
+ghost use Rattle.arrays.specs.Arrays.{slotsBy, turnBy, heldBy};
 ghost use Rattle.arrays.specs.Given.{Given, onSlots, onStep, instanceOf, OfSheet, Bounded, SiteIn};
 ghost use Rattle.arrays.specs.declared.Measures as measured;
 ghost use Rattle.strips.specs.Steps.{priceIn, budgetLeft};
@@ -28,7 +28,6 @@ use words::either;
 use words::get;
 use words::is_not;
 use words::less;
-use words::lesser;
 use words::monus;
 use words::same;
 
@@ -94,6 +93,20 @@ pub fn open_window(q: Measures, heights: &[u32], p: Strip, s: Site) -> Window
     Window { from, to }
 }
 
+// The mark that the site leaves in its strip where it is tied to slot k.
+pub fn turn_at(heights: &[u32], s: Site, k: u32) -> u32
+    ensures { λ r. ⌜ r ≡ turnBy (now (heights .entry)) (pointOf s) k ⌝ }
+{
+    0
+}
+
+// By its mark the strip holds the site to the label below.
+fn is_held(heights: &[u32], p: Strip, s: Site) -> bool
+    ensures { λ r. ⌜ r ≡ heldBy (now (heights .entry)) (stripOf p) (pointOf s) ⌝ }
+{
+    false
+}
+
 // Of what opening a label asks, that which does not turn on the slot.
 pub fn site_opens(q: Measures, heights: &[u32], bounds: &[u32], p: Strip, s: Site) -> bool
     requires { ⌜ s .c < length (now bounds) ⌝ }
@@ -104,7 +117,8 @@ pub fn site_opens(q: Measures, heights: &[u32], bounds: &[u32], p: Strip, s: Sit
         is_clear(q, heights, p.a, s.y),
         is_clear(q, heights, p.b, s.y),
     );
-    both(clear, is_not(same(bounds[c], 0)))
+    let free = both(clear, is_not(same(bounds[c], 0)));
+    both(free, is_not(is_held(heights, p, s)))
 }
 
 // The site, which lies in the strip, may open a label at slot k.
@@ -128,7 +142,8 @@ fn joins_up(q: Measures, heights: &[u32], p: Strip, s: Site, k: u32) -> bool
     ensures { λ r. ⌜ ((bs : List ℕ) → r ≡ model.joinsUp (instanceOn q (now (heights .entry)) bs) (stripOf p) (pointOf s) k) ⌝ }
 {
     let own = both(same(p.a, k + 1), same(p.ca, s.c + 1));
-    both(own, is_clear(q, heights, p.b, s.y))
+    let clear = both(own, is_clear(q, heights, p.b, s.y));
+    both(clear, is_not(is_held(heights, p, s)))
 }
 
 fn joins_down(q: Measures, heights: &[u32], p: Strip, s: Site, k: u32) -> bool
@@ -145,7 +160,11 @@ pub fn open_cost(q: Measures, heights: &[u32], s: Site, k: u32) -> u32
     requires { ⌜ OfSheet (onSlots q (now heights)) × SiteIn q (pointOf s) ⌝ }
     ensures { λ r. ⌜ r ≡ openCost q (now (heights .entry)) (pointOf s) k ⌝ }
 {
-    cost_word(q, 1, monus(q.head.width, s.x) + share_of(get(heights, k), s.y))
+    cost_word(
+        q,
+        1,
+        monus(q.head.width, s.x) + share_of(get(heights, k), s.y),
+    )
 }
 
 fn join_cost(q: Measures, heights: &[u32], s: Site, k: u32) -> u32
@@ -155,18 +174,37 @@ fn join_cost(q: Measures, heights: &[u32], s: Site, k: u32) -> u32
     cost_word(q, 0, share_of(get(heights, k), s.y))
 }
 
-// The least that joining a label costs.
-pub fn join_least(q: Measures, heights: &[u32], p: Strip, s: Site) -> u32
+// What it costs to join the label above, and the label below; NONE if that is not lawful.
+pub fn rise_cost(q: Measures, heights: &[u32], p: Strip, s: Site) -> u32
     requires { ⌜ OfSheet (onSlots q (now heights)) × SiteIn q (pointOf s) × Lies (length (now heights)) (q .colours) (stripOf p) ⌝ }
-    ensures { λ r. ⌜ ((bs : List ℕ) → r ≡ joinLeast q (now (heights .entry)) bs (stripOf p) (pointOf s)) ⌝ }
+    ensures { λ r. ⌜ ((bs : List ℕ) → r ≡ riseCost q (now (heights .entry)) bs (stripOf p) (pointOf s)) ⌝ }
 {
     let up = monus(p.a, 1);
-    let down = monus(p.b, 1);
     let slot = (up as usize) < heights.len();
     let above = both(slot, joins_up(q, heights, p, s, up));
+    choose(above, join_cost(q, heights, s, up), NONE)
+}
+
+pub fn fall_cost(q: Measures, heights: &[u32], p: Strip, s: Site) -> u32
+    requires { ⌜ OfSheet (onSlots q (now heights)) × SiteIn q (pointOf s) × Lies (length (now heights)) (q .colours) (stripOf p) ⌝ }
+    ensures { λ r. ⌜ ((bs : List ℕ) → r ≡ fallCost q (now (heights .entry)) bs (stripOf p) (pointOf s)) ⌝ }
+{
+    let down = monus(p.b, 1);
     let below = joins_down(q, heights, p, s, down);
-    let rise = choose(above, join_cost(q, heights, s, up), NONE);
-    lesser(rise, choose(below, join_cost(q, heights, s, down), NONE))
+    choose(below, join_cost(q, heights, s, down), NONE)
+}
+
+// The strip as the site leaves it that joins the label above; the label below.
+pub fn risen_of(heights: &[u32], p: Strip, s: Site) -> Strip
+    ensures { λ r. ⌜ stripOf r ≡ risen (now (heights .entry)) (stripOf p) (pointOf s) ⌝ }
+{
+    rows::marked_by(p, turn_at(heights, s, monus(p.a, 1)))
+}
+
+pub fn fallen_of(heights: &[u32], p: Strip, s: Site) -> Strip
+    ensures { λ r. ⌜ stripOf r ≡ fallen (now (heights .entry)) (stripOf p) (pointOf s) ⌝ }
+{
+    rows::marked_by(p, turn_at(heights, s, monus(p.b, 1)))
 }
 
 // The step that ties the site to slot k with the budget v.

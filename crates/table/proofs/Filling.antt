@@ -7,16 +7,17 @@ use native.Mathlib.Omega.{arith}
 use lib.ListN.{length, getD}
 use Rattle.lists.proofs.Tests.{by-order}
 use Rattle.optimum.specs.Strips.{Point, Strip}
+use Rattle.optimum.specs.OneSided.{markCount}
 use Rattle.arrays.specs.declared.Measures.{Measures}
 use Rattle.rows.specs.Budgets.{Others}
 use Rattle.labelling.specs.Entry.{zeroed}
 use Rattle.areas.proofs.Zeroed.{zeroed-before, zeroed-inside, zeroed-after}
 use Rattle.table.specs.Entries.{RowIs, entryBy}
-use Rattle.rows.specs.Rows.{rowOf, rowIn, levelOf, Lies, endPlace, endWords}
+use Rattle.rows.specs.Rows.{rowOf, rowIn, levelOf, Lies, endPlace, lowPlace, endWords}
 use Rattle.table.proofs.entries.Places.{same-rows}
 use Rattle.rows.proofs.Places.{row-fits}
 use Rattle.table.specs.Marks.{Shaped}
-use Rattle.table.proofs.marks.Followed.{same-end, later-end, slot-high, slot-low, row-ends, same-strip}
+use Rattle.table.proofs.marks.Followed.{same-end, later-end, slot-low, row-ends, later-low, low-high, same-strip}
 use Rattle.table.proofs.marks.Levels.{row-within}
 use Rattle.table.specs.Levels.{RowFilled}
 
@@ -28,34 +29,33 @@ module _ (q : Measures) (hs bs parts counts left : List ℕ) (base low : ℕ) (s
   row p = rowOf (length hs) (q .colours) p * q .budgets
 
   -- a row, by its ends
-  row-at : (p : Strip) → row p ≡ endPlace C (p .a) (p .ca) * endWords q hs + endPlace C (p .b) (p .cb) * q .budgets
-  row-at p = ap (λ (z : ℕ). z * q .budgets) (row-ends (length hs) C p) ∙ split (endPlace C (p .a) (p .ca)) (length hs + 2) (C + 1) (endPlace C (p .b) (p .cb)) (q .budgets)
+  row-at : (p : Strip) → row p ≡ endPlace C (p .a) (p .ca) * endWords q hs + lowPlace C p * q .budgets
+  row-at p = ap (λ (z : ℕ). z * q .budgets) (row-ends (length hs) C p) ∙ split (endPlace C (p .a) (p .ca)) (length hs + 2) (C + 1) markCount (lowPlace C p) (q .budgets)
     where
-      split : (u l c e n : ℕ) → (u * (l * c) + e) * n ≡ u * ((l * c + 0) * n) + e * n
-      split u l c e n = omega arith
+      split : (u l c k e n : ℕ) → (u * (l * c * k) + e) * n ≡ u * ((l * c + 0) * k * n) + e * n
+      split u l c k e n = omega arith
 
   -- a level, by its upper ends
   size-is : levelOf q hs ≡ endPlace C (length hs + 2) 0 * endWords q hs
-  size-is = split (length hs + 2) (C + 1) (q .budgets)
+  size-is = split (length hs + 2) (C + 1) markCount (q .budgets)
     where
-      split : (l c n : ℕ) → l * c * l * c * n ≡ (l * c + 0) * ((l * c + 0) * n)
-      split l c n = omega arith
+      split : (l c k n : ℕ) → l * c * l * c * k * n ≡ (l * c + 0) * ((l * c + 0) * k * n)
+      split l c k n = omega arith
 
   -- the rows below one upper end, up to a lower end
   pub record Filled (old new : List ℕ) (above place : ℕ) : Type 0 where
     pub others : Others old new (base + above * endWords q hs) (place * q .budgets)
-    pub rows : (p : Strip) → Shaped (length hs) C p → endPlace C (p .a) (p .ca) ≡ above → endPlace C (p .b) (p .cb) < place → RowFilled q hs bs parts counts left old new base low s p
+    pub rows : (p : Strip) → Shaped (length hs) C p → endPlace C (p .a) (p .ca) ≡ above → lowPlace C p < place → RowFilled q hs bs parts counts left old new base low s p
 
-  pub filled-none : (old : List ℕ) (a ca place : ℕ) → ca ≤ C → place ≡ endPlace C (a + 1) 0 → Filled old old (endPlace C a ca) place
+  pub filled-none : (old : List ℕ) (a ca place : ℕ) → ca ≤ C → place ≡ endPlace C (a + 1) 0 * markCount → Filled old old (endPlace C a ca) place
   filled-none old a ca place c e = record {
     others = record { before = λ i h. refl; after = λ i h. refl };
     rows = λ p h f l.
         let x = same-end C (p .a) (p .ca) a ca (omega (arith, h .lies .caLow)) c f in
-        let z = slot-high C (p .b) a C (omega arith) (omega (arith, e, l)) in
-        absurd (omega (arith, h .falls, x .0, z));
+        absurd (omega (arith, e, l, low-high C (a + 1) p (omega (arith, h .falls, x .0))));
   }
 
-  pub filled-more : (old new last : List ℕ) (r : Strip) (place at : ℕ) → base + levelOf q hs ≤ low → Lies (length hs) C r → place ≡ endPlace C (r .b) (r .cb)
+  pub filled-more : (old new last : List ℕ) (r : Strip) (place at : ℕ) → base + levelOf q hs ≤ low → Lies (length hs) C r → place ≡ lowPlace C r
       → at ≡ base + row r → Filled old new (endPlace C (r .a) (r .ca)) place → Others new last at (q .budgets)
       → (getD new at 0 ≡ 1 → (v : ℕ) → v < q .budgets → getD last (at + v) 0 ≡ entryBy q hs bs parts counts left (rowIn new low (length hs) C (q .budgets)) r s v)
       → Filled old last (endPlace C (r .a) (r .ca)) (place + 1)
@@ -64,7 +64,7 @@ module _ (q : Measures) (hs bs parts counts left : List ℕ) (base low : ℕ) (s
       before = λ i u. o .before i (omega (arith, at-is)) ∙ d .others .before i u;
       after = λ i u. let g : (place + 1) * q .budgets ≡ place * q .budgets + q .budgets = omega arith in o .after i (omega (arith, at-is)) ∙ d .others .after i (omega arith);
     };
-    rows = λ p t a b. by-order place (endPlace C (p .b) (p .cb))
+    rows = λ p t a b. by-order place (lowPlace C p)
         (λ u. own p (same-strip (length hs) C p r (t .lies) l a (omega (arith, e, b, u))))
         (λ u m v w. o .before _ (lower p v a u w) ∙ d .rows p t a u m v w);
   }
@@ -82,19 +82,19 @@ module _ (q : Measures) (hs bs parts counts left : List ℕ) (base low : ℕ) (s
           ap (λ (i : ℕ). getD last (i + v) 0) (sym f) ∙ k mark v w
           ∙ ap (λ (rows : Strip → ℕ → ℕ). entryBy q hs bs parts counts left rows r s v) (same-rows old new _ _ low (length hs) C (q .budgets) inside (d .others)))
 
-      lower : (p : Strip) (v : ℕ) → endPlace C (p .a) (p .ca) ≡ endPlace C (r .a) (r .ca) → endPlace C (p .b) (p .cb) < place → v < q .budgets → base + row p + v < at
+      lower : (p : Strip) (v : ℕ) → endPlace C (p .a) (p .ca) ≡ endPlace C (r .a) (r .ca) → lowPlace C p < place → v < q .budgets → base + row p + v < at
       lower p v a u w =
-          let x = row-within (endPlace C (p .b) (p .cb)) place (q .budgets) u in
+          let x = row-within (lowPlace C p) place (q .budgets) u in
           omega (arith, at-is, row-at p, ap (λ (z : ℕ). z * endWords q hs) a)
 
   -- up to the end of the lower ends
-  pub filled-all : (old new : List ℕ) (above c d : ℕ) → length hs + 2 ≤ c → endPlace C c d ≤ endPlace C (length hs + 2) 0 → Filled old new above (endPlace C c d)
+  pub filled-all : (old new : List ℕ) (above : ℕ) (r : Strip) → length hs + 2 ≤ r .b → lowPlace C r ≤ endPlace C (length hs + 2) 0 * markCount → Filled old new above (lowPlace C r)
       → Others old new (base + above * endWords q hs) (endWords q hs)
       × ((p : Strip) → Shaped (length hs) C p → endPlace C (p .a) (p .ca) ≡ above → RowFilled q hs bs parts counts left old new base low s p)
-  filled-all old new above c d h k f =
-      let e : endPlace C c d ≡ endPlace C (length hs + 2) 0 = omega (arith, k, slot-low C (length hs + 2) c d h) in (
+  filled-all old new above r h k f =
+      let e : lowPlace C r ≡ endPlace C (length hs + 2) 0 * markCount = omega (arith, k, low-high C (length hs + 2) r h) in (
         subst (λ (n : ℕ). Others old new (base + above * endWords q hs) (n * q .budgets)) e (f .others),
-        λ p t a. f .rows p t a (later-end C (p .b) (p .cb) c d (omega (arith, t .lies .cbLow)) (omega (arith, t .lies .bLow))),
+        λ p t a. f .rows p t a (omega (arith, e, later-low C p (length hs + 2) 0 (omega (arith, t .lies .cbLow)) (t .lies .dLow) (t .lies .bLow))),
       )
 
   -- the rows below all upper ends, up to one
@@ -129,7 +129,7 @@ module _ (q : Measures) (hs bs parts counts left : List ℕ) (base low : ℕ) (s
       lower : (p : Strip) → Lies (length hs) C p → (v : ℕ) → endPlace C (p .a) (p .ca) < endPlace C slot colour → v < q .budgets → base + row p + v < base + endPlace C slot colour * endWords q hs
       lower p l v u w =
           let x = row-within (endPlace C (p .a) (p .ca)) (endPlace C slot colour) (endWords q hs) u in
-          let y = row-within (endPlace C (p .b) (p .cb)) (endPlace C (length hs + 2) 0) (q .budgets) (later-end C (p .b) (p .cb) (length hs + 2) 0 (omega (arith, l .cbLow)) (l .bLow)) in
+          let y = row-within (lowPlace C p) (endPlace C (length hs + 2) 0 * markCount) (q .budgets) (later-low C p (length hs + 2) 0 (omega (arith, l .cbLow)) (l .dLow) (l .bLow)) in
           omega (arith, row-at p, x, y)
 
   pub passed-all : (old new : List ℕ) (c d : ℕ) → length hs + 1 ≤ c → endPlace C c d ≤ endPlace C (length hs + 1) 0 → Passed old new (endPlace C c d)
@@ -155,9 +155,10 @@ module _ (q : Measures) (hs bs parts counts left : List ℕ) (base low : ℕ) (s
       → Others old new (base + y * endWords q hs) (endWords q hs) × ((p : Strip) → Shaped (length hs) C p → endPlace C (p .a) (p .ca) ≡ y → RowFilled q hs bs parts counts left old new base low s p)
   to-end old new x y e h = rw (← e) h
 
--- the first lower end is not past the last
-pub start-end : (C a m : ℕ) → a ≤ m → endPlace C (a + 1) 0 ≤ endPlace C (m + 2) 0
-start-end C a m h = slot-low C (a + 1) (m + 2) 0 (omega arith)
+-- the first place is not past the last
+pub start-end : (C a m : ℕ) → a ≤ m → endPlace C (a + 1) 0 * markCount + 0 ≤ endPlace C (m + 2) 0 * markCount
+start-end C a m h =
+    omega (arith, mul-le-mul {n₂ = endPlace C (m + 2) 0} {m₂ = markCount} (slot-low C (a + 1) (m + 2) 0 (omega arith)) (le-refl markCount))
 
 -- ---- zeros
 

@@ -1,6 +1,6 @@
 -- A level filled from one that is right is right where it is asked for, and so is a table of such levels. Assumes nothing but the
 -- arrays of a sheet.
-use mathlib.Core.Path.{_≡_, refl, sym, ap, ap₂, _∙_, subst}
+use mathlib.Core.Path.{_≡_, refl, sym, ap, _∙_, subst}
 use mathlib.Core.Bool.{true}
 use mathlib.Core.List.{List, _∷_}
 use Prim.Native.Nat.{ℕ, suc, _+_, _*_, _-_, _<_, _≤_}
@@ -20,6 +20,7 @@ use Rattle.optimum.proofs.Levels.{Row, entry-asked}
 use Rattle.optimum.proofs.Full.{none-at-full}
 use Rattle.optimum.proofs.Loops.{at-drop}
 use Rattle.arrays.specs.declared.Measures.{Measures}
+use Rattle.arrays.specs.Arrays.{turnBy}
 use Rattle.arrays.specs.Given.{Given, instanceOf, pointsOf, OfSheet, SiteIn}
 use Rattle.strips.specs.Strips.{instanceOn}
 use Rattle.rows.specs.Budgets.{Others, Splits, leftBy}
@@ -103,8 +104,7 @@ module _ {g : Given} (o : OfSheet g) where
 
       rows : (x : Strip) → Asks P p s x → Row P (q .colours) (q .budgets) (drop low old) (drop (j + 1) ss) x
       rows x w k lk =
-          let l = shape (j + 1) (omega arith) x (next x w) .lies in
-          at-drop old low _ ∙ ap (λ (z : ℕ). getD old (low + z) 0) (cell-row P (q .colours) (q .budgets) x k refl (l .dLow)) ∙ r x k (next x w) lk
+          at-drop old low _ ∙ ap (λ (z : ℕ). getD old (low + z) 0) (cell-row P (q .colours) (q .budgets) x k refl) ∙ r x k (next x w) lk
 
       -- a row that is asked for is none where it is none at the full budget
       none : (x : Strip) → Asks P p s x → Falls (q .budgets) (rowIn old low (length hs) (q .colours) (q .budgets) x)
@@ -114,7 +114,7 @@ module _ {g : Given} (o : OfSheet g) where
           here k lk ∙ none-at-full P rising (q .budgets) (q .budgets - 1) (o .full) (drop (j + 1) ss) x (sym (here (q .budgets - 1) (omega (arith, o .someBudget))) ∙ e) k lk
 
       falls : inside (instanceOn q hs bs) p s ≡ true → (k : ℕ) → opens (instanceOn q hs bs) p s k ≡ true
-          → Falls (q .budgets) (rowIn old low (length hs) (q .colours) (q .budgets) (upperPart p s k)) × Falls (q .budgets) (rowIn old low (length hs) (q .colours) (q .budgets) (lowerPart p s k))
+          → Falls (q .budgets) (rowIn old low (length hs) (q .colours) (q .budgets) (upperPart (turnBy hs s k) p s k)) × Falls (q .budgets) (rowIn old low (length hs) (q .colours) (q .budgets) (lowerPart p s k))
       falls i k e =
           let a = asks-parts q hs bs p s k i e in
           (none _ (asks-by q hs bs rs ds p s _ (a .0)), none _ (asks-by q hs bs rs ds p s _ (a .1)))
@@ -128,12 +128,7 @@ module _ {g : Given} (o : OfSheet g) where
   unfolding TableOf
   table-right work levels j p v l r u =
       let h : j ≤ length xs = omega (arith, sites-many) in
-      let e = cell-row P (q .colours) (q .budgets) p v refl (shape j h p r .lies .dLow) in
-      let z : cells P (q .colours) (q .budgets) ≡ levelOf q hs = size (length hs + 2) (q .colours + 1) (q .budgets) in
-      ap₂ (λ (a b : ℕ). getD work (j * a + b) 0) z e ∙ levels j h p v r u
-    where
-      size : (a b n : ℕ) → a * b * a * b * 1 * n ≡ a * b * a * b * n
-      size a b n = ap (λ (z : ℕ). z * n) (omega arith)
+      ap (λ (z : ℕ). getD work (j * cells P (q .colours) (q .budgets) + z) 0) (cell-row P (q .colours) (q .budgets) p v refl) ∙ levels j h p v r u
 
   -- what is known when the levels from j on are filled: those before are marked
   pub record Done (old new : List ℕ) (size j : ℕ) : Type 0 where
@@ -145,9 +140,11 @@ module _ {g : Given} (o : OfSheet g) where
   -- a row of a level stands before a later level
   before-level : (p : Strip) (i k size : ℕ) → size ≡ levelOf q hs → i < k → i ≤ length xs → Reached P ss i p → i * size + rowOf (length hs) (q .colours) p * q .budgets < k * size
   before-level p i k size e h l r =
-      let f = row-fits (length hs) (q .colours) (q .budgets) p (shape i l p r .lies) in
-      let n : k ≡ suc i + (k - suc i) = omega arith in
-      omega (arith, e, f, o .someBudget, ap (λ (z : ℕ). z * size) n)
+      earlier (rowOf (length hs) (q .colours) p * q .budgets) (q .budgets) (o .someBudget)
+      (subst (λ (z : ℕ). rowOf (length hs) (q .colours) p * q .budgets + q .budgets ≤ z) (sym e) (row-fits (length hs) (q .colours) (q .budgets) p (shape i l p r .lies)))
+    where
+      earlier : (r n : ℕ) → 0 < n → r + n ≤ size → i * size + r < k * size
+      earlier r n u v = let z : k ≡ suc i + (k - suc i) = omega arith in omega (arith, ap (λ (z : ℕ). z * size) z)
 
   pub done-last : (old new : List ℕ) (size : ℕ) → size ≡ levelOf q hs → ReachMarked (instanceOn q hs bs) q ss old (levelOf q hs) (length xs + 1)
       → Others old new (length xs * size) size → ((i : ℕ) → i < size → getD new (length xs * size + i) 0 ≡ 0) → Done new new size (length xs)

@@ -11,12 +11,12 @@ use Rattle.optimum.specs.Strips.{Point, Strip, Instance, inside}
 use Rattle.optimum.specs.OneSided.{topWord}
 use Rattle.optimum.specs.Cells.{cellOf, stepCell}
 use Rattle.arrays.specs.declared.Measures.{Measures}
-use Rattle.arrays.specs.Arrays.{slotsBy}
+use Rattle.arrays.specs.Arrays.{slotsBy, turnBy}
 use Rattle.arrays.specs.Given.{Given, given, OfSheet, SiteIn}
 use Rattle.rows.specs.Rows.{rowIn, Lies, upperPart, lowerPart, LevelFits}
 use Rattle.parts.specs.Parts.{partsCost}
 use Rattle.rows.specs.Budgets.{Others, Within, splitBy}
-use Rattle.strips.specs.Strips.{joinLeast, instanceOn, gapLeft, siteOpens, openCost}
+use Rattle.strips.specs.Strips.{riseCost, fallCost, risen, fallen, instanceOn, gapLeft, siteOpens, openCost}
 use Rattle.strips.specs.declared.Window.{Window}
 use Rattle.table.specs.Marks.{Level, slotsIn, coloursIn, budgetsIn, Ready}
 
@@ -79,7 +79,7 @@ openAt parts counts work n c u upper lower = openBy parts counts n c u (λ w. ge
 
 -- opening a label at slot k where there is but one budget: the whole of it goes to both parts
 abbrev pub singleTerm : Measures → (heights : List ℕ) → (row : Strip → ℕ → ℕ) → Strip → Point → (k : ℕ) → ℕ
-singleTerm q hs row p s k = plus topWord (openCost q hs s k) (partsCost row p s k)
+singleTerm q hs row p s k = plus topWord (openCost q hs s k) (partsCost row p s k (turnBy hs s k))
 
 -- the least of it at the slots of a window; rows of the level at the word `low`
 abbrev pub windowLeast : Given → (work : List ℕ) → (low : ℕ) → Strip → Point → Window → ℕ
@@ -90,23 +90,29 @@ windowLeast g work low p s w =
 module _ (q : Measures) (heights parts counts left : List ℕ) (row : Strip → ℕ → ℕ) where
   -- a part of the strip, once a label is open at slot k, is none at the full budget, so at every budget
   abbrev pub noPart : Strip → Point → (k : ℕ) → Bool
-  noPart p s k = eqb (row (upperPart p s k) (q .budgets - 1)) topWord || eqb (row (lowerPart p s k) (q .budgets - 1)) topWord
+  noPart p s k = eqb (row (upperPart (turnBy heights s k) p s k) (q .budgets - 1)) topWord || eqb (row (lowerPart p s k) (q .budgets - 1)) topWord
 
   -- opening a label at slot k, which stands between the strip's ends
   unfoldable pub slotTerm : Strip → Point → (k v : ℕ) → ℕ
   slotTerm p s k v =
       cond (gapLeft (slotsBy q heights) p s k)
       (cond (noPart p s k) topWord
-      (openBy parts counts (q .budgets) (openCost q heights s k) (getD left v 0) (row (upperPart p s k)) (row (lowerPart p s k)))) topWord
+      (openBy parts counts (q .budgets) (openCost q heights s k) (getD left v 0) (row (upperPart (turnBy heights s k) p s k)) (row (lowerPart p s k)))) topWord
 
   -- the first so many slots between the strip's ends
   abbrev pub slotsLeast : Strip → Point → (count v : ℕ) → ℕ
   slotsLeast p s n v = least topWord n (λ i. slotTerm p s (p .a + i) v)
 
+module _ (q : Measures) (heights bounds : List ℕ) (row : Strip → ℕ → ℕ) where
+  -- joining the label above or the label below, by the row of the strip as the site leaves it
+  unfoldable pub joinEntry : Strip → Point → (v : ℕ) → ℕ
+  joinEntry p s v =
+      min (plus topWord (riseCost q heights bounds p s) (row (risen heights p s) v)) (plus topWord (fallCost q heights bounds p s) (row (fallen heights p s) v))
+
 module _ (q : Measures) (heights bounds parts counts left : List ℕ) (row : Strip → ℕ → ℕ) where
   unfoldable pub insideEntry : Strip → Point → (v : ℕ) → ℕ
   insideEntry p s v =
-      min (plus topWord (joinLeast q heights bounds p s) (row p v))
+      min (joinEntry q heights bounds row p s v)
       (cond (siteOpens (instanceOn q heights bounds) p s) (slotsLeast q heights parts counts left row p s (p .b - 1 - p .a) v) topWord)
 
   -- the entry of the strip p at the budget v, where the site s comes next
@@ -118,6 +124,11 @@ module _ (q : Measures) (heights bounds parts counts left : List ℕ) (row : Str
 -- the rows of the level below
 abbrev pub rowsBelow : Level → (work : List ℕ) → Strip → (v : ℕ) → ℕ
 rowsBelow l work = rowIn work (l .low) (slotsIn l) (coloursIn l) (budgetsIn l)
+
+-- the row at `base` holds what joining a label costs, whatever the bounds; nothing else changed
+abbrev pub RowJoined : Level → Strip → (old new : List ℕ) → Type 0
+RowJoined l p old new =
+    (bs : List ℕ) → RowIs (l .base) (budgetsIn l) (joinEntry (l .arrays .measures) (l .arrays .heights) bs (rowsBelow l old) p (l .site)) old new
 
 -- the row at `base`, once a label was tried at slot k; at all slots between the strip's ends
 abbrev pub SlotTried : Level → Strip → (k : ℕ) → (old new : List ℕ) → Type 0

@@ -5,10 +5,12 @@ use mathlib.Core.List.{List, []}
 use Prim.Native.Nat.{ℕ, _+_, _*_, _<_, _≤_}
 use lib.ListN.{length, getD}
 use Rattle.optimum.specs.Strips.{Point, Strip, Instance}
+use Rattle.optimum.specs.OneSided.{topWord}
 use Rattle.optimum.specs.Reached.{Asks, Reached, noPoint}
 use Rattle.arrays.specs.declared.Measures.{Measures}
 use Rattle.arrays.specs.Given.{Given, given, pointsOf, OfSheet, SiteIn, Bounded}
-use Rattle.strips.specs.Strips.{instanceOn}
+use Rattle.arrays.specs.Arrays.{turnBy}
+use Rattle.strips.specs.Strips.{instanceOn, riseCost, fallCost, risen, fallen}
 use Rattle.strips.specs.declared.Window.{Window}
 use Rattle.rows.specs.declared.End.{End}
 use Rattle.parts.specs.Parts.{Marked, Marking, PartsMarked}
@@ -71,14 +73,21 @@ abbrev pub MarksCleared : (rows n : ℕ) → (old new : List ℕ) → Type 0
 MarksCleared rows n old new = ((r : ℕ) → r < rows → getD new (r * n) 0 ≡ 0) × ((i : ℕ) → rows * n ≤ i → getD new i 0 ≡ getD old i 0)
 
 -- in the level at the word `low`, of m slots, some words became 1 and nothing else changed: among them the mark of the strip's row, if it is to
--- stay; those of both parts, at each slot of a window
+-- stay; those of the strip as a site leaves it that joins the label above, and the label below, where that is lawful; those of both parts, at
+-- each slot of a window
 abbrev pub StripMarked : Measures → (m low : ℕ) → Strip → (stays : Bool) → (old new : List ℕ) → Type 0
 StripMarked q m low p stays old new =
     Marking old new low (rowsOf m (q .colours) * q .budgets) × (stays ≡ true → Marked new low m (q .colours) (q .budgets) p)
 
-abbrev pub WindowMarked : Measures → (m low : ℕ) → Strip → Point → Window → (old new : List ℕ) → Type 0
-WindowMarked q m low p s w old new =
-    Marking old new low (rowsOf m (q .colours) * q .budgets) × ((k : ℕ) → w .from ≤ k → k < w .to → PartsMarked q new low m p s k)
+abbrev pub JoinsMarked : Measures → (heights : List ℕ) → (low : ℕ) → Strip → Point → (old new : List ℕ) → Type 0
+JoinsMarked q hs low p s old new =
+    Marking old new low (levelOf q hs)
+    × ((bs : List ℕ) → riseCost q hs bs p s < topWord → Marked new low (length hs) (q .colours) (q .budgets) (risen hs p s))
+    × ((bs : List ℕ) → fallCost q hs bs p s < topWord → Marked new low (length hs) (q .colours) (q .budgets) (fallen hs p s))
+
+abbrev pub WindowMarked : Measures → (heights : List ℕ) → (low : ℕ) → Strip → Point → Window → (old new : List ℕ) → Type 0
+WindowMarked q hs low p s w old new =
+    Marking old new low (levelOf q hs) × ((k : ℕ) → w .from ≤ k → k < w .to → PartsMarked q new low (length hs) p s k (turnBy hs s k))
 
 -- rows of the level at the word `low` may be marked for the strip p
 abbrev pub StripFits : Measures → (m low : ℕ) → Strip → (area : ℕ) → Type 0

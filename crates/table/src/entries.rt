@@ -6,10 +6,10 @@ ghost use lib.ListN.{length, getD};
 ghost use Rattle.search.specs.Cost.{plus};
 ghost use Rattle.optimum.specs.OneSided.{topWord};
 ghost use Rattle.arrays.specs.Given.{Given, onSlots, Bounded};
-ghost use Rattle.rows.specs.Rows.{stripOf, pointOf};
+ghost use Rattle.rows.specs.Rows.{stripOf, pointOf, Lies};
 ghost use Rattle.rows.specs.Budgets.{Within};
-ghost use Rattle.table.specs.Marks.{Level, level};
-ghost use Rattle.table.specs.Entries.{onRows, RowReady, PartsFit, LeavesGap, WindowReady, RowIs, RowLowered, openAt, windowLeast, isSingle, SlotTried, SlotsTried, EntriesFilled};
+ghost use Rattle.table.specs.Marks.{Level, level, slotsIn, coloursIn, budgetsIn, Ready};
+ghost use Rattle.table.specs.Entries.{onRows, RowReady, PartsFit, LeavesGap, WindowReady, RowIs, RowJoined, RowLowered, openAt, windowLeast, isSingle, SlotTried, SlotsTried, EntriesFilled};
 use arrays::Measures;
 use rows::Site;
 use rows::Strip;
@@ -21,17 +21,55 @@ use words::either;
 use words::lesser;
 use words::same;
 
-// A row's n words are those of the row at `from`, at a further cost.
-fn start_row(work: &mut [u32], base: usize, from: usize, n: usize, cost: u32)
+// A row's n words are those of the row at `from`.
+fn copy_row(work: &mut [u32], base: usize, from: usize, n: usize)
     requires { ⌜ (base + n ≤ from) × (from + n ≤ length (now work)) ⌝ }
-    ensures { λ _. ⌜ RowIs base n (λ v. plus topWord cost (getD (now (work .entry)) (from + v) 0)) (now (work .entry)) (now (work .exit)) ⌝ }
+    ensures { λ _. ⌜ RowIs base n (λ v. getD (now (work .entry)) (from + v) 0) (now (work .entry)) (now (work .exit)) ⌝ }
 {
     let mut v: usize = 0;
     while v < n {
-        let t = words::plus_of(cost, work[from + v]);
+        work[base + v] = work[from + v];
+        v += 1;
+    }
+}
+
+// A row's n words are those of the row at `up`, at a further cost, or those of the row at `down`, at another, whichever is less.
+fn start_row(work: &mut [u32], base: usize, up: usize, rise: u32, down: usize, fall: u32, n: usize)
+    requires { ⌜ PartsFit n base (length (now work)) up down ⌝ }
+    ensures { λ _. ⌜ RowIs base n (λ v. min (plus topWord rise (getD (now (work .entry)) (up + v) 0)) (plus topWord fall (getD (now (work .entry)) (down + v) 0))) (now (work .entry)) (now (work .exit)) ⌝ }
+{
+    let mut v: usize = 0;
+    while v < n {
+        let t = lesser(
+            words::plus_of(rise, work[up + v]),
+            words::plus_of(fall, work[down + v]),
+        );
         work[base + v] = t;
         v += 1;
     }
+}
+
+// Joins the label above or the label below in a row, by the rows of the strip as the site leaves it.
+fn start_joined(
+    work: &mut [u32],
+    q: Measures,
+    heights: &[u32],
+    p: Strip,
+    s: Site,
+    base: usize,
+    low: usize,
+)
+    ghost { Level }
+    requires { λ l. ⌜ level (onSlots q (now heights)) [] (pointOf s) base low ≡ l ⌝ }
+    requires { λ l. ⌜ Ready l (budgetsIn l) (length (now work)) × Lies (slotsIn l) (coloursIn l) (stripOf p) ⌝ }
+    ensures { λ l _. ⌜ RowJoined l (stripOf p) (now (work .entry)) (now (work .exit)) ⌝ }
+{
+    let m = heights.len();
+    let up = low + rows::row_place(q, m, strips::risen_of(heights, p, s));
+    let down = low + rows::row_place(q, m, strips::fallen_of(heights, p, s));
+    let rise = strips::rise_cost(q, heights, p, s);
+    let fall = strips::fall_cost(q, heights, p, s);
+    start_row(work, base, up, rise, down, fall, q.budgets as usize);
 }
 
 // The lesser of an entry and of opening a label that leaves u of the budget.
@@ -112,7 +150,8 @@ fn open_slot(
     requires { λ l. ⌜ RowReady l (stripOf p) (length (now work)) × LeavesGap l (stripOf p) k ⌝ }
     ensures { λ l _. ⌜ SlotTried l (stripOf p) k (now (work .entry)) (now (work .exit)) ⌝ }
 {
-    let at = rows::part_places(q, heights.len(), p, s, low, k);
+    let turn = strips::turn_at(heights, s, k);
+    let at = rows::part_places(q, heights.len(), p, s, low, k, turn);
     let upper = at.upper;
     let lower = at.lower;
     let n = q.budgets as usize;
@@ -168,7 +207,8 @@ fn least_open(
     let mut k = window.from;
     while k < window.to {
         let cost = strips::open_cost(q, heights, s, k);
-        let parts = parts::parts_cost(work, q, m, p, s, low, k);
+        let turn = strips::turn_at(heights, s, k);
+        let parts = parts::parts_cost(work, q, m, p, s, low, k, turn);
         best = lesser(best, words::plus_of(cost, parts));
         k += 1;
     }
@@ -231,13 +271,12 @@ pub fn fill_row(
     if work[base] != 1 {
         return;
     }
-    let n = q.budgets as usize;
-    let same = low + rows::row_place(q, heights.len(), p);
     if !strips::is_inside(heights, p, s) {
-        start_row(work, base, same, n, 0);
+        let same = low + rows::row_place(q, heights.len(), p);
+        copy_row(work, base, same, q.budgets as usize);
         return;
     }
-    start_row(work, base, same, n, strips::join_least(q, heights, p, s));
+    start_joined(work, q, heights, p, s, base, low);
     if strips::site_opens(q, heights, bounds, p, s) {
         open_slots(work, q, heights, parts, counts, left, p, s, base, low);
     }

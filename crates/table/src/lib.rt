@@ -48,6 +48,7 @@ fn fill_below(
         ca: above.colour,
         b: above.slot + 1,
         cb: 0,
+        d: 0,
     };
     let mut at = base + rows::row_place(q, heights.len(), p);
     while p.b < ends {

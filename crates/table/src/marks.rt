@@ -3,9 +3,9 @@ ghost use mathlib.Core.Path.{_≡_};
 ghost use mathlib.Core.List.{[]};
 ghost use Prim.Native.Nat.{_*_, _<_, _≤_};
 ghost use lib.ListN.{length};
-ghost use Rattle.arrays.specs.Given.{Given, onStrip, OfSheet, Bounded};
+ghost use Rattle.arrays.specs.Given.{Given, onSlots, onStrip, OfSheet, SiteIn, Bounded};
 ghost use Rattle.rows.specs.Rows.{stripOf, pointOf, rowsOf};
-ghost use Rattle.table.specs.Marks.{Level, level, wordsIn, Ready, EndIn, MarksCleared, StripMarked, WindowMarked, StripFits, MarkReady, RowLed, EndLed, LevelLed};
+ghost use Rattle.table.specs.Marks.{Level, level, wordsIn, Ready, EndIn, MarksCleared, StripMarked, JoinsMarked, WindowMarked, StripFits, MarkReady, RowLed, EndLed, LevelLed};
 ghost use Rattle.table.specs.Marks.{onSites, TableFits, LevelAt, SiteLed, SheetMarked};
 use arrays::Measures;
 use rows::End;
@@ -27,28 +27,44 @@ fn mark_own(work: &mut [u32], q: Measures, m: usize, p: Strip, low: usize, stays
     work[at] = 1;
 }
 
+// Marks the strip as the site s leaves it that joins the label above, and the label below, where that is lawful.
+fn mark_joins(work: &mut [u32], q: Measures, heights: &[u32], p: Strip, s: Site, low: usize)
+    requires { ⌜ StripFits q (length (now heights)) low (stripOf p) (length (now work)) ⌝ }
+    requires { ⌜ OfSheet (onSlots q (now heights)) × SiteIn q (pointOf s) ⌝ }
+    ensures { λ _. ⌜ JoinsMarked q (now (heights .entry)) low (stripOf p) (pointOf s) (now (work .entry)) (now (work .exit)) ⌝ }
+{
+    let m = heights.len();
+    let up = strips::risen_of(heights, p, s);
+    let rises = less(strips::rise_cost(q, heights, p, s), NONE);
+    mark_own(work, q, m, up, low, rises);
+    let down = strips::fallen_of(heights, p, s);
+    let falls = less(strips::fall_cost(q, heights, p, s), NONE);
+    mark_own(work, q, m, down, low, falls);
+}
+
 // Marks the parts that a label leaves of a strip, at each slot of a window.
 fn mark_window(
     work: &mut [u32],
     q: Measures,
-    m: usize,
+    heights: &[u32],
     p: Strip,
     s: Site,
     low: usize,
     window: Window,
 )
-    requires { ⌜ StripFits q m low (stripOf p) (length (now work)) ⌝ }
+    requires { ⌜ StripFits q (length (now heights)) low (stripOf p) (length (now work)) ⌝ }
     requires { ⌜ (s .c < q .colours) × (window .from < window .to → window .to < p .b) ⌝ }
-    ensures { λ _. ⌜ WindowMarked q m low (stripOf p) (pointOf s) window (now (work .entry)) (now (work .exit)) ⌝ }
+    ensures { λ _. ⌜ WindowMarked q (now (heights .entry)) low (stripOf p) (pointOf s) window (now (work .entry)) (now (work .exit)) ⌝ }
 {
     let mut k = window.from;
     while k < window.to {
-        parts::mark_parts(work, q, m, p, s, low, k);
+        let turn = strips::turn_at(heights, s, k);
+        parts::mark_parts(work, q, heights.len(), p, s, low, k, turn);
         k += 1;
     }
 }
 
-// Marks what a strip asks for, where the site s comes next, if its row, which begins at the word `at`, is marked: itself, or the parts that a label leaves.
+// Marks what a strip asks for, where the site s comes next, if its row, which begins at the word `at`, is marked: itself, as a site leaves it that joins, or the parts that a label leaves.
 fn mark_row(
     work: &mut [u32],
     q: Measures,
@@ -67,15 +83,21 @@ fn mark_row(
     if work[at] != 1 {
         return;
     }
-    let m = heights.len();
     if !strips::is_inside(heights, p, s) {
-        mark_own(work, q, m, p, low, true);
+        mark_own(work, q, heights.len(), p, low, true);
         return;
     }
-    let joins = less(strips::join_least(q, heights, p, s), NONE);
-    mark_own(work, q, m, p, low, joins);
+    mark_joins(work, q, heights, p, s, low);
     if strips::site_opens(q, heights, bounds, p, s) {
-        mark_window(work, q, m, p, s, low, strips::open_window(q, heights, p, s));
+        mark_window(
+            work,
+            q,
+            heights,
+            p,
+            s,
+            low,
+            strips::open_window(q, heights, p, s),
+        );
     }
 }
 
@@ -105,6 +127,7 @@ fn follow_below(
         ca: above.colour,
         b: above.slot + 1,
         cb: 0,
+        d: 0,
     };
     let mut at = base + rows::row_place(q, heights.len(), p);
     while p.b < ends {
@@ -196,6 +219,7 @@ pub fn mark_table(
         ca: 0,
         b: (heights.len() as u32) + 1,
         cb: 0,
+        d: 0,
     };
     mark_own(work, q, heights.len(), whole, 0, true);
     let mut j: usize = 0;

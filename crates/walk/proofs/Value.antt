@@ -16,9 +16,9 @@ use Rattle.search.specs.Split.{just, conv}
 use Rattle.search.specs.Plan.{T}
 use Rattle.search.specs.Walk.{chooseBy, walkBy}
 use Rattle.arrays.specs.declared.Measures.{Measures}
-use Rattle.arrays.specs.Arrays.{instanceBy}
+use Rattle.arrays.specs.Arrays.{turnBy, instanceBy}
 use Rattle.optimum.specs.Strips.{Point, Strip, Instance, rulesOf, hold, draw, strips, marked, State, price, next, labels, value}
-use Rattle.optimum.specs.OneSided.{topWord}
+use Rattle.optimum.specs.OneSided.{topWord, markCount}
 use Rattle.optimum.specs.Cells.{cells, cellOf, joinCells, foldCells, startCells}
 use Rattle.optimum.specs.Reached.{In, noPoint, Reached, TableOf}
 use Rattle.optimum.proofs.Slots.{Rising}
@@ -28,6 +28,7 @@ use Rattle.search.proofs.Sums.{listing-same, length-listing}
 use Rattle.optimum.proofs.Loops.{walk-step}
 use Rattle.optimum.proofs.Reached.{reached-next, reached-rows}
 use Rattle.optimum.proofs.Pairs.{zeros}
+use Rattle.arrays.proofs.Marks.{turn-low}
 use Rattle.rows.specs.Budgets.{Splits}
 use Rattle.rows.proofs.Splitting.{split-by}
 use Rattle.rows.specs.Rows.{levelSize}
@@ -55,7 +56,7 @@ module _ (q : Measures) (hs bs rs ds : List ℕ) where
 
   -- a step leaves the marks as they are
   pub next-is : (L : List ℕ) (v : ℕ) (s : Point) (k : ℕ) → next P (L, v, unmarked) s k ≡ (set L k (suc (s .c)), v - draw P (hold P L unmarked (s .y)) s k, unmarked)
-  unfolding next marked
+  unfolding next marked turnBy
   next-is L v s k =
       by-test (eqb (getD L k 0) 0)
       (λ e. rw (e, set-zero (suc (length hs)) (suc k), set-zero (suc (length hs)) (hold P L unmarked (s .y) .a)))
@@ -63,12 +64,12 @@ module _ (q : Measures) (hs bs rs ds : List ℕ) where
 
   module _ (parts counts work : List ℕ) (C R : ℕ) where
     pub level-cells : cells P C R ≡ levelSize (length hs) C R
-    level-cells = ap (λ (z : ℕ). z * R) (omega arith)
+    level-cells = refl
 
     cell-row : (a ca b cb u : ℕ) → cellOf P C R (record { a = a; ca = ca; b = b; cb = cb; d = getD unmarked a 0 }) u ≡ rowStart (length hs) C R a ca b cb + u
     unfolding cellOf
     cell-row a ca b cb u =
-        ap (λ (z : ℕ). z * R + u) (ap (λ (z : ℕ). (((a * (C + 1) + ca) * (length hs + 2) + b) * (C + 1) + cb) * 1 + z) (zeros (suc (length hs)) a) ∙ omega arith)
+        ap (λ (z : ℕ). ((((a * (C + 1) + ca) * (length hs + 2) + b) * (C + 1) + cb) * markCount + z) * R + u) (zeros (suc (length hs)) a)
 
     module _ (right : Splits rs R parts counts) where
       join-same : (base : ℕ) (acc : List ℕ) (a ca b cb : ℕ) → length acc ≡ R
@@ -104,7 +105,7 @@ module _ (q : Measures) (hs bs rs ds : List ℕ) where
         unfolding restRows
         rest-value base ss L v l rows =
             ap (λ (z : List ℕ). getD z v 0) (fold-same base L (length hs) 0 0 0 (listing (just topWord 0 0) 0 R) (length-listing (just topWord 0 0) 0 R))
-            ∙ (unfold startCells in value-rows P C R rising (λ s k. omega arith) (drop base work) ss (L, v, unmarked) l (λ p i u lu. getD-drop base work (cellOf P C R p u) 0 ∙ rows p i u lu))
+            ∙ (unfold startCells in value-rows P C R rising (turn-low hs) (drop base work) ss (L, v, unmarked) l (λ p i u lu. getD-drop base work (cellOf P C R p u) 0 ∙ rows p i u lu))
 
         -- THE WALK over the words is the walk by the table, and finds a slot at each step
         module _ (points : List Point) (table : TableOf P C R points work) where

@@ -15,13 +15,13 @@ use Rattle.sheet.specs.Limits.{unbounded}
 use Rattle.sheet.specs.Sheet.{Sheet}
 use Rattle.optimum.specs.Strips.{Strip, Point}
 use Rattle.optimum.specs.Budgets.{boundOf, isUnbounded, radicesOf, digitIn, drawsOf}
-use Rattle.optimum.specs.OneSided.{mayOpen, tipClear, turnOf, heldOf, instanceOf}
+use Rattle.optimum.specs.OneSided.{mayOpen, tipClear, markCount, turnOf, heldOf, instanceOf}
 use Rattle.optimum.proofs.Steps.{Linear}
 use Rattle.optimum.proofs.Budgets.{positive, radix-at, draws-none, draws-one, draws}
 use Rattle.optimum.proofs.optimality.CostWord.{word-nothing, word-adds}
 use Rattle.optimum.proofs.optimality.Pays.{Budgeted}
 
--- ---- what is asked of a step beside the slots: nothing; a site leaves no mark
+-- ---- what is asked of a step beside the slots: nothing; a site leaves the mark 0
 
 pub tip-clear : (s : Sheet) (t : Point) (k : ℕ) → tipClear s t k ≡ true
 unfolding tipClear
@@ -31,8 +31,8 @@ pub not-held : (s : Sheet) (p : Strip) (t : Point) → heldOf s p t ≡ false
 unfolding heldOf
 not-held s p t = refl
 
-pub turn-low : (s : Sheet) (t : Point) (k : ℕ) → turnOf s t k < 1
-unfolding turnOf
+pub turn-low : (s : Sheet) (t : Point) (k : ℕ) → turnOf s t k < markCount
+unfolding turnOf markCount
 turn-low s t k = omega arith
 
 -- ---- costs

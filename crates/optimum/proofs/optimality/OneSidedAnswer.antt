@@ -19,7 +19,7 @@ use Rattle.labelling.proofs.Members.{noSite, all-at, used-head, used-tail}
 use Rattle.labelling.proofs.Maker.{First, best-none-iff, Result, made, unmade, cleared}
 use Rattle.optimum.specs.Strips.{Strip, rulesOf, strips, labels, value, walked}
 use Rattle.optimum.specs.CostWord.{layoutCost}
-use Rattle.optimum.specs.OneSided.{topWord, instanceOf, order, pointsAt, tiesOf, oneSided}
+use Rattle.optimum.specs.OneSided.{topWord, markCount, instanceOf, order, pointsAt, tiesOf, oneSided}
 use Rattle.optimum.specs.Cells.{cells, cellOf, level, valueCells}
 use Rattle.optimum.proofs.StripsHeld.{laws, walked-first, walked-cost}
 use Rattle.optimum.proofs.Pairs.{zeros}
@@ -27,6 +27,7 @@ use Rattle.optimum.proofs.Budgets.{full-low}
 use Rattle.optimum.proofs.optimality.CostWord.{layout-count, layout-length}
 use Rattle.optimum.proofs.optimality.Order.{ordered}
 use Rattle.optimum.proofs.optimality.Distances.{good}
+use Rattle.optimum.proofs.Marks.{some-mark}
 use Rattle.optimum.proofs.optimality.Instance.{turn-low}
 use Rattle.optimum.proofs.optimality.OneSidedBest.{fullBudget, putBack, found-long, found-first, found-cost, one-sided-best}
 use Rattle.optimum.proofs.Levels.{Coloured, level-holds, Kept, walk-cells}
@@ -63,14 +64,14 @@ module _ (s : Sheet) (o : Sound s) (one : s .isTwoSided ≡ false) (low : all (c
       coloured-at s (length (s .colours)) (λ i h. ltb-true _ _ (all-at (colourLow (length (s .colours))) noSite (s .sites) low i h)) (order s) (λ i u. ordered s o .low i u .0)
 
   start-kept : Kept (instanceOf s) (length (s .colours)) (productOf (s .colours)) (good s o .rising) (turn-low s) (replicate (length (s .slots)) 0, fullBudget s, replicate (suc (length (s .slots))) 0)
-  start-kept = (λ j. omega (arith, zeros (length (s .slots)) j), full-low s, λ j. omega (arith, zeros (suc (length (s .slots))) j))
+  start-kept = (λ j. omega (arith, zeros (length (s .slots)) j), full-low s, λ j. omega (arith, some-mark, zeros (suc (length (s .slots))) j))
 
   -- the first cell is the table at the whole sheet with the full budget, and the slots are those of the walk by the table
   pub first-cell : firstCell s ≡ T (rulesOf (instanceOf s)) (pointsAt s (order s)) (wholeStrip s) (fullBudget s)
   unfolding firstCell
   first-cell =
       level-holds (instanceOf s) (length (s .colours)) (productOf (s .colours)) (good s o .rising) (turn-low s) (pointsAt s (order s)) coloured (wholeStrip s) (fullBudget s)
-      (record { ra = omega arith; rca = omega arith; rb = omega arith; rcb = omega arith; rd = omega arith }) (full-low s)
+      (record { ra = omega arith; rca = omega arith; rb = omega arith; rcb = omega arith; rd = some-mark }) (full-low s)
 
   pub slots-walked : slotsWalked s ≡ walkBy (labels (instanceOf s)) (value (instanceOf s)) (replicate (length (s .slots)) 0, fullBudget s, replicate (suc (length (s .slots))) 0) (pointsAt s (order s))
   unfolding slotsWalked
@@ -124,6 +125,7 @@ module _ (s : Sheet) (o : Sound s) (one : s .isTwoSided ≡ false) (low : all (c
 
 -- the work words needed are the cells of all levels
 pub work-cells : (s : Sheet) → s .isTwoSided ≡ false → workFor s ≡ (length (s .sites) + 1) * cells (instanceOf s) (length (s .colours)) (productOf (s .colours))
+unfolding markCount
 work-cells s one =
     ap (λ (b : Bool). cond b ((length (s .slots) + 2) * (length (s .colours) + 1) * productOf (s .colours))
     ((length (s .slots) + 2) ^ 2 * (length (s .colours) + 1) ^ 2 * (length (s .sites) + 1) * productOf (s .colours))) one

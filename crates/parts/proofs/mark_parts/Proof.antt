@@ -14,14 +14,14 @@ use Rattle.rows.proofs.part_places.Reads as part-places-reads
 part-places-requires : tie.Need-part-places-requires
 part-places-requires c κs =
     let p = c .before .pre in
-    (fits-place (p .0 .0) (omega (arith, p .0 .0 .within, c .before .fits)), (p .0 .1, p .1 .0, p .1 .1))
+    (fits-place (p .0 .0) (omega (arith, p .0 .0 .within, c .before .fits)), (p .0 .1, p .1 .0, p .1 .1, p .1 .2))
 
 -- the rows of both parts stand in the area: whichever of them is written
 within : (c : tie.After-part-places) → (c .part-places .result .upper < length (c .before .before .args .work .now)) × (c .part-places .result .lower < length (c .before .before .args .work .now))
 within c =
     let p = c .before .before .pre in
     let a = c .before .before .args in
-    both-within (p .0 .0) (stripOf (a .p)) (pointOf (a .s)) (a .k) (p .0 .1) (p .1 .0) (p .1 .1) _ _ (c .part-places .ensures .0) (c .part-places .ensures .1)
+    both-within (p .0 .0) (stripOf (a .p)) (pointOf (a .s)) (a .k) (a .d) (p .0 .1) (p .1 .0) (p .1 .1) (p .1 .2) _ _ (c .part-places .ensures .0) (c .part-places .ensures .1)
 
 mul-work : tie.Need-mul-work
 mul-work c =
@@ -47,7 +47,7 @@ returns c =
     let p = c .before .before .pre in
     let a = c .before .before .args in
     let e = c .part-places .ensures in
-    parts-marked (p .0 .0) (stripOf (a .p)) (pointOf (a .s)) (a .k) (p .0 .1) (p .1 .0) (p .1 .1) _ _ (e .0) (e .1) (a .work .now) refl
+    parts-marked (p .0 .0) (stripOf (a .p)) (pointOf (a .s)) (a .k) (a .d) (p .0 .1) (p .1 .0) (p .1 .1) (p .1 .2) _ _ (e .0) (e .1) (a .work .now) refl
 
 pub mark-parts-spec : {M : Type 1} → statement M
 mark-parts-spec =

@@ -14,14 +14,14 @@ use Rattle.words.proofs.plus_of.Reads as plus-of-reads
 part-places-requires : tie.Need-part-places-requires
 part-places-requires c κs =
     let p = c .before .pre in
-    (fits-place (p .0 .0) (omega (arith, p .0 .0 .within, c .before .fits)), (p .0 .1, p .1 .0, p .1 .1))
+    (fits-place (p .0 .0) (omega (arith, p .0 .0 .within, c .before .fits)), (p .0 .1, p .1 .0, p .1 .1, p .1 .2))
 
 -- the rows of both parts stand in the area: whichever of them is read
 within : (c : tie.After-part-places) → (c .part-places .result .upper < length (c .before .before .args .work .now)) × (c .part-places .result .lower < length (c .before .before .args .work .now))
 within c =
     let p = c .before .before .pre in
     let a = c .before .before .args in
-    both-within (p .0 .0) (stripOf (a .p)) (pointOf (a .s)) (a .k) (p .0 .1) (p .1 .0) (p .1 .1) _ _ (c .part-places .ensures .0) (c .part-places .ensures .1)
+    both-within (p .0 .0) (stripOf (a .p)) (pointOf (a .s)) (a .k) (a .d) (p .0 .1) (p .1 .0) (p .1 .1) (p .1 .2) _ _ (c .part-places .ensures .0) (c .part-places .ensures .1)
 
 mul-plus-of : tie.Need-mul-plus-of
 mul-plus-of c =
@@ -47,7 +47,7 @@ returns c =
     let p = c .before .before .before .before .before .pre in
     let a = c .before .before .before .before .before .args in
     let e = c .before .before .before .part-places .ensures in
-    parts-cost (p .0 .0) (stripOf (a .p)) (pointOf (a .s)) (a .k) (p .0 .1) (p .1 .0) (p .1 .1) _ _ (e .0) (e .1) (a .work .now) _ (c .plus-of .ensures)
+    parts-cost (p .0 .0) (stripOf (a .p)) (pointOf (a .s)) (a .k) (a .d) (p .0 .1) (p .1 .0) (p .1 .1) (p .1 .2) _ _ (e .0) (e .1) (a .work .now) _ (c .plus-of .ensures)
 
 pub parts-cost-spec : {M : Type 1} → statement M
 parts-cost-spec =

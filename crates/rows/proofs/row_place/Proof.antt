@@ -1,3 +1,4 @@
+use Rattle.optimum.specs.OneSided.{markCount}
 use Rattle.rows.specs.Rows.{stripOf}
 use Rattle.rows.proofs.Places.{Sized, sized}
 use Prim.Native.Nat.{_-_}
@@ -57,14 +58,29 @@ add-strip-2 : tie.Need-add-strip-2
 add-strip-2 c =
     omega (arith, size (c .before .before .before .before))
 
+mul-result : tie.Need-mul-result
+unfolding markCount
+mul-result c =
+    omega (arith, size (c .before .before .before .before))
+
 cast-result : tie.Need-cast-result
 cast-result c = search needs
 
-mul-result : tie.Need-mul-result
-mul-result c =
-    omega (arith, size (c .before .before .before .before .before))
+add-result : tie.Need-add-result
+unfolding markCount
+add-result c =
+    omega (arith, size (c .before .before .before .before .before), c .before .before .before .before .before .before .pre .1 .dLow)
+
+cast-result-2 : tie.Need-cast-result-2
+cast-result-2 c = search needs
+
+mul-result-2 : tie.Need-mul-result-2
+unfolding markCount
+mul-result-2 c =
+    omega (arith, size (c .before .before .before .before .before .before))
 
 returns : tie.Need-returns
+unfolding markCount
 returns c = search needs
 
 pub row-place-spec : {M : Type 1} → statement M
@@ -84,6 +100,9 @@ row-place-spec =
     mul-strip-2
     cast-strip-2
     add-strip-2
-    cast-result
     mul-result
+    cast-result
+    add-result
+    cast-result-2
+    mul-result-2
     returns)

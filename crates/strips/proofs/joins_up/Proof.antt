@@ -1,5 +1,4 @@
 use Rattle.optimum.specs.Strips.{joinsUp}
-use Rattle.strips.proofs.Decisions.{and-true}
 use mathlib.Core.Path.{refl}
 use Prim.Native.Nat.{_-_}
 use native.Mathlib.Numerals.{add-one}
@@ -33,10 +32,19 @@ is-clear-requires c κs = search needs
 both-requires-2 : tie.Need-both-requires-2
 both-requires-2 c κs = search needs
 
+is-held-requires : tie.Need-is-held-requires
+is-held-requires c κs = search needs
+
+is-not-requires : tie.Need-is-not-requires
+is-not-requires c κs = search needs
+
+both-requires-3 : tie.Need-both-requires-3
+both-requires-3 c κs = search needs
+
 returns : tie.Need-returns
 unfolding joinsUp
 returns c =
-    λ bs. rw (← (add-one (c .before .before .before .before .before .before .before .args .s .c)), ← (add-one (c .before .before .before .before .before .before .before .args .k)), and-true, c .both2 .ensures, c .before .is-clear .ensures, c .before .before .both .ensures, c .before .before .before .same2 .ensures, c .before .before .before .before .before .same .ensures) refl
+    λ bs. rw (← (add-one (c .before .before .before .before .before .before .before .before .before .before .args .s .c)), ← (add-one (c .before .before .before .before .before .before .before .before .before .before .args .k)), c .both3 .ensures, c .before .is-not .ensures, c .before .before .is-held .ensures, c .before .before .before .both2 .ensures, c .before .before .before .before .is-clear .ensures, c .before .before .before .before .before .both .ensures, c .before .before .before .before .before .before .same2 .ensures, c .before .before .before .before .before .before .before .before .same .ensures) refl
 
 pub joins-up-spec : {M : Type 1} → statement M
 joins-up-spec =
@@ -49,4 +57,7 @@ joins-up-spec =
     both-requires
     is-clear-requires
     both-requires-2
+    is-held-requires
+    is-not-requires
+    both-requires-3
     returns)

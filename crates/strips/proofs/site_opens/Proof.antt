@@ -40,11 +40,20 @@ is-not-requires c κs = search needs
 both-requires-2 : tie.Need-both-requires-2
 both-requires-2 c κs = search needs
 
+is-held-requires : tie.Need-is-held-requires
+is-held-requires c κs = search needs
+
+is-not-requires-2 : tie.Need-is-not-requires-2
+is-not-requires-2 c κs = search needs
+
+both-requires-3 : tie.Need-both-requires-3
+both-requires-3 c κs = search needs
+
 returns : tie.Need-returns
 unfolding siteOpens
 returns c =
-    let b = c .before .before .before .before .before .before .before .before .before .before .args .bounds .now in
-    rw (c .both2 .ensures, c .before .is-not .ensures, c .before .before .same .ensures, c .before .before .before .before .both .ensures, c .before .before .before .before .before .is-clear2 .ensures, c .before .before .before .before .before .before .is-clear .ensures, default-any b (c .before .before .before .before .before .before .before .before .before .before .args .s .c) unbounded 0 (c .before .before .before .before .before .before .before .before .before .before .pre)) refl
+    let b = c .before .before .before .before .before .before .before .before .before .before .before .before .before .args .bounds .now in
+    rw (c .both3 .ensures, c .before .is-not2 .ensures, c .before .before .is-held .ensures, c .before .before .before .both2 .ensures, c .before .before .before .before .is-not .ensures, c .before .before .before .before .before .same .ensures, c .before .before .before .before .before .before .before .both .ensures, c .before .before .before .before .before .before .before .before .is-clear2 .ensures, c .before .before .before .before .before .before .before .before .before .is-clear .ensures, default-any b (c .before .before .before .before .before .before .before .before .before .before .before .before .before .args .s .c) unbounded 0 (c .before .before .before .before .before .before .before .before .before .before .before .before .before .pre)) refl
 
 pub site-opens-spec : {M : Type 1} → statement M
 site-opens-spec =
@@ -59,4 +68,7 @@ site-opens-spec =
     same-requires
     is-not-requires
     both-requires-2
+    is-held-requires
+    is-not-requires-2
+    both-requires-3
     returns)

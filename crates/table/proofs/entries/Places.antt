@@ -4,10 +4,11 @@ use mathlib.Core.List.{List, []}
 use Prim.Native.Nat.{ℕ, _+_, _*_, _-_, _<_, _≤_}
 use native.Mathlib.Omega.{arith}
 use Rattle.optimum.specs.Strips.{Strip}
+use Rattle.optimum.specs.OneSided.{markCount}
 use Rattle.arrays.proofs.Narrowed.{on-slots}
 use Rattle.rows.specs.Budgets.{Others}
-use Rattle.rows.specs.Rows.{rowOf, rowIn, Lies, upperPart, lowerPart, LevelFits}
-use Rattle.rows.proofs.Places.{row-fits, upper-lies, lower-lies}
+use Rattle.rows.specs.Rows.{rowOf, rowIn, Lies, markedBy, upperPart, lowerPart, LevelFits}
+use Rattle.rows.proofs.Places.{row-fits, marked-lies, upper-lies, lower-lies}
 use Rattle.table.specs.Marks.{Level, level, slotsIn, coloursIn, budgetsIn, Ready}
 use Rattle.table.specs.Entries.{onRows, RowReady, PartsFit}
 use Rattle.table.proofs.marks.Levels.{level-fits}
@@ -25,11 +26,11 @@ module _ {l : Level} {area : ℕ} (r : Ready l (budgetsIn l) area) where
   own-fits p h = omega (arith, r .within, row-fits (slotsIn l) (coloursIn l) (budgetsIn l) p h)
 
   -- where a label at slot k leaves two parts
-  pub parts-fit : (p : Strip) (k : ℕ) → Lies (slotsIn l) (coloursIn l) p → k + 1 < p .b → (upper lower : ℕ)
-      → upper ≡ l .low + rowOf (slotsIn l) (coloursIn l) (upperPart p (l .site) k) * budgetsIn l → lower ≡ l .low + rowOf (slotsIn l) (coloursIn l) (lowerPart p (l .site) k) * budgetsIn l
+  pub parts-fit : (p : Strip) (k d : ℕ) → Lies (slotsIn l) (coloursIn l) p → k + 1 < p .b → d < markCount → (upper lower : ℕ)
+      → upper ≡ l .low + rowOf (slotsIn l) (coloursIn l) (upperPart d p (l .site) k) * budgetsIn l → lower ≡ l .low + rowOf (slotsIn l) (coloursIn l) (lowerPart p (l .site) k) * budgetsIn l
       → PartsFit (budgetsIn l) (l .base) area upper lower
-  parts-fit p k h b upper lower e f =
-      let u = own-fits (upperPart p (l .site) k) (upper-lies _ _ p (l .site) k h (r .site .colourLow) b) in
+  parts-fit p k d h b dl upper lower e f =
+      let u = own-fits (upperPart d p (l .site) k) (upper-lies _ _ d p (l .site) k h (r .site .colourLow) b dl) in
       let w = own-fits (lowerPart p (l .site) k) (lower-lies _ _ p (l .site) k h (r .site .colourLow) b) in
       record {
         some = r .sheet .someBudget;
@@ -37,6 +38,21 @@ module _ {l : Level} {area : ℕ} (r : Ready l (budgetsIn l) area) where
         lowerIn = rw f w;
         upperApart = omega (arith, e, r .apart);
         lowerApart = omega (arith, f, r .apart);
+      }
+
+  -- where a site joins that leaves the mark d, or the mark e
+  pub joins-fit : (p : Strip) (d e : ℕ) → Lies (slotsIn l) (coloursIn l) p → d < markCount → e < markCount → (up down : ℕ)
+      → up ≡ l .low + rowOf (slotsIn l) (coloursIn l) (markedBy d p) * budgetsIn l → down ≡ l .low + rowOf (slotsIn l) (coloursIn l) (markedBy e p) * budgetsIn l
+      → PartsFit (budgetsIn l) (l .base) area up down
+  joins-fit p d e h dl el up down f g =
+      let u = own-fits (markedBy d p) (marked-lies _ _ d p h dl) in
+      let w = own-fits (markedBy e p) (marked-lies _ _ e p h el) in
+      record {
+        some = r .sheet .someBudget;
+        upperIn = rw f u;
+        lowerIn = rw g w;
+        upperApart = omega (arith, f, r .apart);
+        lowerApart = omega (arith, g, r .apart);
       }
 
   pub below-fits : LevelFits (l .arrays .measures) (slotsIn l) (l .low) area

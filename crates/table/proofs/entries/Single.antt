@@ -17,7 +17,7 @@ use Rattle.search.proofs.Cost.{plus-top, top-plus, plus-le, least-le, least-le-
 use Rattle.optimum.specs.Strips.{Point, Strip}
 use Rattle.optimum.specs.OneSided.{topWord}
 use Rattle.arrays.specs.declared.Measures.{Measures}
-use Rattle.arrays.specs.Arrays.{slotsBy}
+use Rattle.arrays.specs.Arrays.{slotsBy, turnBy}
 use Rattle.strips.specs.declared.Window.{Window}
 use Rattle.strips.specs.Strips.{WindowOf, gapLeft, openCost}
 use Rattle.rows.specs.Budgets.{Others, partAt, splitBy}
@@ -50,19 +50,19 @@ module _ (q : Measures) (hs parts counts left : List ℕ) (row : Strip → ℕ �
       let e : partAt parts 0 0 ≡ 0 = one .own in
       rw (one .counted, e) (omega (arith, plus-le topWord (f 0) (g 0)))
 
-  some : (k : ℕ) → openBy parts counts (q .budgets) (openCost q hs s k) (getD left 0 0) (row (upperPart p s k)) (row (lowerPart p s k)) ≡ singleTerm q hs row p s k
+  some : (k : ℕ) → openBy parts counts (q .budgets) (openCost q hs s k) (getD left 0 0) (row (upperPart (turnBy hs s k) p s k)) (row (lowerPart p s k)) ≡ singleTerm q hs row p s k
   some k =
       rw (one .drawn, lt-ltb 0 (q .budgets) (omega (arith, one .one)))
-      (ap (plus topWord (openCost q hs s k)) (shared (row (upperPart p s k)) (row (lowerPart p s k))))
+      (ap (plus topWord (openCost q hs s k)) (shared (row (upperPart (turnBy hs s k) p s k)) (row (lowerPart p s k))))
 
   none : (k : ℕ) → noPart q hs parts counts left row p s k ≡ true → topWord ≡ singleTerm q hs row p s k
   none k e =
       let z : q .budgets - 1 ≡ 0 = omega (arith, one .one) in
       by-either (or-e _ _ e)
-      (λ x. let f : row (upperPart p s k) 0 ≡ topWord = ap (row (upperPart p s k)) (sym z) ∙ eqb-true _ _ x in
+      (λ x. let f : row (upperPart (turnBy hs s k) p s k) 0 ≡ topWord = ap (row (upperPart (turnBy hs s k) p s k)) (sym z) ∙ eqb-true _ _ x in
       sym (ap (λ (y : ℕ). plus topWord (openCost q hs s k) (plus topWord y (row (lowerPart p s k) 0))) f ∙ ap (plus topWord (openCost q hs s k)) (top-plus topWord _) ∙ plus-top topWord _))
       (λ x. let f : row (lowerPart p s k) 0 ≡ topWord = ap (row (lowerPart p s k)) (sym z) ∙ eqb-true _ _ x in
-      sym (ap (λ (y : ℕ). plus topWord (openCost q hs s k) (plus topWord (row (upperPart p s k) 0) y)) f ∙ ap (plus topWord (openCost q hs s k)) (plus-top topWord _) ∙ plus-top topWord _))
+      sym (ap (λ (y : ℕ). plus topWord (openCost q hs s k) (plus topWord (row (upperPart (turnBy hs s k) p s k) 0) y)) f ∙ ap (plus topWord (openCost q hs s k)) (plus-top topWord _) ∙ plus-top topWord _))
 
   term : (k : ℕ) → gapLeft (slotsBy q hs) p s k ≡ true → slotTerm q hs parts counts left row p s k 0 ≡ singleTerm q hs row p s k
   unfolding slotTerm

@@ -15,12 +15,12 @@ use Rattle.search.proofs.Cost.{least-le-top}
 use Rattle.optimum.specs.Strips.{Point, Strip, inside}
 use Rattle.optimum.specs.OneSided.{topWord}
 use Rattle.arrays.specs.declared.Measures.{Measures}
-use Rattle.arrays.specs.Arrays.{slotsBy}
+use Rattle.arrays.specs.Arrays.{slotsBy, turnBy}
 use Rattle.strips.specs.declared.Window.{Window}
-use Rattle.strips.specs.Strips.{instanceOn, WindowOf, gapLeft, siteOpens, openCost, joinLeast}
+use Rattle.strips.specs.Strips.{instanceOn, WindowOf, gapLeft, siteOpens, openCost, riseCost, fallCost, risen, fallen}
 use Rattle.rows.specs.Budgets.{Others}
 use Rattle.table.proofs.entries.Places.{same-rows}
-use Rattle.table.specs.Entries.{openBy, noPart, slotTerm, slotsLeast, insideEntry, entryBy}
+use Rattle.table.specs.Entries.{openBy, noPart, slotTerm, slotsLeast, joinEntry, insideEntry, entryBy}
 use Rattle.rows.specs.Rows.{rowOf, rowIn, upperPart, lowerPart}
 
 -- slots in a window, and out of it
@@ -40,7 +40,7 @@ window-shut q hs p s w f k a b (inr h) = f .leaves k a b ∙ rw (le-ltb k (w .to
 module _ (q : Measures) (hs parts counts left : List ℕ) where
   -- a slot that leaves the gap, and a part that is none
   pub slot-none : (work : List ℕ) (low : ℕ) (p : Strip) (s : Point) (k v old upper lower : ℕ) (a b : Bool) → old ≤ topWord → gapLeft (slotsBy q hs) p s k ≡ true
-      → upper ≡ low + rowOf (length hs) (q .colours) (upperPart p s k) * q .budgets → lower ≡ low + rowOf (length hs) (q .colours) (lowerPart p s k) * q .budgets
+      → upper ≡ low + rowOf (length hs) (q .colours) (upperPart (turnBy hs s k) p s k) * q .budgets → lower ≡ low + rowOf (length hs) (q .colours) (lowerPart p s k) * q .budgets
       → a ≡ eqb (getD work (upper + (q .budgets - 1)) 0) topWord → b ≡ eqb (getD work (lower + (q .budgets - 1)) 0) topWord → a || b ≡ true
       → old ≡ min old (slotTerm q hs parts counts left (rowIn work low (length hs) (q .colours) (q .budgets)) p s k v)
   unfolding slotTerm
@@ -50,7 +50,7 @@ module _ (q : Measures) (hs parts counts left : List ℕ) where
 
   -- a slot that leaves the gap, and two parts that are some
   pub slot-open : (work : List ℕ) (low : ℕ) (p : Strip) (s : Point) (k v c upper lower : ℕ) (a b : Bool) → gapLeft (slotsBy q hs) p s k ≡ true → c ≡ openCost q hs s k
-      → upper ≡ low + rowOf (length hs) (q .colours) (upperPart p s k) * q .budgets → lower ≡ low + rowOf (length hs) (q .colours) (lowerPart p s k) * q .budgets
+      → upper ≡ low + rowOf (length hs) (q .colours) (upperPart (turnBy hs s k) p s k) * q .budgets → lower ≡ low + rowOf (length hs) (q .colours) (lowerPart p s k) * q .budgets
       → a ≡ eqb (getD work (upper + (q .budgets - 1)) 0) topWord → b ≡ eqb (getD work (lower + (q .budgets - 1)) 0) topWord → a || b ≡ false
       → openBy parts counts (q .budgets) c (getD left v 0) (λ w. getD work (upper + w) 0) (λ w. getD work (lower + w) 0)
       ≡ slotTerm q hs parts counts left (rowIn work low (length hs) (q .colours) (q .budgets)) p s k v
@@ -126,32 +126,37 @@ module _ (q : Measures) (hs parts counts left : List ℕ) where
       subst (Tried old old base low p s) (omega arith)
       (tried-closed old old base low p s 0 (p .b - 1 - p .a) (tried-none old base low p s h) (λ i a b. window-shut q hs p s w f (p .a + i) (omega arith) (omega arith) (by-order (w .from) (p .a + i) (λ x. inr (omega arith)) (λ x. inl x))))
 
+-- what joining costs: by the words of two rows; at most none
+pub joined-by : (q : Measures) (hs bs work : List ℕ) (low : ℕ) (p : Strip) (s : Point) (v rise fall up down : ℕ) → rise ≡ riseCost q hs bs p s → fall ≡ fallCost q hs bs p s
+    → up ≡ low + rowOf (length hs) (q .colours) (risen hs p s) * q .budgets → down ≡ low + rowOf (length hs) (q .colours) (fallen hs p s) * q .budgets
+    → min (plus topWord rise (getD work (up + v) 0)) (plus topWord fall (getD work (down + v) 0)) ≡ joinEntry q hs bs (rowIn work low (length hs) (q .colours) (q .budgets)) p s v
+unfolding joinEntry
+joined-by q hs bs work low p s v rise fall up down e f g h = rw (e, f, g, h)
+
+join-low : (q : Measures) (hs bs : List ℕ) (row : Strip → ℕ → ℕ) (p : Strip) (s : Point) (v : ℕ) → joinEntry q hs bs row p s v ≤ topWord
+unfolding joinEntry plus
+join-low q hs bs row p s v = omega arith
+
 module _ (q : Measures) (hs bs parts counts left : List ℕ) where
   -- the row of a strip that the site lies outside; that of one in which it may only join; that of one in which it may open a label
-  pub row-copied : (old new : List ℕ) (base low same : ℕ) (p : Strip) (s : Point) → ((i : ℕ) → getD old i 0 ≤ topWord) → inside (instanceOn q hs bs) p s ≡ false
-      → same ≡ low + rowOf (length hs) (q .colours) p * q .budgets → ((v : ℕ) → v < q .budgets → getD new (base + v) 0 ≡ plus topWord 0 (getD old (same + v) 0))
+  pub row-copied : (old new : List ℕ) (base low same : ℕ) (p : Strip) (s : Point) → inside (instanceOn q hs bs) p s ≡ false
+      → same ≡ low + rowOf (length hs) (q .colours) p * q .budgets → ((v : ℕ) → v < q .budgets → getD new (base + v) 0 ≡ getD old (same + v) 0)
       → (v : ℕ) → v < q .budgets → getD new (base + v) 0 ≡ entryBy q hs bs parts counts left (rowIn old low (length hs) (q .colours) (q .budgets)) p s v
-  unfolding entryBy plus
-  row-copied old new base low same p s words e f g v h =
-      let z : min (0 + getD old (same + v) 0) topWord ≡ getD old (same + v) 0 = omega (arith, words (same + v)) in
-      rw e (g v h ∙ z ∙ ap (λ (z : ℕ). getD old (z + v) 0) f)
+  unfolding entryBy
+  row-copied old new base low same p s e f g v h = rw e (g v h ∙ ap (λ (z : ℕ). getD old (z + v) 0) f)
 
-  pub row-joined : (old new : List ℕ) (base low same c : ℕ) (p : Strip) (s : Point) → inside (instanceOn q hs bs) p s ≡ true → siteOpens (instanceOn q hs bs) p s ≡ false
-      → c ≡ joinLeast q hs bs p s → same ≡ low + rowOf (length hs) (q .colours) p * q .budgets
-      → ((v : ℕ) → v < q .budgets → getD new (base + v) 0 ≡ plus topWord c (getD old (same + v) 0))
+  pub row-joined : (old new : List ℕ) (base low : ℕ) (p : Strip) (s : Point) → inside (instanceOn q hs bs) p s ≡ true → siteOpens (instanceOn q hs bs) p s ≡ false
+      → ((v : ℕ) → v < q .budgets → getD new (base + v) 0 ≡ joinEntry q hs bs (rowIn old low (length hs) (q .colours) (q .budgets)) p s v)
       → (v : ℕ) → v < q .budgets → getD new (base + v) 0 ≡ entryBy q hs bs parts counts left (rowIn old low (length hs) (q .colours) (q .budgets)) p s v
-  unfolding entryBy insideEntry plus
-  row-joined old new base low same c p s e o d f g v h =
-      rw (e, o) (g v h ∙ ap₂ (λ (x z : ℕ). min (x + getD old (z + v) 0) topWord) d f ∙ omega arith)
+  unfolding entryBy insideEntry
+  row-joined old new base low p s e o g v h = rw (e, o) (g v h ∙ omega (arith, join-low q hs bs (rowIn old low (length hs) (q .colours) (q .budgets)) p s v))
 
-  pub row-opened : (old mid new : List ℕ) (base low same c : ℕ) (p : Strip) (s : Point) → base + q .budgets ≤ low
-      → inside (instanceOn q hs bs) p s ≡ true → siteOpens (instanceOn q hs bs) p s ≡ true
-      → c ≡ joinLeast q hs bs p s → same ≡ low + rowOf (length hs) (q .colours) p * q .budgets → Others old mid base (q .budgets)
-      → ((v : ℕ) → v < q .budgets → getD mid (base + v) 0 ≡ plus topWord c (getD old (same + v) 0))
+  pub row-opened : (old mid new : List ℕ) (base low : ℕ) (p : Strip) (s : Point) → base + q .budgets ≤ low
+      → inside (instanceOn q hs bs) p s ≡ true → siteOpens (instanceOn q hs bs) p s ≡ true → Others old mid base (q .budgets)
+      → ((v : ℕ) → v < q .budgets → getD mid (base + v) 0 ≡ joinEntry q hs bs (rowIn old low (length hs) (q .colours) (q .budgets)) p s v)
       → ((v : ℕ) → v < q .budgets → getD new (base + v) 0
       ≡ min (getD mid (base + v) 0) (slotsLeast q hs parts counts left (rowIn mid low (length hs) (q .colours) (q .budgets)) p s (p .b - 1 - p .a) v))
       → (v : ℕ) → v < q .budgets → getD new (base + v) 0 ≡ entryBy q hs bs parts counts left (rowIn old low (length hs) (q .colours) (q .budgets)) p s v
   unfolding entryBy insideEntry
-  row-opened old mid new base low same c p s b e o d f others g k v h =
-      let start : getD mid (base + v) 0 ≡ plus topWord (joinLeast q hs bs p s) (rowIn old low (length hs) (q .colours) (q .budgets) p v) = g v h ∙ ap₂ (λ (x z : ℕ). plus topWord x (getD old (z + v) 0)) d f in
-      rw (e, o) (k v h ∙ ap₂ (λ (x : ℕ) (r : Strip → ℕ → ℕ). min x (slotsLeast q hs parts counts left r p s (p .b - 1 - p .a) v)) start (same-rows old mid base (q .budgets) low (length hs) (q .colours) (q .budgets) b others))
+  row-opened old mid new base low p s b e o others g k v h =
+      rw (e, o) (k v h ∙ ap₂ (λ (x : ℕ) (r : Strip → ℕ → ℕ). min x (slotsLeast q hs parts counts left r p s (p .b - 1 - p .a) v)) (g v h) (same-rows old mid base (q .budgets) low (length hs) (q .colours) (q .budgets) b others))

@@ -10,14 +10,16 @@ use borrow.Author.Tests.{lt-ltb, ne-eqb}
 use Rattle.lists.proofs.Tests.{by-test, by-either, by-order}
 use Rattle.optimum.specs.Slots.{over, under, farFrom, clearFrom}
 use Rattle.optimum.specs.Strips.{Point, Strip, Instance, inside, opens, joinsUp, joinsDown, children}
+use Rattle.optimum.proofs.Marks.{some-mark}
 use Rattle.optimum.specs.Reached.{Asks, Reached, noPoint, wholeSheet}
 use Rattle.arrays.specs.declared.Measures.{Measures}
-use Rattle.arrays.specs.Arrays.{instanceBy}
+use Rattle.arrays.specs.Arrays.{turnBy, instanceBy}
 use Rattle.arrays.specs.Given.{Given, pointsOf, OfSheet, SiteIn}
 use Rattle.arrays.proofs.Narrowed.{on-slots}
+use Rattle.arrays.proofs.Marks.{turn-low}
 use Rattle.strips.specs.Strips.{instanceOn}
-use Rattle.rows.specs.Rows.{rowOf, levelOf, upperPart, lowerPart, upperEnd}
-use Rattle.rows.proofs.Places.{upper-lies, lower-lies}
+use Rattle.rows.specs.Rows.{rowOf, levelOf, markedBy, upperPart, lowerPart, upperEnd}
+use Rattle.rows.proofs.Places.{marked-lies, upper-lies, lower-lies}
 use Rattle.table.specs.Marks.{Shaped, Led, ReachMarked}
 use Rattle.parts.specs.Parts.{Marked, Marking}
 use Rattle.table.proofs.marks.Asked.{asked-out, asked-in}
@@ -71,16 +73,21 @@ module _ {g : Given} (o : OfSheet g) where
   unfolding upperEnd
   asked-shape p x s i t a =
       by-test (inside (instanceOn q hs bs) p s)
-      (λ e. by-either (asked-in q hs bs p s x (t .lies) (on-slots o) i e a)
-      (λ z. subst (Shaped (length hs) (q .colours)) (sym (z .0)) t)
+      (λ e. by-either (asked-in q hs bs p s x (on-slots o) i e a)
+      (λ z. subst (Shaped (length hs) (q .colours)) (sym (z .0)) (joined (p .a - 1)))
+      (λ y. by-either y
+      (λ z. subst (Shaped (length hs) (q .colours)) (sym (z .0)) (joined (p .b - 1)))
       (λ z. let d = z .opened in
       by-either (z .which)
       (λ e. subst (Shaped (length hs) (q .colours)) (sym e) (upper (z .k) (d .above) (d .under)))
-      (λ e. subst (Shaped (length hs) (q .colours)) (sym e) (lower (z .k) (d .under)))))
+      (λ e. subst (Shaped (length hs) (q .colours)) (sym e) (lower (z .k) (d .under))))))
       (λ e. subst (Shaped (length hs) (q .colours)) (sym (asked-out q hs bs p s x e a)) t)
     where
-      upper : (k : ℕ) → p .a < k + 1 → k + 1 < p .b → Shaped (length hs) (q .colours) (upperPart p s k)
-      upper k h u = record { lies = upper-lies _ _ p s k (t .lies) (i .colourLow) u; falls = h; ends = t .ends }
+      joined : (k : ℕ) → Shaped (length hs) (q .colours) (markedBy (turnBy hs s k) p)
+      joined k = record { lies = marked-lies _ _ _ p (t .lies) (turn-low hs s k); falls = t .falls; ends = t .ends }
+
+      upper : (k : ℕ) → p .a < k + 1 → k + 1 < p .b → Shaped (length hs) (q .colours) (upperPart (turnBy hs s k) p s k)
+      upper k h u = record { lies = upper-lies _ _ _ p s k (t .lies) (i .colourLow) u (turn-low hs s k); falls = h; ends = t .ends }
 
       label : (k c : ℕ) → upperEnd (k + 1) (c + 1) ≡ true
       label k c = rw (ne-eqb (k + 1) 0 (λ (e : k + 1 ≡ 0). omega arith), lt-ltb 0 (c + 1) (omega arith))
@@ -94,7 +101,7 @@ module _ {g : Given} (o : OfSheet g) where
   pub reached-shape : (j : ℕ) → j ≤ length (g .xs) → (p : Strip) → Reached (instanceOn q hs bs) ss j p → Shaped (length hs) (q .colours) p
   unfolding Reached upperEnd
   reached-shape zero h p e = subst (Shaped (length hs) (q .colours)) (sym e) (record {
-    lies = record { aLow = omega arith; caLow = omega arith; bLow = omega arith; cbLow = omega arith; dLow = refl };
+    lies = record { aLow = omega arith; caLow = omega arith; bLow = omega arith; cbLow = omega arith; dLow = some-mark };
     falls = omega arith;
     ends = refl;
   })

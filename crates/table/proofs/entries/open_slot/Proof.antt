@@ -1,45 +1,52 @@
-use Prim.Native.Nat.{min, _+_, _-_}
-use Rattle.rows.specs.Rows.{stripOf, pointOf}
-use Rattle.table.proofs.entries.Places.{parts-fit, last-in, below-fits}
-use Rattle.table.specs.Entries.{PartsFit}
-use Rattle.parts.proofs.Marking.{fits-place}
-use Rattle.arrays.proofs.Narrowed.{on-slots}
-use Rattle.table.proofs.entries.Terms.{slot-none, slot-open}
-use mathlib.Core.Path.{refl, ap, sym, _∙_}
+use mathlib.Core.Path.{_≡_, refl, ap, sym, _∙_}
+use Prim.Native.Nat.{ℕ, _+_, _-_, _*_, min}
 use native.Mathlib.Omega.{arith}
 use lib.ListN.{length, getD}
+use Rattle.arrays.specs.Arrays.{turnBy}
+use Rattle.arrays.proofs.Marks.{turn-low}
+use Rattle.arrays.proofs.Narrowed.{on-slots}
+use Rattle.rows.specs.Rows.{stripOf, pointOf, rowOf, upperPart}
+use Rattle.parts.proofs.Marking.{fits-place}
+use Rattle.table.specs.Entries.{PartsFit}
+use Rattle.table.proofs.entries.Places.{parts-fit, last-in, below-fits}
+use Rattle.table.proofs.entries.Terms.{slot-none, slot-open}
 use borrow.Author.Needs.{needs}
 use Rattle.table.proofs.entries.open_slot.Statement.{statement}
 use Rattle.table.proofs.entries.open_slot.Tie as tie
-use Rattle.table.proofs.entries.open_slot.Reads as reads
-use Rattle.table.proofs.entries.open_slot.Lts as lts
-use Rattle.table.proofs.entries.open_row.Reads as open-row-reads
-use Rattle.rows.proofs.part_places.Reads as part-places-reads
-use Rattle.strips.proofs.open_cost.Reads as open-cost-reads
-use Rattle.words.proofs.either.Reads as either-reads
-use Rattle.words.proofs.same.Reads as same-reads
 
--- where the function starts
+-- where the function starts, seen from where the parts' rows are known, and from where the label's cost is
+abbrev start : tie.After-part-places → tie.Start
+start c = c .before .before .before .before .before .before .before
+
 abbrev begin : tie.After-open-cost → tie.Start
-begin c = c .before .before .before .before .before .before .before .before .before .before .before .before .before .before .before
+begin c = start (c .before .before .before .before .before .before .before .before .before)
+
+turn-at-requires : tie.Need-turn-at-requires
+turn-at-requires c κs = search needs
+
+-- where the upper part's row begins
+upper-at : (c : tie.After-part-places) → (let a = start c .args in c .part-places .result .upper ≡ a .low + rowOf (length (a .heights .now)) (a .q .colours) (upperPart (turnBy (a .heights .now) (pointOf (a .s)) (a .k)) (stripOf (a .p)) (pointOf (a .s)) (a .k)) * a .q .budgets)
+upper-at c =
+    let a = start c .args in
+    c .part-places .ensures .0 ∙ ap (λ (d : ℕ). a .low + rowOf (length (a .heights .now)) (a .q .colours) (upperPart d (stripOf (a .p)) (pointOf (a .s)) (a .k)) * a .q .budgets) (c .before .turn-at .ensures)
 
 -- the rows of both parts stand below the row that is filled
-fitting : (c : tie.After-part-places) → PartsFit (c .before .before .before .before .before .before .args .q .budgets) (c .before .before .before .before .before .before .args .base) (length (c .before .before .before .before .before .before .args .work .now)) (c .part-places .result .upper) (c .part-places .result .lower)
+fitting : (c : tie.After-part-places) → PartsFit (start c .args .q .budgets) (start c .args .base) (length (start c .args .work .now)) (c .part-places .result .upper) (c .part-places .result .lower)
 fitting c =
-    let p = c .before .before .before .before .before .before .pre in
-    parts-fit (p .0 .ready) (stripOf (c .before .before .before .before .before .before .args .p)) (c .before .before .before .before .before .before .args .k) (p .0 .lies) (p .1 .0) _ _ (c .part-places .ensures .0) (c .part-places .ensures .1)
+    let p = start c .pre in
+    parts-fit (p .0 .ready) (stripOf (start c .args .p)) (start c .args .k) _ (p .0 .lies) (p .1 .0) (turn-low _ _ _) _ _ (upper-at c) (c .part-places .ensures .1)
 
 part-places-requires : tie.Need-part-places-requires
 part-places-requires c κs =
-    let p = c .before .before .before .before .before .pre in
-    (fits-place (below-fits (p .0 .ready)) (omega (arith, p .0 .ready .within, c .before .before .before .before .before .fits)), (p .0 .lies, p .0 .ready .site .colourLow, p .1 .0))
+    let p = c .before .before .before .before .before .before .pre in
+    (fits-place (below-fits (p .0 .ready)) (omega (arith, p .0 .ready .within, c .before .before .before .before .before .before .fits)), (p .0 .lies, p .0 .ready .site .colourLow, p .1 .0, rw (c .turn-at .ensures) (turn-low _ _ _)))
 
 cast-n : tie.Need-cast-n
 cast-n c = search needs
 
 sub-last : tie.Need-sub-last
 sub-last c =
-    omega (arith, c .before .before .before .before .before .before .before .pre .0 .ready .sheet .someBudget)
+    omega (arith, c .before .before .before .before .before .before .before .before .pre .0 .ready .sheet .someBudget)
 
 add-same : tie.Need-add-same
 add-same c =
@@ -76,20 +83,19 @@ either-requires c κs = search needs
 
 returns : tie.Need-returns
 returns c =
-    let a = c .before .before .before .before .before .before .before .before .before .before .before .before .before .args in
-    let p = c .before .before .before .before .before .before .before .before .before .before .before .before .before .pre in
-    let e = c .before .before .before .before .before .before .before .part-places .ensures in (
+    let a = start (c .before .before .before .before .before .before .before) .args in
+    let p = start (c .before .before .before .before .before .before .before) .pre in (
       record { before = λ i h. refl; after = λ i h. refl },
-      λ v h. slot-none (a .q) (a .heights .now) (a .parts .now) (a .counts .now) (a .left .now) (a .work .now) (a .low) (stripOf (a .p)) (pointOf (a .s)) (a .k) v _ _ _ _ _ (omega (arith, c .before .before .before .before .before .before .before .before .before .before .before .before .slice-known .given (a .base + v))) (p .1 .1) (e .0) (e .1) (c .before .before .before .before .same .ensures) (c .before .before .same2 .ensures) (sym (c .before .either .ensures) ∙ c .if1 .taken),
+      λ v h. slot-none (a .q) (a .heights .now) (a .parts .now) (a .counts .now) (a .left .now) (a .work .now) (a .low) (stripOf (a .p)) (pointOf (a .s)) (a .k) v _ _ _ _ _ (omega (arith, c .before .before .before .before .before .before .before .before .before .before .before .before .before .slice-known .given (a .base + v))) (p .1 .1) (upper-at (c .before .before .before .before .before .before .before)) (c .before .before .before .before .before .before .before .part-places .ensures .1) (c .before .before .before .before .same .ensures) (c .before .before .same2 .ensures) (sym (c .before .either .ensures) ∙ c .if1 .taken),
     )
 
 open-cost-requires : tie.Need-open-cost-requires
 open-cost-requires c κs =
-    let p = c .before .before .before .before .before .before .before .before .before .before .before .before .before .before .pre .0 in (on-slots (p .ready .sheet), p .ready .site)
+    let p = start (c .before .before .before .before .before .before .before .before) .pre .0 in (on-slots (p .ready .sheet), p .ready .site)
 
 open-row-requires : tie.Need-open-row-requires
 open-row-requires c κs =
-    let p = begin c .pre .0 in let f = fitting (c .before .before .before .before .before .before .before .before .before) in (p .budgets .listed, f, p .budgets .leftLong)
+    let p = begin c .pre .0 in (p .budgets .listed, fitting (c .before .before .before .before .before .before .before .before .before), p .budgets .leftLong)
 
 same-length : tie.Need-same-length
 same-length c =
@@ -99,16 +105,16 @@ returns-2 : tie.Need-returns-2
 returns-2 c =
     let a = begin (c .before .before .before) .args in
     let p = begin (c .before .before .before) .pre in
-    let o = c .before .before .open-row in
-    let e = c .before .before .before .before .before .before .before .before .before .before .before .before .part-places .ensures in (
+    let o = c .before .before .open-row in (
       o .ensures .0,
-      λ v h. o .ensures .1 v h ∙ ap (min (getD (a .work .now) (a .base + v) 0)) (slot-open (a .q) (a .heights .now) (a .parts .now) (a .counts .now) (a .left .now) (a .work .now) (a .low) (stripOf (a .p)) (pointOf (a .s)) (a .k) v _ _ _ _ _ (p .1 .1) (c .before .before .before .open-cost .ensures) (e .0) (e .1) (c .before .before .before .before .before .before .before .before .before .same .ensures) (c .before .before .before .before .before .before .before .same2 .ensures) (sym (c .before .before .before .before .before .before .either .ensures) ∙ c .before .before .before .before .before .if1 .left)),
+      λ v h. o .ensures .1 v h ∙ ap (min (getD (a .work .now) (a .base + v) 0)) (slot-open (a .q) (a .heights .now) (a .parts .now) (a .counts .now) (a .left .now) (a .work .now) (a .low) (stripOf (a .p)) (pointOf (a .s)) (a .k) v _ _ _ _ _ (p .1 .1) (c .before .before .before .open-cost .ensures) (upper-at (c .before .before .before .before .before .before .before .before .before .before .before .before)) (c .before .before .before .before .before .before .before .before .before .before .before .before .part-places .ensures .1) (c .before .before .before .before .before .before .before .before .before .same .ensures) (c .before .before .before .before .before .before .before .same2 .ensures) (sym (c .before .before .before .before .before .before .either .ensures) ∙ c .before .before .before .before .before .if1 .left)),
     )
 
 pub open-slot-spec : {M : Type 1} → statement M
 open-slot-spec =
     tie.close
     (tie.spec
+    turn-at-requires
     part-places-requires
     cast-n
     sub-last

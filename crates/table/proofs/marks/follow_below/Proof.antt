@@ -1,10 +1,12 @@
 use mathlib.Core.Path.{ap₂, _≡_, refl, ap, sym, _∙_}
-use Rattle.rows.specs.Rows.{Lies, stripOf, pointOf, rowOf, endPlace}
+use Rattle.rows.specs.Rows.{Lies, stripOf, pointOf, rowOf, endPlace, lowPlace}
 use Rattle.lists.proofs.Tests.{not-f}
+use Rattle.optimum.specs.OneSided.{markCount}
+use Rattle.optimum.proofs.Marks.{some-mark}
 use Rattle.rows.proofs.Places.{row-fits}
 use Rattle.parts.proofs.Marking.{marking-none}
-use Rattle.table.proofs.marks.Followed.{ended, Followed, followed-none, followed-more, followed-all, next-row, next-slot, later-end, start-lies, lies-at, fits-of, at-low}
-use Prim.Native.Nat.{ℕ, _+_, _-_, _*_, _≤_}
+use Rattle.table.proofs.marks.Followed.{ended, Followed, followed-none, followed-more, followed-all, next-row, next-low, later-low, start-lies, lies-at, fits-of, at-low}
+use Prim.Native.Nat.{ℕ, _+_, _-_, _*_, _<_, _≤_}
 use native.Mathlib.Omega.{arith}
 use lib.ListN.{length}
 use borrow.Author.Needs.{needs}
@@ -17,10 +19,10 @@ use Rattle.table.proofs.marks.mark_row.Reads as mark-row-reads
 use Rattle.rows.proofs.next_below.Reads as next-below-reads
 
 abbrev Inv-loop : tie.InvT-loop
-Inv-loop work₀ q heights bounds s base low n ends p₀ at₀ work p at = (p .a ≡ p₀ .a) × (p .ca ≡ p₀ .ca) × (p .cb ≤ q .colours) × (p .b ≤ length heights + 2) × (at ≡ base + rowOf (length heights) (q .colours) (stripOf p) * q .budgets) × (length work ≡ length work₀) × Followed q heights bounds base low (pointOf s) work₀ work (endPlace (q .colours) (p .a) (p .ca)) (endPlace (q .colours) (p .b) (p .cb))
+Inv-loop work₀ q heights bounds s base low n ends p₀ at₀ work p at = (p .a ≡ p₀ .a) × (p .ca ≡ p₀ .ca) × ((p .cb ≤ q .colours) × (p .d < markCount)) × (p .b ≤ length heights + 2) × (at ≡ base + rowOf (length heights) (q .colours) (stripOf p) * q .budgets) × (length work ≡ length work₀) × Followed q heights bounds base low (pointOf s) work₀ work (endPlace (q .colours) (p .a) (p .ca)) (lowPlace (q .colours) (stripOf p))
 
 abbrev μ-loop : tie.MeasureT-loop
-μ-loop work₀ q heights bounds s base low n ends p₀ at₀ work p at = endPlace (q .colours) (length heights + 2) 0 - endPlace (q .colours) (p .b) (p .cb)
+μ-loop work₀ q heights bounds s base low n ends p₀ at₀ work p at = endPlace (q .colours) (length heights + 2) 0 * markCount - lowPlace (q .colours) (stripOf p)
 
 -- where the function starts
 abbrev begin : tie.After-slice-known2 Inv-loop μ-loop → tie.Start Inv-loop μ-loop
@@ -31,7 +33,7 @@ row-lies : (c : tie.Then2 Inv-loop μ-loop) → Lies (length (c .before .before 
 row-lies c =
     let p = c .before .before .before .before .before .before .before .before .before .before .before .pre .2 in
     let l = c .before .before .loop in
-    lies-at (length (c .before .before .before .before .before .before .before .before .before .before .before .args .heights .now)) (c .before .before .before .before .before .before .before .before .before .before .before .args .q .colours) (stripOf (l .p)) (omega (arith, l .inv .0, p .0)) (omega (arith, l .inv .1, p .1)) (omega (arith, c .if2 .taken)) (l .inv .2) refl
+    lies-at (length (c .before .before .before .before .before .before .before .before .before .before .before .args .heights .now)) (c .before .before .before .before .before .before .before .before .before .before .before .args .q .colours) (stripOf (l .p)) (omega (arith, l .inv .0, p .0)) (omega (arith, l .inv .1, p .1)) (omega (arith, c .if2 .taken)) (l .inv .2 .0) (l .inv .2 .1)
 
 returns : tie.Need-returns Inv-loop μ-loop
 returns c =
@@ -66,7 +68,7 @@ loop-holds : tie.Need-loop-holds Inv-loop μ-loop
 loop-holds c =
     let p = c .before .before .before .before .before .before .before .before .pre in
     let a = c .before .before .before .before .before .before .before .before .args in
-    (refl, refl, omega arith, omega (arith, p .2 .0), ap (λ (z : ℕ). a .base + z) (c .row-place .ensures), refl, followed-none (a .q) (a .heights .now) (a .bounds .now) (a .base) (a .low) (pointOf (a .s)) (a .work .now) (a .above .slot) (a .above .colour) _ (p .2 .1) refl)
+    (refl, refl, (omega arith, some-mark), omega (arith, p .2 .0), ap (λ (z : ℕ). a .base + z) (c .row-place .ensures), refl, followed-none (a .q) (a .heights .now) (a .bounds .now) (a .base) (a .low) (pointOf (a .s)) (a .work .now) (a .above .slot) (a .above .colour) _ (p .2 .1) (omega arith))
 
 mark-row-requires : tie.Need-mark-row-requires Inv-loop μ-loop
 mark-row-requires c κs =
@@ -93,13 +95,13 @@ next-below-requires : tie.Need-next-below-requires Inv-loop μ-loop
 next-below-requires c κs =
     let p = begin c .pre in
     let l = c .before .before .before .before .before .before .loop in
-    (p .0 .sheet .fewColours, omega (arith, l .inv .3, p .0 .sheet .fewSlots), l .inv .2)
+    (p .0 .sheet .fewColours, omega (arith, l .inv .3, p .0 .sheet .fewSlots), l .inv .2 .0, l .inv .2 .1)
 
 loop-less : tie.Need-loop-less Inv-loop μ-loop
 loop-less c =
     let p = begin (c .before) .pre in
     let l = c .before .before .before .before .before .before .before .loop in
-    omega (arith, c .next-below .ensures .3, later-end (begin (c .before) .args .q .colours) (l .p .b) (l .p .cb) (length (begin (c .before) .args .heights .now) + 2) 0 (l .inv .2) (omega (arith, c .before .before .before .before .before .if2 .taken)))
+    omega (arith, c .next-below .ensures .4, later-low (begin (c .before) .args .q .colours) (stripOf (l .p)) (length (begin (c .before) .args .heights .now) + 2) 0 (l .inv .2 .0) (l .inv .2 .1) (omega (arith, c .before .before .before .before .before .if2 .taken)))
 
 loop-again : tie.Need-loop-again Inv-loop μ-loop
 loop-again c =
@@ -111,11 +113,11 @@ loop-again c =
     let r = row-lies (c .before .before .before .before .before) in (
       e .0 ∙ l .inv .0,
       e .1 ∙ l .inv .1,
-      e .2,
-      omega (arith, c .before .before .before .before .before .if2 .taken, next-slot (a .q .colours) (l .p .b) (l .p .cb) _ _ (l .inv .2) (e .3)),
-      next-row _ _ _ _ _ (stripOf (l .p)) (stripOf (c .next-below .result)) (e .0) (e .1) (e .3) (l .inv .4),
+      (e .2, e .3),
+      omega (arith, c .before .before .before .before .before .if2 .taken, next-low (a .q .colours) (stripOf (l .p)) (stripOf (c .next-below .result)) (l .inv .2 .0) (l .inv .2 .1) (e .4)),
+      next-row _ _ _ _ _ (stripOf (l .p)) (stripOf (c .next-below .result)) (e .0) (e .1) (e .4) (l .inv .4),
       f .kept .0 ∙ l .inv .5,
-      rw (e .0, e .1, e .3) (followed-more (a .q) (a .heights .now) (a .bounds .now) (a .base) (a .low) (pointOf (a .s)) _ (l .work) (f .last .0) (stripOf (l .p)) _ (l .at) (p .0 .apart) r refl (l .inv .4) (p .0 .sheet .someBudget) (l .inv .6) (f .ensures .0) (f .ensures .1)),
+      rw (e .0, e .1, e .4) (followed-more (a .q) (a .heights .now) (a .bounds .now) (a .base) (a .low) (pointOf (a .s)) _ (l .work) (f .last .0) (stripOf (l .p)) _ (l .at) (p .0 .apart) r refl (l .inv .4) (p .0 .sheet .someBudget) (l .inv .6) (f .ensures .0) (f .ensures .1)),
     )
 
 same-length : tie.Need-same-length Inv-loop μ-loop
@@ -126,7 +128,7 @@ returns-2 : tie.Need-returns-2 Inv-loop μ-loop
 returns-2 c =
     let l = c .before .before .loop in
     let a = c .before .before .before .before .before .before .before .before .before .before .before .args in
-    (l .inv .6 .marking, λ p t e. followed-all (a .q) (a .heights .now) (a .bounds .now) (a .base) (a .low) (pointOf (a .s)) (a .work .now) (l .work) _ _ _ (omega (arith, c .if2 .left)) (l .inv .6) p t (e ∙ ap₂ (endPlace (a .q .colours)) (sym (l .inv .0)) (sym (l .inv .1))))
+    (l .inv .6 .marking, λ p t e. followed-all (a .q) (a .heights .now) (a .bounds .now) (a .base) (a .low) (pointOf (a .s)) (a .work .now) (l .work) _ (stripOf (l .p)) (omega (arith, c .if2 .left)) (l .inv .6) p t (e ∙ ap₂ (endPlace (a .q .colours)) (sym (l .inv .0)) (sym (l .inv .1))))
 
 is-upper-end-requires : tie.Need-is-upper-end-requires Inv-loop μ-loop
 is-upper-end-requires c κs = search needs

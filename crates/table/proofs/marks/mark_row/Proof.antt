@@ -1,30 +1,17 @@
-use lib.Dec.{ltb}
+use mathlib.Core.Path.{refl, sym, _∙_}
+use native.Mathlib.Omega.{arith}
 use Rattle.lists.proofs.Tests.{not-e, not-f, clash}
-use Rattle.optimum.specs.OneSided.{topWord}
 use Rattle.rows.specs.Rows.{stripOf, pointOf}
 use Rattle.parts.proofs.Marking.{marking-none, marking-join}
 use Rattle.arrays.proofs.Narrowed.{on-slots}
 use Rattle.table.proofs.marks.Asked.{marked-out, marked-in}
-use mathlib.Core.Path.{refl, ap, sym, _∙_}
-use Prim.Native.Nat.{ℕ, _-_}
-use native.Mathlib.Omega.{arith}
-use borrow.Author.Tests.{lt-ltb}
 use borrow.Author.Needs.{needs}
 use Rattle.table.proofs.marks.mark_row.Statement.{statement}
 use Rattle.table.proofs.marks.mark_row.Tie as tie
-use Rattle.table.proofs.marks.mark_row.Reads as reads
-use Rattle.table.proofs.marks.mark_row.Lts as lts
-use Rattle.strips.proofs.join_least.Reads as join-least-reads
-use Rattle.table.proofs.marks.mark_own.Reads as mark-own-reads
-use Rattle.table.proofs.marks.mark_window.Reads as mark-window-reads
-use Rattle.strips.proofs.is_inside.Reads as is-inside-reads
-use Rattle.strips.proofs.open_window.Reads as open-window-reads
-use Rattle.strips.proofs.site_opens.Reads as site-opens-reads
-use Rattle.words.proofs.less.Reads as less-reads
 
 -- where the function starts
 abbrev begin : tie.After-site-opens → tie.Start
-begin c = c .before .before .before .before .before .before .before .before .before .before .before .before .before .before
+begin c = c .before .before .before .before .before .before .before .before .before .before .before .before
 
 returns : tie.Need-returns
 returns c =
@@ -47,20 +34,13 @@ returns-2 c =
     let o = c .before .before .mark-own .ensures in
     (o .0, λ k. marked-out (a .q) (a .heights .now) (a .bounds .now) (stripOf (a .p)) (pointOf (a .s)) (c .before .before .mark-own .last .0) (a .low) (sym (c .before .before .before .before .before .is-inside .ensures (a .q) (a .bounds .now)) ∙ not-f _ (c .before .before .before .before .if2 .taken)) (o .1 refl))
 
-join-least-requires : tie.Need-join-least-requires
-join-least-requires c κs =
-    let p = c .before .before .before .before .before .before .before .pre in (on-slots (p .sheet), p .site, p .lies)
-
-less-requires : tie.Need-less-requires
-less-requires c κs = search needs
-
-mark-own-requires-2 : tie.Need-mark-own-requires-2
-mark-own-requires-2 c κs =
-    let p = c .before .before .before .before .before .before .before .before .before .before .pre in (p .fits, p .lies)
+mark-joins-requires : tie.Need-mark-joins-requires
+mark-joins-requires c κs =
+    let p = c .before .before .before .before .before .before .before .before .pre in ((p .fits, p .lies), (on-slots (p .sheet), p .site))
 
 site-opens-requires : tie.Need-site-opens-requires
 site-opens-requires c κs =
-    let p = c .before .before .before .before .before .before .before .before .before .before .before .before .before .pre in omega (arith, p .site .colourLow, p .bounded)
+    let p = c .before .before .before .before .before .before .before .before .before .before .before .pre in omega (arith, p .site .colourLow, p .bounded)
 
 open-window-requires : tie.Need-open-window-requires
 open-window-requires c κs =
@@ -69,38 +49,38 @@ open-window-requires c κs =
 mark-window-requires : tie.Need-mark-window-requires
 mark-window-requires c κs =
     let p = begin (c .before .before .before) .pre in
-    ((rw (c .before .before .before .before .before .before .mark-own2 .kept .0) (p .fits), p .lies), (p .site .colourLow, c .open-window .ensures .high))
+    ((rw (c .before .before .before .before .before .before .mark-joins .kept .0) (p .fits), p .lies), (p .site .colourLow, c .open-window .ensures .high))
 
 same-length-2 : tie.Need-same-length-2
 same-length-2 c =
-    c .before .before .mark-window .kept .0 ∙ c .before .before .before .before .before .before .before .before .before .mark-own2 .kept .0
+    c .before .before .mark-window .kept .0 ∙ c .before .before .before .before .before .before .before .before .before .mark-joins .kept .0
 
 returns-3 : tie.Need-returns-3
 returns-3 c =
     let a = begin (c .before .before .before .before .before .before) .args in
     let p = begin (c .before .before .before .before .before .before) .pre in
-    let o = c .before .before .before .before .before .before .before .before .before .mark-own2 .ensures in
+    let o = c .before .before .before .before .before .before .before .before .before .mark-joins .ensures in
     let w = c .before .before .mark-window .ensures in
-    let i = sym (c .before .before .before .before .before .before .before .before .before .before .before .before .before .before .is-inside .ensures (a .q) (a .bounds .now)) ∙ not-e _ (c .before .before .before .before .before .before .before .before .before .before .before .before .before .if2 .left) in (
+    let i = sym (c .before .before .before .before .before .before .before .before .before .before .before .before .is-inside .ensures (a .q) (a .bounds .now)) ∙ not-e _ (c .before .before .before .before .before .before .before .before .before .before .before .if2 .left) in (
       marking-join _ _ _ _ _ (o .0) (w .0),
-      λ k. marked-in (a .q) (a .heights .now) (a .bounds .now) (stripOf (a .p)) (pointOf (a .s)) _ (a .low) (c .before .before .before .open-window .result) (p .lies) (on-slots (p .sheet)) (p .site) i
-          (λ h. w .0 .kept _ (o .1 (c .before .before .before .before .before .before .before .before .before .before .before .less .ensures ∙ ap (λ (z : ℕ). ltb z topWord) (c .before .before .before .before .before .before .before .before .before .before .before .before .join-least .ensures (a .bounds .now)) ∙ lt-ltb _ _ h)))
+      λ k. marked-in (a .q) (a .heights .now) (a .bounds .now) (stripOf (a .p)) (pointOf (a .s)) _ (a .low) (c .before .before .before .open-window .result) (on-slots (p .sheet)) (p .site) i
+          (λ h. w .0 .kept _ (o .1 (a .bounds .now) h)) (λ h. w .0 .kept _ (o .2 (a .bounds .now) h))
           (λ s. (c .before .before .before .open-window .ensures, w .1)),
     )
 
 same-length-3 : tie.Need-same-length-3
 same-length-3 c =
-    c .before .before .before .before .mark-own2 .kept .0
+    c .before .before .before .before .mark-joins .kept .0
 
 returns-4 : tie.Need-returns-4
 returns-4 c =
     let a = begin (c .before) .args in
     let p = begin (c .before) .pre in
-    let o = c .before .before .before .before .mark-own2 .ensures in
-    let i = sym (c .before .before .before .before .before .before .before .before .before .is-inside .ensures (a .q) (a .bounds .now)) ∙ not-e _ (c .before .before .before .before .before .before .before .before .if2 .left) in (
+    let o = c .before .before .before .before .mark-joins .ensures in
+    let i = sym (c .before .before .before .before .before .before .before .is-inside .ensures (a .q) (a .bounds .now)) ∙ not-e _ (c .before .before .before .before .before .before .if2 .left) in (
       o .0,
-      λ k. marked-in (a .q) (a .heights .now) (a .bounds .now) (stripOf (a .p)) (pointOf (a .s)) (c .before .before .before .before .mark-own2 .last .0) (a .low) (record { from = 0; to = 0 }) (p .lies) (on-slots (p .sheet)) (p .site) i
-          (λ h. o .1 (c .before .before .before .before .before .before .less .ensures ∙ ap (λ (z : ℕ). ltb z topWord) (c .before .before .before .before .before .before .before .join-least .ensures (a .bounds .now)) ∙ lt-ltb _ _ h))
+      λ k. marked-in (a .q) (a .heights .now) (a .bounds .now) (stripOf (a .p)) (pointOf (a .s)) (c .before .before .before .before .mark-joins .last .0) (a .low) (record { from = 0; to = 0 }) (on-slots (p .sheet)) (p .site) i
+          (o .1 (a .bounds .now)) (o .2 (a .bounds .now))
           (λ s. clash s (sym (c .before .site-opens .ensures) ∙ c .if3 .left)),
     )
 
@@ -121,9 +101,7 @@ mark-row-spec =
     mark-own-requires
     same-length
     returns-2
-    join-least-requires
-    less-requires
-    mark-own-requires-2
+    mark-joins-requires
     site-opens-requires
     open-window-requires
     mark-window-requires

@@ -2,6 +2,7 @@ use native.Mathlib.Nat.{mul-le-mul}
 use Rattle.arrays.specs.Arrays.{pointsBy}
 use Rattle.strips.specs.Strips.{instanceOn}
 use Rattle.arrays.specs.Given.{OfSheet}
+use Rattle.optimum.proofs.Marks.{some-mark}
 use Rattle.rows.specs.Rows.{levelOf}
 use Rattle.rows.proofs.Places.{rows-few}
 use Rattle.table.specs.Marks.{onSites, ReachMarked}
@@ -65,7 +66,7 @@ mark-own-requires : tie.Need-mark-own-requires Inv-loop μ-loop
 mark-own-requires c κs =
     let p = c .before .before .before .before .before .before .before .before .before .before .before .before .pre in (
       level-fits (p .0) (rw (c .before .before .before .clear-marks .kept .0) (first-within _ _ _ (p .2))),
-      record { aLow = omega arith; caLow = omega arith; bLow = omega arith; cbLow = omega arith; dLow = refl },
+      record { aLow = omega arith; caLow = omega arith; bLow = omega arith; cbLow = omega arith; dLow = some-mark },
     )
 
 loop-holds : tie.Need-loop-holds Inv-loop μ-loop
