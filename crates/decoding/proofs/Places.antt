@@ -1,14 +1,16 @@
 -- What stands at a place of the arrays: the sheet's number, for every place. Assumes nothing.
-use mathlib.Core.Path.{_≡_, refl, _∙_}
+use mathlib.Core.Path.{_≡_, refl, sym, ap, _∙_}
 use mathlib.Core.List.{List, [], _∷_}
-use Prim.Native.Nat.{ℕ, zero, suc, _-_}
-use lib.ListN.{getD}
-use Rattle.sheet.specs.Limits.{unbounded}
+use Prim.Native.Nat.{ℕ, zero, suc}
+use lib.ListN.{length, getD}
+use Rattle.sheet.specs.Limits.{unbounded, mostSlots, mostColours, mostSites}
 use Rattle.sheet.specs.Sheet.{Site, Colour, Sheet}
 use Rattle.labelling.specs.Layout.{noSite, noColour}
-use Rattle.decoding.specs.Decoding.{Decoded, boundsOf, xsOf, ysOf, coloursOf}
+use Rattle.decoding.specs.Decoding.{numbersBy, sheetBy, coloursBy, sitesBy, Decoded, boundsOf, siteCountsOf, xsOf, ysOf, coloursOf}
+use Rattle.decoding.specs.declared.Numbers.{Numbers}
+use Rattle.decoding.proofs.Fields.{bounds-long, site-counts-long, xs-long, ys-long, colours-long}
 use Rattle.lists.specs.Arrays.{padded}
-use Rattle.lists.proofs.Arrays.{padded-at}
+use Rattle.lists.proofs.Arrays.{padded-at, padded-front}
 
 pub bounds-at : (ks : List Colour) (c : ℕ) → getD (boundsOf ks) c unbounded ≡ (getD ks c noColour) .bound
 unfolding boundsOf
@@ -43,3 +45,27 @@ decoded s m n =
       ys = λ i. padded-at n (ysOf (s .sites)) i ∙ ys-at (s .sites) i;
       colours = λ i. padded-at n (coloursOf (s .sites)) i ∙ colours-at (s .sites) i;
     }
+
+-- THE SHEET is read back from its numbers
+colours-back : (ks : List Colour) → coloursBy (boundsOf ks) (siteCountsOf ks) ≡ ks
+unfolding coloursBy boundsOf siteCountsOf
+colours-back [] = refl
+colours-back (k ∷ ks) = ap (λ (l : List Colour). k ∷ l) (colours-back ks)
+
+sites-back : (ss : List Site) → sitesBy (xsOf ss) (ysOf ss) (coloursOf ss) ≡ ss
+unfolding sitesBy xsOf ysOf coloursOf
+sites-back [] = refl
+sites-back (s ∷ ss) = ap (λ (l : List Site). s ∷ l) (sites-back ss)
+
+pub sheet-back : (s : Sheet) → sheetBy (numbersBy s) ≡ s
+sheet-back s =
+    let hs = padded-front mostSlots (s .slots) (length (s .slots)) refl in
+    let bs = padded-front mostColours (boundsOf (s .colours)) (length (s .colours)) (sym (bounds-long (s .colours))) in
+    let ns = padded-front mostColours (siteCountsOf (s .colours)) (length (s .colours)) (sym (site-counts-long (s .colours))) in
+    let us = padded-front mostSites (xsOf (s .sites)) (length (s .sites)) (sym (xs-long (s .sites))) in
+    let vs = padded-front mostSites (ysOf (s .sites)) (length (s .sites)) (sym (ys-long (s .sites))) in
+    let cs = padded-front mostSites (coloursOf (s .sites)) (length (s .sites)) (sym (colours-long (s .sites))) in
+    rw (hs, bs, ns, us, vs, cs, colours-back (s .colours), sites-back (s .sites)) refl
+
+pub sheet-read : {d : Numbers} {s : Sheet} → d ≡ numbersBy s → sheetBy d ≡ s
+sheet-read {d} {s} e = ap sheetBy e ∙ sheet-back s

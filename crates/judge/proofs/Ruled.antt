@@ -6,15 +6,14 @@ use Prim.Native.Nat.{ℕ, _≤_}
 use native.Mathlib.Omega.{arith}
 use lib.ListN.{length, getD, take}
 use Rattle.sheet.specs.Limits.{mostSlots, mostColours, mostSites}
-use Rattle.sheet.specs.Sheet.{Sheet, bodyOf, sheetIn, sheetFault}
-use Rattle.sheet.specs.Words.{countKind}
+use Rattle.sheet.specs.Sheet.{Sheet, sheetIn, sheetFault}
 use Rattle.sheet.proofs.Accepted.{sound}
-use Rattle.sheet.proofs.Counts.{colours-count}
 use Rattle.labelling.specs.Layout.{tiesIn, layoutBody, layoutTies, isLayout, brokenBy}
 use Rattle.labelling.proofs.Words.{formed, length-tiesIn, ties-low}
-use Rattle.decoding.specs.Decoding.{headBy, boundsOf, xsOf, ysOf, coloursOf}
+use Rattle.decoding.specs.Decoding.{headBy, boundsOf, xsOf, ysOf, coloursOf, sheetBy, LayoutRead}
+use Rattle.decoding.specs.declared.Numbers.{Numbers}
 use Rattle.decoding.proofs.Fields.{bounds-long}
-use Rattle.decoding.proofs.Places.{decoded}
+use Rattle.decoding.proofs.Places.{decoded, sheet-read}
 use Rattle.lists.specs.Arrays.{padded}
 use Rattle.lists.proofs.Arrays.{padded-front, padded-long}
 use Rattle.words.specs.declared.tied.Head.{Head}
@@ -26,14 +25,7 @@ module _ (ss ls : List ℕ) (ok : sheetFault ss ≡ 0) (form : isLayout (sheetIn
   abbrev s : Sheet
   s = sheetIn ss
 
-  -- the colours' bounds, without the zeros past them
-  pub bounds-part : (r : List ℕ) (k : ℕ) → r ≡ padded mostColours (boundsOf (s .colours)) → k ≡ countKind 3 (bodyOf ss) → (take k r ≡ boundsOf (s .colours)) × (k ≡ length (take k r)) × (k ≤ length r)
-  bounds-part r k e h =
-      let q : k ≡ length (boundsOf (s .colours)) = h ∙ sym (colours-count (bodyOf ss)) ∙ sym (bounds-long (s .colours)) in
-      let f : take k r ≡ boundsOf (s .colours) = ap (take k) e ∙ padded-front mostColours (boundsOf (s .colours)) k q in
-      (f, q ∙ sym (ap length f), omega (arith, q, ap length e, padded-long mostColours (boundsOf (s .colours))))
-
-  pub ruled : (h : Head) (w r : ℕ) (hs bs xs ys cs ws : List ℕ) →
+  ruled : (h : Head) (w r : ℕ) (hs bs xs ys cs ws : List ℕ) →
       h ≡ headBy s → w ≡ getD ls 0 0 → hs ≡ padded mostSlots (s .slots) → bs ≡ boundsOf (s .colours) → xs ≡ padded mostSites (xsOf (s .sites)) → ys ≡ padded mostSites (ysOf (s .sites)) →
       cs ≡ padded mostSites (coloursOf (s .sites)) → ws ≡ layoutBody ls → r ≡ brokenOn h w hs bs xs ys cs (tiesIn ws) (length ws) → r ≡ brokenBy s ls
   ruled h w r hs bs xs ys cs ws eh ew es eb ex ey ec et e =
@@ -41,3 +33,31 @@ module _ (ss ls : List ℕ) (ok : sheetFault ss ≡ 0) (form : isLayout (sheetIn
       e ∙ rw (eh, ew, es, eb, ex, ey, ec, et) refl in
       q ∙ ap (brokenOn (headBy s) (getD ls 0 0) (padded mostSlots (s .slots)) (boundsOf (s .colours)) (padded mostSites (xsOf (s .sites))) (padded mostSites (ysOf (s .sites))) (padded mostSites (coloursOf (s .sites))) (layoutTies ls)) (long ss ls ok form) ∙
       broken-is s _ _ _ _ (decoded s mostSlots mostSites) (layoutTies ls) (length-tiesIn (layoutBody ls) ∙ long ss ls ok form) (ties-low s (layoutBody ls) (formed s ls form .ties)) (sound ss ok .inside) ls refl
+
+-- BY NUMBERS that were read
+module _ {d : Numbers} {ls : List ℕ} (p : LayoutRead d ls) where
+  abbrev t : Sheet
+  t = sheetIn (p .words)
+
+  bounds-are : d .bounds ≡ padded mostColours (boundsOf (t .colours))
+  bounds-are = ap (λ (z : Numbers). z .bounds) (p .numbers)
+
+  kinds-are : d .kinds ≡ length (boundsOf (t .colours))
+  kinds-are = ap (λ (z : Numbers). z .kinds) (p .numbers) ∙ sym (bounds-long (t .colours))
+
+  -- the colours' bounds, without the zeros past them
+  front-is : take (d .kinds) (d .bounds) ≡ boundsOf (t .colours)
+  front-is = ap (take (d .kinds)) bounds-are ∙ padded-front mostColours (boundsOf (t .colours)) (d .kinds) kinds-are
+
+  pub front-long : d .kinds ≡ length (take (d .kinds) (d .bounds))
+  front-long = kinds-are ∙ sym (ap length front-is)
+
+  pub front-in : d .kinds ≤ length (d .bounds)
+  front-in = omega (arith, kinds-are, ap length bounds-are, padded-long mostColours (boundsOf (t .colours)))
+
+  pub rule-found : (w r : ℕ) (ts : List ℕ) → w ≡ getD ls 0 0 → ts ≡ layoutBody ls →
+      r ≡ brokenOn (d .head) w (d .heights) (take (d .kinds) (d .bounds)) (d .xs) (d .ys) (d .colours) (tiesIn ts) (length ts) → r ≡ brokenBy (sheetBy d) ls
+  rule-found w r ts ew et e =
+      ruled (p .words) ls (p .accepted) (p .form) _ w r _ _ _ _ _ ts (ap (λ (z : Numbers). z .head) (p .numbers)) ew (ap (λ (z : Numbers). z .heights) (p .numbers)) front-is
+      (ap (λ (z : Numbers). z .xs) (p .numbers)) (ap (λ (z : Numbers). z .ys) (p .numbers)) (ap (λ (z : Numbers). z .colours) (p .numbers)) et e ∙
+      ap (λ (z : Sheet). brokenBy z ls) (sym (sheet-read (p .numbers)))

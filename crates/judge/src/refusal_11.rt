@@ -1,16 +1,13 @@
 // Refusal 11: where the layout begins in a stored list of words, and whether it is one of the sheet before it.
 ghost use mathlib.Core.Path.{_≡_};
 ghost use lib.ListN.{length};
-ghost use Rattle.sheet.specs.Sheet.{all, sheetIn};
-ghost use Rattle.labelling.specs.Layout.{layoutBody, isLayout, sheetPart};
+ghost use Rattle.sheet.specs.Sheet.{all};
+ghost use Rattle.labelling.specs.Layout.{layoutBody, sheetPart};
 ghost use Rattle.refusals.specs.Wordwise.{tieFits};
+ghost use Rattle.judge.specs.Opened.{layoutFits};
 use refusals::refusal_11::is_tie;
 use words::LAYOUT;
-use words::SITE;
-use words::SLOT;
 use words::TIES_AT;
-use words::body::body_of;
-use words::body::count_kind;
 use words::both;
 use words::kind_of;
 use words::same;
@@ -42,16 +39,14 @@ fn are_ties(m: usize, layout: &[u32]) -> bool
     true
 }
 
-// Whether the words are a layout of the sheet.
-pub fn is_layout(sheet: &[u32], layout: &[u32]) -> bool
-    ensures { λ r. ⌜ r ≡ isLayout (sheetIn (now (sheet .entry))) (now (layout .entry)) ⌝ }
+// Whether the words are a layout of a sheet with m slots and n sites.
+pub fn is_layout(m: usize, n: usize, layout: &[u32]) -> bool
+    ensures { λ r. ⌜ r ≡ layoutFits m n (now (layout .entry)) ⌝ }
 {
     if layout.len() < TIES_AT {
         return false;
     }
-    let body = body_of(sheet);
-    let long = layout.len() - TIES_AT == count_kind(body, SITE);
-    let m = count_kind(body, SLOT);
+    let long = layout.len() - TIES_AT == n;
     both(
         both(long, same(kind_of(layout[0]), LAYOUT)),
         are_ties(m, layout),

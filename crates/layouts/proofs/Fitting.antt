@@ -1,5 +1,5 @@
 -- The decoded numbers of an accepted sheet and the ties of a layout of it fit what the loops ask. Assumes nothing.
-use mathlib.Core.Path.{_≡_}
+use mathlib.Core.Path.{_≡_, ap}
 use mathlib.Core.Bool.{true}
 use mathlib.Core.List.{List, [], _∷_}
 use Prim.Native.Nat.{ℕ, zero, suc, _<_}
@@ -14,7 +14,8 @@ use Rattle.sheet.specs.Sheet.{all, Site, Sheet, sheetIn, sheetFault}
 use Rattle.sheet.proofs.Accepted.{sound, lowY}
 use Rattle.labelling.specs.Layout.{noSite, tiesAt, layoutBody, isLayout}
 use Rattle.labelling.proofs.Words.{height-low, formed}
-use Rattle.decoding.specs.Decoding.{headBy, xsOf, ysOf, coloursOf}
+use Rattle.decoding.specs.Decoding.{headBy, xsOf, ysOf, coloursOf, LayoutRead}
+use Rattle.decoding.specs.declared.Numbers.{Numbers}
 use Rattle.decoding.proofs.Fields.{xs-long, ys-long, colours-long}
 use Rattle.decoding.proofs.Places.{ys-at}
 use Rattle.words.specs.declared.tied.Head.{Head}
@@ -55,3 +56,19 @@ module _ (ss ls : List ℕ) (ok : sheetFault ss ≡ 0) (form : isLayout (sheetIn
         heights = λ k. rw (padded-at mostSlots (s .slots) k) (height-low (s .slots) k (sound ss ok .heights));
         ys = λ i. rw (padded-at mostSites (ysOf (s .sites)) i, ys-at (s .sites) i) (y-low (s .sites) i (sound ss ok .ys));
       })
+
+-- THE SAME for numbers that were read
+module _ {d : Numbers} {ls : List ℕ} (r : LayoutRead d ls) where
+  abbrev ws : List ℕ
+  ws = r .words
+
+  pub some-read : 0 < length ls
+  some-read = some ws ls (r .accepted) (r .form)
+
+  pub fits-read : (ts : List ℕ) → ts ≡ layoutBody ls → Fits (d .xs) (d .ys) (d .colours) ts
+  fits-read ts e =
+      fits ws ls (r .accepted) (r .form) _ _ _ _ (ap (λ (z : Numbers). z .xs) (r .numbers)) (ap (λ (z : Numbers). z .ys) (r .numbers)) (ap (λ (z : Numbers). z .colours) (r .numbers)) e
+
+  pub low-read : Low (d .head) (d .heights) (d .ys)
+  low-read =
+      low ws ls (r .accepted) (r .form) _ _ _ (ap (λ (z : Numbers). z .head) (r .numbers)) (ap (λ (z : Numbers). z .heights) (r .numbers)) (ap (λ (z : Numbers). z .ys) (r .numbers))

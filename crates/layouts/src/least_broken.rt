@@ -12,15 +12,15 @@ use words::tied::Head;
 // The least broken rule, or 0: sites that share a slot share a colour; no colour uses more slots than its bound; used slots are at
 // least D apart; no vertical shares a point with the backbone of another label; backbones lie clear of the sites of other labels;
 // the stated totals.
-pub fn broken_by(
+pub fn broken_by<'a>(
     h: Head,
     stated: u32,
-    heights: &[u32],
-    bounds: &[u32],
-    xs: &[u32],
-    ys: &[u32],
-    colours: &[u32],
-    ties: &[u32],
+    heights: &'a [u32],
+    bounds: &'a [u32],
+    xs: &'a [u32],
+    ys: &'a [u32],
+    colours: &'a [u32],
+    ties: &'a [u32],
 ) -> u8
     requires { ⌜ Fits (now xs) (now ys) (now colours) (now ties) ⌝ }
     requires { ⌜ Low h (now heights) (now ys) ⌝ }

@@ -3,10 +3,10 @@ mod length;
 mod writing;
 
 ghost use mathlib.Core.Path.{_≡_};
-ghost use Rattle.labelling.specs.Twin.{twinFaultIn, twinArea};
-ghost use Rattle.twin.specs.Twin.{twinPost};
+ghost use Rattle.labelling.specs.Twin.{twinArea};
+ghost use Rattle.twin.specs.Twin.{refusalIn, twinPost};
 use crate::writing::write_twin;
-use judge::judge_layout;
+use judge::opened::open_stored;
 
 // refusal: 1 to 7, 11, 13 or 9, 0 for none. written: the words of the twin, 0 beside a refusal.
 #[repr(C)]
@@ -15,18 +15,14 @@ pub struct Written {
     pub written: u32,
 }
 
-// The refusal with an area of so many words: the judge's; 13, a layout that is not lawful; 9, an area shorter than the stored sheet.
-fn refusal_of(stored: &[u32], lent: usize) -> u8
-    ensures { λ r. ⌜ r ≡ twinFaultIn (now (stored .entry)) lent ⌝ }
+// The refusal: the stored sheet's own; then 9, an area of fewer words than it has.
+fn refusal_of(refusal: u8, words: usize, lent: usize) -> u8
+    ensures { λ r. ⌜ r ≡ refusalIn refusal words lent ⌝ }
 {
-    let verdict = judge_layout(stored);
-    if verdict.refusal != 0 {
-        return verdict.refusal;
+    if refusal != 0 {
+        return refusal;
     }
-    if verdict.rule != 0 {
-        return 13;
-    }
-    if lent < stored.len() {
+    if lent < words {
         return 9;
     }
     0
@@ -36,14 +32,15 @@ pub fn make_twin(stored: &[u32], out: &mut [u32]) -> Written
     ensures { λ r. ⌜ r ≡ twinPost (now (stored .entry)) (now (out .entry)) ⌝ }
     ensures { λ r. ⌜ now (out .exit) ≡ twinArea (now (stored .entry)) (now (out .entry)) ⌝ }
 {
-    let refusal = refusal_of(stored, out.len());
+    let opened = open_stored(stored);
+    let refusal = refusal_of(opened.refusal, stored.len(), out.len());
     if refusal != 0 {
         return Written {
             refusal: refusal,
             written: 0,
         };
     }
-    write_twin(stored, out);
+    write_twin(stored, opened, out);
     let written = stored.len() as u32;
     Written {
         refusal: 0,

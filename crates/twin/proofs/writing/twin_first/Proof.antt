@@ -1,4 +1,4 @@
-use Rattle.layouts.proofs.Fitting.{some}
+use Rattle.layouts.proofs.Fitting.{some-read}
 use Rattle.twin.proofs.Stored.{first-fits, first-twin}
 use mathlib.Core.Path.{refl}
 use native.Mathlib.Omega.{arith}
@@ -8,9 +8,7 @@ use Rattle.twin.proofs.writing.twin_first.Tie as tie
 
 shared-slice-read-w : tie.Need-shared-slice-read-w
 shared-slice-read-w c =
-    let a = c .before .before .before .args in
-    let p = c .before .before .before .pre in
-    omega (arith, some (a .sheet .now) (a .layout .now) (p .0) (p .1))
+    omega (arith, some-read (c .before .before .pre))
 
 length-field-requires : tie.Need-length-field-requires
 length-field-requires c κs = search needs
@@ -23,15 +21,11 @@ one-sided-length-requires c κs = search needs
 
 add-result : tie.Need-add-result
 add-result c =
-    let a = c .before .before .before .before .before .args in
-    let p = c .before .before .before .before .before .pre in
-    omega (arith, first-fits (a .sheet .now) (a .layout .now) (p .0) (p .1) _ _ _ refl (c .before .length-field .ensures) (c .one-sided-length .ensures))
+    omega (arith, first-fits (c .before .before .before .before .pre) _ _ _ refl (c .before .length-field .ensures) (c .one-sided-length .ensures))
 
 returns : tie.Need-returns
 returns c =
-    let a = c .before .before .before .before .before .args in
-    let p = c .before .before .before .before .before .pre in
-    first-twin (a .sheet .now) (a .layout .now) (p .0) (p .1) _ _ _ refl (c .before .length-field .ensures) (c .one-sided-length .ensures)
+    first-twin (c .before .before .before .before .pre) _ _ _ refl (c .before .length-field .ensures) (c .one-sided-length .ensures)
 
 pub twin-first-spec : {M : Type 1} → statement M
 twin-first-spec =
