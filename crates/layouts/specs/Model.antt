@@ -1,5 +1,6 @@
 -- The model that the loops follow: tests and sums over the sites by their numbers, on a sheet's decoded numbers and the ties.
 -- Assumes nothing: these are definitions. proofs/RulesKept shows that they come to document 01's rules.
+use mathlib.Core.Path.{_≡_}
 use mathlib.Core.Bool.{Bool, true, not, cond}
 use mathlib.Core.List.{List}
 use Prim.Native.Nat.{ℕ, zero, suc, _+_, _-_, _≤_, _<_, min}
@@ -15,7 +16,7 @@ use Rattle.layouts.specs.declared.pairs.Test.{Test}
 use Rattle.layouts.specs.declared.pairs.Test.the-variants.{Colours, Gaps, Misses, Clears}
 use Rattle.layouts.specs.declared.labels.Among.{Among}
 use Rattle.layouts.specs.declared.labels.Among.the-variants.{All, Of}
-use Rattle.layouts.specs.Pairs.{passes}
+use Rattle.layouts.specs.Pairs.{passes, flawOf}
 
 abbrev pub oneIf : Bool → ℕ
 oneIf b = cond b 1 0
@@ -40,6 +41,17 @@ mostAdded = 32766
 abbrev pub tiedAt : (heights xs ys colours ties : List ℕ) → ℕ → TiedSite
 tiedAt hs xs ys cs js i =
     record { x = getD xs i 0; y = getD ys i 0; colour = getD cs i 0; slot = getD js i 0; height = getD hs (getD js i 0) 0 }
+
+-- the same by the height of each site's slot, which LevelsOf says of the first n sites
+abbrev pub tiedOn : (levels xs ys colours ties : List ℕ) → ℕ → TiedSite
+tiedOn vs xs ys cs js i = record { x = getD xs i 0; y = getD ys i 0; colour = getD cs i 0; slot = getD js i 0; height = getD vs i 0 }
+
+abbrev pub LevelsOf : (heights ties : List ℕ) → (n : ℕ) → (levels : List ℕ) → Type 0
+LevelsOf hs js n vs = (j : ℕ) → j < n → getD vs j 0 ≡ getD hs (getD js j 0) 0
+
+-- how many of the sites before i fail a test with site i
+abbrev pub flawsAt : Head → (sites : ℕ → TiedSite) → (i : ℕ) → ℕ
+flawsAt h ts i = sumBefore (λ j. flawOf h (ts i) (ts j)) i
 
 -- a tied site beside each of so many; each beside each
 abbrev pub passesAll : Test → Head → (sites : ℕ → TiedSite) → (count : ℕ) → TiedSite → Bool

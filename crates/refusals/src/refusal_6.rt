@@ -2,15 +2,14 @@
 ghost use mathlib.Core.Path.{_≡_};
 ghost use Rattle.refusals.specs.Wordwise.{isRanked};
 use words::SITE;
-use words::both;
 use words::kind_of;
 use words::rank_of;
 
-// A word is a site of this rank.
+// A word is a site of this rank. Asked of every two sites: one test, no branch.
 pub fn is_ranked(rank: u32, w: u32) -> bool
     ensures { λ r. ⌜ r ≡ isRanked rank w ⌝ }
 {
     let site = kind_of(w) == SITE;
     let equal = rank_of(w) == rank;
-    both(site, equal)
+    site & equal
 }

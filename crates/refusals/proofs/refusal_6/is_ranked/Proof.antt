@@ -10,12 +10,9 @@ kind-of-requires c κs = search needs
 rank-of-requires : tie.Need-rank-of-requires
 rank-of-requires c κs = search needs
 
-both-requires : tie.Need-both-requires
-both-requires c κs = search needs
-
 returns : tie.Need-returns
 returns c =
-    rw (c .both .ensures, c .before .rank-of .ensures, c .before .before .kind-of .ensures) refl
+    rw (c .rank-of .ensures, c .before .kind-of .ensures) refl
 
 pub is-ranked-spec : {M : Type 1} → statement M
 is-ranked-spec =
@@ -23,5 +20,4 @@ is-ranked-spec =
     (tie.spec
     kind-of-requires
     rank-of-requires
-    both-requires
     returns)
