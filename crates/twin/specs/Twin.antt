@@ -2,7 +2,7 @@
 use mathlib.Core.Bool.{false, not, cond}
 use mathlib.Core.List.{List}
 use Prim.Native.Nat.{ℕ}
-use lib.Dec.{ltb, eqb}
+use lib.Dec.{leb, eqb}
 use lib.ListN.{length}
 use Rattle.labelling.specs.Twin.{twinFault}
 use Rattle.words.specs.declared.tied.Head.{Head}
@@ -14,7 +14,7 @@ twinPost ws o = record { refusal = twinFault ws o; written = cond (eqb (twinFaul
 
 -- its refusal by that of the stored sheet, which has so many words, and the words that are lent
 abbrev pub refusalIn : (refusal words lent : ℕ) → ℕ
-refusalIn f n l = cond (not (eqb f 0)) f (cond (ltb l n) 9 0)
+refusalIn f n l = cond (not (eqb f 0)) f (cond (leb n l) 0 9)
 
 -- a head, one-sided
 abbrev pub headOneSided : Head → Head

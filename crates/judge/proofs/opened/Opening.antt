@@ -1,5 +1,5 @@
 -- What a stored sheet is opened to, by what was found of it. Assumes nothing.
-use mathlib.Core.Path.{_≡_, refl, sym, ap, _∙_}
+use mathlib.Core.Path.{_≡_, refl, sym, ap, ap₂, _∙_}
 use mathlib.Core.Bool.{true, false}
 use mathlib.Core.List.{List}
 use Prim.Native.Nat.{ℕ, _-_}
@@ -10,6 +10,7 @@ use Rattle.lists.proofs.Places.{part-from}
 use Rattle.sheet.specs.Sheet.{Sheet, sheetIn, sheetFault}
 use Rattle.labelling.specs.Layout.{isLayout, brokenBy, sheetPart, layoutPart, judgeFault, judged, storedFault}
 use Rattle.labelling.proofs.Judge.{judged-so}
+use Rattle.labelling.proofs.Refusals.{judge-chain}
 use Rattle.labelling.proofs.Stored.{stored-judge, stored-unlawful, stored-none, stored-accepted, stored-layout}
 use Rattle.decoding.specs.declared.Numbers.{Numbers}
 use Rattle.decoding.specs.Decoding.{numbersBy, sheetBy, LayoutRead}
@@ -44,6 +45,11 @@ module _ (ss ls : List ℕ) where
 
     pub parts-opened : isLayout (sheetIn ss) ls ≡ true → _≡_ {A = Opened} (record { refusal = 0; at = length ss; numbers = d }) (openedBy (partsFault ss ls) ss)
     parts-opened l = rw (k, eq-eqb (sheetFault ss) 0 h, l) refl
+
+-- of a stored sheet
+pub opened-parts : (ws ss ls : List ℕ) {o : Opened} → o ≡ openedBy (partsFault ss ls) ss → ss ≡ sheetPart ws → ls ≡ layoutPart ws → o ≡ layoutOpened ws
+opened-parts ws ss ls e p q =
+    e ∙ ap₂ (λ (s l : List ℕ). openedBy (partsFault s l) s) p q ∙ ap (λ (f : ℕ). openedBy f (sheetPart ws)) (sym (judge-chain ws))
 
 -- OPENED FOR THE JUDGE
 module _ (ws : List ℕ) {o : Opened} (e : o ≡ layoutOpened ws) where

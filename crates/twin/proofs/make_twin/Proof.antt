@@ -1,6 +1,7 @@
 use Rattle.twin.proofs.Faults.{unrefused, refused-post, written-post}
 use Rattle.twin.proofs.Stored.{few}
 use Rattle.labelling.specs.Twin.{twinFaultIn}
+use Rattle.labelling.proofs.Refusals.{twin-chain}
 use Rattle.judge.proofs.opened.Opening.{stored-refusal}
 use Rattle.twin.specs.Twin.{refusalIn}
 use mathlib.Core.Path.{_≡_, refl, ap, sym, _∙_}
@@ -15,7 +16,8 @@ use Rattle.twin.proofs.make_twin.Tie as tie
 fault-is : (c : tie.After-refusal-of) → c .refusal-of .result ≡ twinFaultIn (c .before .before .before .before .args .stored .now) (length (c .before .before .before .before .args .out .now))
 fault-is c =
     let a = c .before .before .before .before .args in
-    c .refusal-of .ensures ∙ ap (λ (f : ℕ). refusalIn f (length (a .stored .now)) (length (a .out .now))) (stored-refusal (a .stored .now) (c .before .open-stored .ensures))
+    c .refusal-of .ensures ∙ ap (λ (f : ℕ). refusalIn f (length (a .stored .now)) (length (a .out .now))) (stored-refusal (a .stored .now) (c .before .open-stored .ensures)) ∙
+    sym (twin-chain (a .stored .now) (length (a .out .now)))
 
 open-stored-requires : tie.Need-open-stored-requires
 open-stored-requires c κs = search needs

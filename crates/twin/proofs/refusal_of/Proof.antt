@@ -1,6 +1,6 @@
 use mathlib.Core.Path.{refl}
 use native.Mathlib.Omega.{arith}
-use borrow.Author.Tests.{eq-eqb, ne-eqb, lt-ltb, le-ltb}
+use borrow.Author.Tests.{eq-eqb, ne-eqb, lt-leb, le-leb}
 use Rattle.twin.proofs.refusal_of.Statement.{statement}
 use Rattle.twin.proofs.refusal_of.Tie as tie
 
@@ -11,12 +11,12 @@ returns c =
 returns-2 : tie.Need-returns-2
 returns-2 c =
     let a = c .before .before .args in
-    rw (eq-eqb (a .refusal) 0 (omega (arith, c .before .if1 .left)), lt-ltb (a .lent) (a .words) (c .if2 .taken)) refl
+    rw (eq-eqb (a .refusal) 0 (omega (arith, c .before .if1 .left)), lt-leb (a .words) (a .lent) (c .if2 .taken)) refl
 
 returns-3 : tie.Need-returns-3
 returns-3 c =
     let a = c .before .before .args in
-    rw (eq-eqb (a .refusal) 0 (omega (arith, c .before .if1 .left)), le-ltb (a .lent) (a .words) (c .if2 .left)) refl
+    rw (eq-eqb (a .refusal) 0 (omega (arith, c .before .if1 .left)), le-leb (a .words) (a .lent) (c .if2 .left)) refl
 
 pub refusal-of-spec : {M : Type 1} → statement M
 refusal-of-spec = tie.close (tie.spec returns returns-2 returns-3)

@@ -1,7 +1,11 @@
+use mathlib.Core.Path.{ap, _∙_}
+use Prim.Native.Nat.{ℕ}
+use lib.ListN.{take, drop}
+use Rattle.judge.proofs.opened.Opening.{opened-parts}
 use lib.Seq.{length-take-le}
 use Rattle.lists.proofs.Places.{part-from}
 use Rattle.judge.proofs.refusal_11.Parts.{sheet-front, sheet-le}
-use mathlib.Core.Path.{refl, sym, _∙_}
+use mathlib.Core.Path.{sym}
 use native.Mathlib.Omega.{arith}
 use borrow.Author.Needs.{needs}
 use Rattle.judge.proofs.opened.open_layout.Statement.{statement}
@@ -36,7 +40,8 @@ open-parts-requires c κs = search needs
 returns : tie.Need-returns
 returns c =
     let s = c .before .before .before .before .before .args .stored .now in
-    c .open-parts .ensures ∙ rw (part-from s (c .before .before .before .layout-start .result), c .before .before .before .layout-start .ensures, sheet-front s) refl
+    let e = c .before .before .before .layout-start .ensures in
+    opened-parts s _ _ (c .open-parts .ensures) (ap (λ (i : ℕ). take i s) e ∙ sheet-front s) (part-from s _ ∙ ap (λ (i : ℕ). drop i s) e)
 
 pub open-layout-spec : {M : Type 1} → statement M
 open-layout-spec =
