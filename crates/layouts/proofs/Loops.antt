@@ -1,20 +1,19 @@
 -- Loops over numbers: a test of all, a sum, the least. Assumes nothing.
 use mathlib.Core.Path.{_≡_, refl, sym, ap, _∙_}
-use mathlib.Core.Bool.{Bool, true, false, _&&_, cond}
+use mathlib.Core.Bool.{Bool, true, false, _&&_, _||_, cond}
 use mathlib.Core.List.{List, [], _∷_}
 use Prim.Native.Nat.{ℕ, zero, suc, _+_, _-_, _*_, _<_, _≤_, min}
 use native.Mathlib.Numerals.{add-one}
 use native.Mathlib.Omega.{arith}
 use lib.Dec.{eqb}
-use borrow.Author.Tests.{eqb-true}
 use lib.ListN.{getD}
-use Rattle.lists.proofs.Tests.{clash, and-l, and-r, and-i, is-false}
+use Rattle.lists.proofs.Tests.{clash, and-i, is-false}
 use Rattle.sheet.specs.Limits.{mostNumber}
 use Rattle.sheet.specs.Sheet.{bits}
 use Rattle.labelling.specs.Layout.{tiesIn, shareBy}
 use Rattle.labelling.proofs.Distances.{share-le}
 use Rattle.labelling.specs.Counted.{allBefore, sumBefore, isTaken, isFirst}
-use Rattle.labelling.proofs.Counted.{all-before, at-taken}
+use Rattle.labelling.proofs.Counted.{all-before}
 use Rattle.words.specs.declared.tied.Head.{Head}
 use Rattle.layouts.specs.declared.labels.Among.the-variants.{All}
 use Rattle.layouts.specs.Model.{oneIf, amongBy, Low, leastBefore, leftOn, lengthAt, mostAdded}
@@ -57,21 +56,17 @@ one-le true = omega arith
 one-le false = omega arith
 
 -- WHETHER A SLOT IS TAKEN
-pub taken-none : (p : ℕ → Bool) (js : List ℕ) (k : ℕ) → isTaken p js k 0 ≡ false
+pub taken-none : (p : ℕ → Bool) (js : List ℕ) (k : ℕ) → false ≡ isTaken p js k 0
 unfolding isTaken
 taken-none p js k = refl
 
-pub taken-more : (p : ℕ → Bool) (js : List ℕ) (k i : ℕ) {r : Bool} → r ≡ (p i && eqb (getD js i 0) k) → r ≡ false → isTaken p js k i ≡ false → isTaken p js k (i + 1) ≡ false
+-- by what callees found of the next
+pub taken-more : (p : ℕ → Bool) (js : List ℕ) (k i : ℕ) {t q r : Bool} → t ≡ isTaken p js k i → q ≡ p i → r ≡ eqb (getD js i 0) k → (t || (q && r)) ≡ isTaken p js k (i + 1)
 unfolding isTaken
-taken-more p js k i e f h = rw (add-one i, h, sym e, f) refl
+taken-more p js k i e f g = rw (add-one i, e, f, g) refl
 
-pub taken-found : (p : ℕ → Bool) (js : List ℕ) (k n i : ℕ) {r : Bool} → i < n → r ≡ (p i && eqb (getD js i 0) k) → r ≡ true → true ≡ isTaken p js k n
-taken-found p js k n i l e f =
-    let q : (p i && eqb (getD js i 0) k) ≡ true = sym e ∙ f in
-    sym (at-taken p js k n i l (and-l (p i) _ q) (eqb-true (getD js i 0) k (and-r (p i) _ q)))
-
-pub taken-end : (p : ℕ → Bool) (js : List ℕ) (k n i : ℕ) → i ≤ n → n ≤ i → isTaken p js k i ≡ false → false ≡ isTaken p js k n
-taken-end p js k n i l m h = let e : i ≡ n = omega arith in sym (ap (isTaken p js k) (sym e) ∙ h)
+pub taken-end : (p : ℕ → Bool) (js : List ℕ) (k n i : ℕ) {t : Bool} → i ≤ n → n ≤ i → t ≡ isTaken p js k i → t ≡ isTaken p js k n
+taken-end p js k n i l m h = let e : i ≡ n = omega arith in h ∙ ap (isTaken p js k) e
 
 -- THE LEAST
 pub least-more : (k w : ℕ) (f g : ℕ → ℕ) (i l : ℕ) → l ≡ leastBefore k w f g i → cond (eqb (f i) k) (min l (g i)) l ≡ leastBefore k w f g (i + 1)

@@ -6,7 +6,6 @@ ghost use Rattle.labelling.specs.Layout.{tiesIn};
 ghost use Rattle.labelling.specs.Counted.{isTaken, isFirst};
 ghost use Rattle.layouts.specs.Model.{oneIf, amongBy, countOn};
 use crate::ties::slot_at;
-use words::both;
 use words::is_not;
 use words::same;
 
@@ -41,19 +40,18 @@ fn is_among(a: Among, colours: &[u32], i: usize) -> bool
     }
 }
 
-// Whether a site before i, of those that are counted, has a slot.
+// Whether a site before i, of those that are counted, has a slot. No branch: several sites are looked at at a time.
 fn is_taken(a: Among, colours: &[u32], ties: &[u32], slot: u32, i: usize) -> bool
     requires { ⌜ (i ≤ length (now colours)) × (i ≤ length (now ties)) ⌝ }
     ensures { λ r. ⌜ r ≡ isTaken (amongBy a (now (colours .entry))) (tiesIn (now (ties .entry))) slot i ⌝ }
 {
+    let mut found = false;
     let mut j: usize = 0;
     while j < i {
-        if both(is_among(a, colours, j), same(slot_at(ties, j), slot)) {
-            return true;
-        }
+        found = found | (is_among(a, colours, j) & same(slot_at(ties, j), slot));
         j += 1;
     }
-    false
+    found
 }
 
 // Whether a site is counted and the first of those to have its slot.
@@ -61,10 +59,10 @@ pub fn is_first(a: Among, colours: &[u32], ties: &[u32], i: usize) -> bool
     requires { ⌜ (i < length (now colours)) × (i < length (now ties)) ⌝ }
     ensures { λ r. ⌜ r ≡ isFirst (amongBy a (now (colours .entry))) (tiesIn (now (ties .entry))) i ⌝ }
 {
-    both(
-        is_among(a, colours, i),
-        is_not(is_taken(a, colours, ties, slot_at(ties, i), i)),
-    )
+    if !is_among(a, colours, i) {
+        return false;
+    }
+    is_not(is_taken(a, colours, ties, slot_at(ties, i), i))
 }
 
 // How many slots the sites that are counted have: each is counted at the first of them that has it.
