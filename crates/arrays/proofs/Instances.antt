@@ -1,20 +1,24 @@
 -- The arrays of a sheet give its instances. Assumes nothing.
-use mathlib.Core.Path.{_≡_, refl, sym, _∙_}
+use mathlib.Core.Path.{_≡_, refl, sym, ap, _∙_}
 use mathlib.Core.Bool.{not}
 use mathlib.Core.List.{List, [], _∷_}
-use Prim.Native.Nat.{ℕ, zero, suc, _≤_}
+use Prim.Native.Nat.{ℕ, zero, suc, _<_, _≤_}
 use native.Mathlib.Omega.{arith}
 use lib.Dec.{eqb}
 use lib.ListN.{length, getD}
+use lib.Seq.{ext-getD}
 use Rattle.lists.proofs.Tests.{by-order}
 use Rattle.sheet.specs.Limits.{unbounded}
 use Rattle.sheet.specs.Sheet.{Colour, Sheet}
 use Rattle.search.proofs.Sums.{listing-first, listing-past}
 use Rattle.labelling.specs.Layout.{noColour}
 use Rattle.optimum.specs.Slots.{farEnough, sheetSlots}
-use Rattle.optimum.specs.OneSided.{leadOf, mayOpen, tipClear, markCount, turnOf, heldOf, radicesOf, drawsOf, wordOf, topWord, instanceOf, pointsAt}
+use Rattle.optimum.specs.OneSided.{leadOf, mayOpen, barredOf, hasSlot, markCount, turnOf, heldOf, radicesOf, drawsOf, wordOf, topWord, instanceOf, pointAt, pointsAt}
+use Rattle.optimum.specs.Reached.{noPoint}
 use Rattle.decoding.proofs.Places.{bounds-at, xs-at, ys-at, colours-at}
-use Rattle.arrays.specs.Arrays.{measuresOf, boundsOf, drawsList, xsOf, ysOf, coloursOf, gathered, turnBy, heldBy, instanceBy, pointsBy}
+use Rattle.arrays.specs.Arrays.{measuresOf, boundsOf, drawsList, xsOf, ysOf, coloursOf, gathered, turnBy, heldBy, instanceBy, barredBy, pointBy, pointsBy}
+use Rattle.arrays.proofs.Ordered.{gathered-long, gathered-word}
+use Rattle.arrays.proofs.Points.{points-long, point-at}
 
 past : (ks : List Colour) (c : ℕ) → length ks ≤ c → (getD ks c noColour) .bound ≡ unbounded
 past [] c h = refl
@@ -29,13 +33,13 @@ draws-at s c =
 
 -- THE ONE-SIDED INSTANCE
 pub instance-by : (s : Sheet) → instanceBy (measuresOf s) (s .slots) (boundsOf (s .colours)) (radicesOf (s .colours)) (drawsList s) ≡ instanceOf s
-unfolding farEnough leadOf mayOpen tipClear turnOf turnBy heldOf heldBy wordOf
+unfolding farEnough leadOf mayOpen turnOf turnBy heldOf heldBy wordOf
 instance-by s = λ i. record {
   slots = sheetSlots s;
   top = topWord;
   lead = leadOf s;
   may = λ t k. not (eqb (bounds-at (s .colours) (t .c) i) 0);
-  tip = tipClear s;
+  tip = λ t k. not (hasSlot (t .barred) k);
   markCount = markCount;
   turn = turnOf s;
   held = heldOf s;
@@ -45,8 +49,38 @@ instance-by s = λ i. record {
 }
 
 -- THE SITES BY RISING RANK, from one array of each number
-pub points-by : (s : Sheet) (is : List ℕ) → pointsBy (gathered (xsOf (s .sites)) is) (gathered (ysOf (s .sites)) is) (gathered (coloursOf (s .sites)) is) ≡ pointsAt s is
-unfolding pointsBy gathered pointsAt
-points-by s [] = refl
-points-by s (i ∷ is) =
-    λ j. record { x = xs-at (s .sites) i j; y = ys-at (s .sites) i j; c = colours-at (s .sites) i j } ∷ points-by s is j
+at-long : (s : Sheet) (is : List ℕ) → length (pointsAt s is) ≡ length is
+unfolding pointsAt
+at-long s [] = refl
+at-long s (i ∷ is) = ap suc (at-long s is)
+
+point-of : (s : Sheet) (is : List ℕ) (j : ℕ) → j < length is → getD (pointsAt s is) j noPoint ≡ pointAt s (getD is j 0)
+unfolding pointsAt
+point-of s [] j h = absurd (omega arith)
+point-of s (i ∷ is) zero h = refl
+point-of s (i ∷ is) (suc j) h = point-of s is j (omega arith)
+
+-- the slots that are barred are the sheet's
+barred-by : (s : Sheet) (is : List ℕ) (j : ℕ) → barredBy (measuresOf s) (s .slots) (gathered (xsOf (s .sites)) is) (gathered (ysOf (s .sites)) is) j ≡ barredOf s (getD is j 0)
+unfolding barredBy barredOf
+barred-by s is j = refl
+
+pub points-by : (s : Sheet) (is : List ℕ)
+    → pointsBy (measuresOf s) (s .slots) (gathered (xsOf (s .sites)) is) (gathered (ysOf (s .sites)) is) (gathered (coloursOf (s .sites)) is) ≡ pointsAt s is
+points-by s is =
+    ext-getD noPoint _ _ (long ∙ sym (at-long s is)) (λ j h.
+    let l : j < length is = omega (arith, long) in
+    point-at (measuresOf s) (s .slots) (gathered (xsOf (s .sites)) is) _ _ j (omega (arith, gathered-long (xsOf (s .sites)) is))
+    ∙ same j l ∙ sym (point-of s is j l))
+  where
+    long : length (pointsBy (measuresOf s) (s .slots) (gathered (xsOf (s .sites)) is) (gathered (ysOf (s .sites)) is) (gathered (coloursOf (s .sites)) is)) ≡ length is
+    long = points-long (measuresOf s) (s .slots) (gathered (xsOf (s .sites)) is) _ _ ∙ gathered-long (xsOf (s .sites)) is
+
+    same : (j : ℕ) → j < length is
+        → pointBy (measuresOf s) (s .slots) (gathered (xsOf (s .sites)) is) (gathered (ysOf (s .sites)) is) (gathered (coloursOf (s .sites)) is) j ≡ pointAt s (getD is j 0)
+    same j l = λ t. record {
+      x = (gathered-word (xsOf (s .sites)) is j l ∙ xs-at (s .sites) (getD is j 0)) t;
+      y = (gathered-word (ysOf (s .sites)) is j l ∙ ys-at (s .sites) (getD is j 0)) t;
+      c = (gathered-word (coloursOf (s .sites)) is j l ∙ colours-at (s .sites) (getD is j 0)) t;
+      barred = barred-by s is j t;
+    }

@@ -2,4 +2,5 @@ pub mod Instances
 pub mod Ordered
 pub mod Standing
 pub mod Marks
+pub mod Points
 pub mod Narrowed

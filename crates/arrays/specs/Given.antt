@@ -8,7 +8,7 @@ use Rattle.sheet.specs.Limits.{mostSlots, mostColours, mostSites, mostBudgets, 
 use Rattle.search.specs.Radix.{below}
 use Rattle.optimum.specs.Strips.{Point, Instance}
 use Rattle.arrays.specs.declared.Measures.{Measures}
-use Rattle.arrays.specs.Arrays.{instanceBy, pointsBy}
+use Rattle.arrays.specs.Arrays.{instanceBy, pointBy, pointsBy}
 
 -- the measures; the slots' heights; the colours' bounds, radices and draws; the sites by rising rank, and their places in the sheet;
 -- what may be taken from each budget, listed
@@ -52,12 +52,15 @@ onStrip q hs bs = given q hs bs [] [] [] [] [] [] [] []
 abbrev pub onStep : Measures → (heights bounds radices draws : List ℕ) → Given
 onStep q hs bs rs ds = given q hs bs rs ds [] [] [] [] [] []
 
--- the model's instance, and the sites as points
+-- the model's instance, and the sites as points: that of rank j, and all
 abbrev pub instanceOf : Given → Instance
 instanceOf g = instanceBy (g .measures) (g .heights) (g .bounds) (g .radices) (g .draws)
 
+abbrev pub pointIn : Given → (j : ℕ) → Point
+pointIn g j = pointBy (g .measures) (g .heights) (g .xs) (g .ys) (g .colours) j
+
 abbrev pub pointsOf : Given → List Point
-pointsOf g = pointsBy (g .xs) (g .ys) (g .colours)
+pointsOf g = pointsBy (g .measures) (g .heights) (g .xs) (g .ys) (g .colours)
 
 -- ---- what is asked of them
 
@@ -81,7 +84,7 @@ pub record OfSheet (g : Given) : Type 0 where
   pub full : (v : ℕ) → v < g .measures .budgets → below (g .radices) v (g .measures .budgets - 1) ≡ true
   pub ysLong : length (g .ys) ≡ length (g .xs)
   pub coloursLong : length (g .colours) ≡ length (g .xs)
-  pub siteIn : (i : ℕ) → i < length (g .xs) → SiteIn (g .measures) (record { x = getD (g .xs) i 0; y = getD (g .ys) i 0; c = getD (g .colours) i 0 })
+  pub siteIn : (i : ℕ) → i < length (g .xs) → SiteIn (g .measures) (pointIn g i)
   pub orderLow : (i : ℕ) → i < length (g .order) → getD (g .order) i 0 < length (g .xs)
 
 -- every colour has its bound: asked where bounds are read

@@ -27,19 +27,13 @@ use Rattle.arrays.specs.Arrays.{measuresOf, boundsOf, drawsList, xsOf, ysOf, co
 use Rattle.arrays.specs.Given.{Given, given, instanceOf, pointsOf, OfSheet}
 use Rattle.decoding.proofs.Places.{ys-at, colours-at}
 use Rattle.decoding.proofs.Fields.{bounds-long}
-use Rattle.arrays.proofs.Ordered.{gathered-long, radix-pos}
+use Rattle.arrays.proofs.Ordered.{gathered-long, gathered-word, radix-pos}
 use Rattle.rows.proofs.Folding.{size}
 use Rattle.rows.specs.Budgets.{Splits}
 use Rattle.walk.specs.Walk.{levelWords}
 use Rattle.walk.specs.Laid.{FilledIn, laidWork}
-use Rattle.walk.proofs.Tying.{points-long}
+use Rattle.arrays.proofs.Points.{points-long}
 use Rattle.onesided.specs.Laying.{RankedSites, arraysOf, LaysOut}
-
-gathered-get : (l os : List ℕ) (i : ℕ) → i < length os → getD (gathered l os) i 0 ≡ getD l (getD os i 0) 0
-unfolding gathered
-gathered-get l [] i h = absurd (omega arith)
-gathered-get l (o ∷ os) zero h = refl
-gathered-get l (o ∷ os) (suc i) h = gathered-get l os i (omega arith)
 
 radices-positive : (ks : List Colour) (k : ℕ) → k < length (radicesOf ks) → 0 < getD (radicesOf ks) k 0
 unfolding radicesOf
@@ -70,13 +64,13 @@ module _ (ws : List ℕ) (f : sheetFault ws ≡ 0) where
 
   ys-low : (i : ℕ) → i < length (order s) → getD (gathered (ysOf (s .sites)) (order s)) i 0 < numberTop
   ys-low i h =
-      let e = gathered-get (ysOf (s .sites)) (order s) i h ∙ ys-at (s .sites) (getD (order s) i 0) in
+      let e = gathered-word (ysOf (s .sites)) (order s) i h ∙ ys-at (s .sites) (getD (order s) i 0) in
       let l : (getD (s .sites) (getD (order s) i 0) noSite) .y < numberTop = ltb-true _ _ (all-at lowY noSite (s .sites) (o .ys) (getD (order s) i 0) (order-low i h)) in
       omega arith
 
   colours-low : (i : ℕ) → i < length (order s) → getD (gathered (coloursOf (s .sites)) (order s)) i 0 < length (s .colours)
   colours-low i h =
-      let e = gathered-get (coloursOf (s .sites)) (order s) i h ∙ colours-at (s .sites) (getD (order s) i 0) in
+      let e = gathered-word (coloursOf (s .sites)) (order s) i h ∙ colours-at (s .sites) (getD (order s) i 0) in
       let l : (getD (s .sites) (getD (order s) i 0) noSite) .colour < length (s .colours) = ltb-true _ _ (all-at (colourLow (length (s .colours))) noSite (s .sites) (o .coloured) (getD (order s) i 0) (order-low i h)) in
       omega arith
 
@@ -152,7 +146,7 @@ module _ {g : Given} {area : ℕ} {out : List ℕ} (l : LaysOut g area out) wher
   all-levels = ap (λ (n : ℕ). (n + 1) * levelWords g) (l .ranked)
 
   points-are : length (pointsOf g) ≡ length (g .xs)
-  points-are = points-long (g .xs) (g .ys) (g .colours) (length (g .xs)) refl (l .sheet .ysLong) (l .sheet .coloursLong)
+  points-are = points-long (g .measures) (g .heights) (g .xs) (g .ys) (g .colours)
 
   -- what the walk asks, from what the table was given
   pub filled-is : {ps ns work : List ℕ} → length work ≡ area → Splits (g .radices) (g .measures .budgets) ps ns

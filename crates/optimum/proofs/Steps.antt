@@ -142,13 +142,7 @@ module _ (P : Instance) where
   Turns L M (s ∷ ss) [] = Unit
   Turns L M (s ∷ ss) (k ∷ ks) = Turn L M s k × Turns (set L k (suc (s .c))) (marked P L M s k) ss ks
 
-  -- where every tip is clear, and no step is held
-  pub tips-all : ((s : Point) (k : ℕ) → tip s k ≡ true) → (ss : List Point) (L ks : List ℕ) → Tips L ss ks
-  unfolding Tips
-  tips-all f [] L ks = tt
-  tips-all f (s ∷ ss) L [] = tt
-  tips-all f (s ∷ ss) L (k ∷ ks) = (λ e. f s k, tips-all f ss (set L k (suc (s .c))) ks)
-
+  -- where no step is held
   pub turns-all : ((p : Strip) (s : Point) → held p s ≡ false) → (ss : List Point) (L M ks : List ℕ) → Turns L M ss ks
   unfolding Turns
   turns-all f [] L M ks = tt

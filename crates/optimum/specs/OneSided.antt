@@ -3,7 +3,7 @@
 use mathlib.Core.Bool.{Bool, true, false, cond, not}
 use mathlib.Core.List.{List, [], _∷_}
 use mathlib.Core.Option.{Option, none, some}
-use Prim.Native.Nat.{ℕ, zero, suc, _-_}
+use Prim.Native.Nat.{ℕ, zero, suc, _-_, _/_, _%_, _^_}
 use lib.Dec.{eqb, leb}
 use lib.ListN.{length, set, replicate}
 use Rattle.search.specs.Cost.{least, first}
@@ -28,9 +28,16 @@ leadOf s x = s .width - x
 unfoldable pub mayOpen : Sheet → Point → (k : ℕ) → Bool
 mayOpen s t k = not (eqb (boundOf s (t .c)) 0)
 
--- nothing else is asked of a label that this site opens at slot k
-unfoldable pub tipClear : Sheet → Point → (k : ℕ) → Bool
-tipClear s t k = true
+-- nothing else is asked of a label that site i opens at slot k; so the set of slots at which it may open none is empty
+unfoldable pub tipClear : Sheet → (i k : ℕ) → Bool
+tipClear s i k = true
+
+unfoldable pub barredOf : Sheet → (i : ℕ) → ℕ
+barredOf s i = 0
+
+-- slot k is in a set
+unfoldable pub hasSlot : (set k : ℕ) → Bool
+hasSlot b k = eqb (b / 2 ^ k % 2) 1
 
 -- how many marks there are: what is proved of rows holds for any number above 0; a site leaves the mark 0, and no mark holds one
 unfoldable pub markCount : ℕ
@@ -50,7 +57,7 @@ instanceOf s =
       top = topWord;
       lead = leadOf s;
       may = mayOpen s;
-      tip = tipClear s;
+      tip = λ t k. not (hasSlot (t .barred) k);
       markCount = markCount;
       turn = turnOf s;
       held = heldOf s;
@@ -82,7 +89,7 @@ order s = orderFrom s (length (s .sites)) 0
 
 -- a site as the table sees it, and the sites of these numbers
 abbrev pub pointAt : Sheet → ℕ → Point
-pointAt s i = record { x = siteAt s i .x; y = siteAt s i .y; c = siteAt s i .colour }
+pointAt s i = record { x = siteAt s i .x; y = siteAt s i .y; c = siteAt s i .colour; barred = barredOf s i }
 
 unfoldable pub pointsAt : Sheet → List ℕ → List Point
 pointsAt s [] = []

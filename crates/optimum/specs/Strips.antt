@@ -11,11 +11,12 @@ use Rattle.search.specs.Plan.{Rules, Rest}
 use Rattle.search.specs.Walk.{Process, answerBy}
 use Rattle.optimum.specs.Slots.{Slots, over, under, farFrom, clearFrom}
 
--- a site: x, y and its colour
+-- a site: x, y, its colour, and the set of slots (bit k: slot k) at which it may open no label
 pub record Point : Type 0 where
   pub x : ℕ
   pub y : ℕ
   pub c : ℕ
+  pub barred : ℕ
 
 -- a strip: the labels above and below it (0: the sheet's top edge, k + 1: slot k, m + 1: its bottom edge) and their
 -- colours (0: an edge has none, c + 1: colour c); d is the mark that the last site tied in it left

@@ -16,7 +16,7 @@ abbrev pub stripOf : held.Strip → Strip
 stripOf p = record { a = p .a; ca = p .ca; b = p .b; cb = p .cb; d = p .d }
 
 abbrev pub pointOf : tied.Site → Point
-pointOf s = record { x = s .x; y = s .y; c = s .c }
+pointOf s = record { x = s .x; y = s .y; c = s .c; barred = s .barred }
 
 -- ---- where rows stand: m slots, C colours
 

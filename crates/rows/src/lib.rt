@@ -5,11 +5,11 @@ pub mod rest;
 ghost use mathlib.Core.Path.{_≡_};
 ghost use mathlib.Core.List.{List};
 ghost use Prim.Native.Nat.{ℕ, suc, _+_, _*_, _<_, _≤_};
-ghost use lib.ListN.{length, getD, replicate};
+ghost use lib.ListN.{length, replicate};
 ghost use Rattle.sheet.specs.Limits.{mostSlots, mostColours, mostBudgets};
 ghost use Rattle.optimum.specs.Strips as model;
 ghost use Rattle.optimum.specs.OneSided.{markCount};
-ghost use Rattle.arrays.specs.Arrays.{instanceBy};
+ghost use Rattle.arrays.specs.Arrays.{instanceBy, barredBy, pointBy};
 ghost use Rattle.arrays.specs.declared.Measures as measured;
 ghost use Rattle.rows.specs.Rows.{stripOf, pointOf, rowOf, rowsOf, mostPlace, Lies, markedBy, upperPart, lowerPart, endPlace, lowPlace, upperEnd, LevelFits};
 use arrays::Measures;
@@ -27,10 +27,12 @@ pub struct Strip {
     pub d: u32,
 }
 
+// A site: x, y, its colour, and the set of slots (bit k: slot k) at which it may open no label.
 pub struct Site {
     pub x: u32,
     pub y: u32,
     pub c: u32,
+    pub barred: u64,
 }
 
 // An end of a strip: an edge or a label, by its slot (0 the top edge, k + 1 slot k, m + 1 the bottom edge) and its colour (0 none, c + 1 colour c).
@@ -45,16 +47,30 @@ pub struct PartRows {
     pub lower: usize,
 }
 
-// The site of rank j.
-pub fn site_at(xs: &[u32], ys: &[u32], colours: &[u32], j: usize) -> Site
-    requires { ⌜ (j < length (now xs)) × (j < length (now ys)) × (j < length (now colours)) ⌝ }
-    ensures { λ r. ⌜ pointOf r ≡ record { x = getD (now (xs .entry)) j 0; y = getD (now (ys .entry)) j 0; c = getD (now (colours .entry)) j 0 } ⌝ }
+// The slots at which the site of rank j may open no label: none.
+fn barred_of(q: Measures, heights: &[u32], xs: &[u32], ys: &[u32], j: usize) -> u64
+    ensures { λ r. ⌜ r ≡ barredBy q (now (heights .entry)) (now (xs .entry)) (now (ys .entry)) j ⌝ }
 {
-    Site {
-        x: xs[j],
-        y: ys[j],
-        c: colours[j],
-    }
+    0
+}
+
+// The site of rank j.
+pub fn site_at(
+    q: Measures,
+    heights: &[u32],
+    xs: &[u32],
+    ys: &[u32],
+    colours: &[u32],
+    j: usize,
+) -> Site
+    requires { ⌜ (j < length (now xs)) × (j < length (now ys)) × (j < length (now colours)) ⌝ }
+    ensures { λ r. ⌜ pointOf r ≡ pointBy q (now (heights .entry)) (now (xs .entry)) (now (ys .entry)) (now (colours .entry)) j ⌝ }
+{
+    let x = xs[j];
+    let y = ys[j];
+    let c = colours[j];
+    let barred = barred_of(q, heights, xs, ys, j);
+    Site { x, y, c, barred }
 }
 
 // How many rows a level has.

@@ -6,10 +6,12 @@ use Prim.Native.Nat.{ℕ, suc, _+_}
 use native.Mathlib.Omega.{arith}
 use lib.Dec.{eqb, ltb}
 use lib.ListN.{length, getD}
+use Rattle.lists.proofs.Tests.{not-f}
 use Rattle.sheet.specs.Limits.{unbounded}
 use Rattle.optimum.specs.Slots.{over, under, farFrom, clearFrom}
 use Rattle.optimum.specs.Strips.{Point, Strip, inside, opens, joinsUp, joinsDown, cost}
-use Rattle.optimum.specs.OneSided.{topWord}
+use Rattle.optimum.specs.OneSided.{topWord, hasSlot}
+use Rattle.optimum.proofs.Neighbours.{opens-e}
 use Rattle.arrays.specs.declared.Measures.{Measures}
 use Rattle.arrays.specs.Arrays.{slotsBy, heldBy, instanceBy}
 use Rattle.strips.specs.Strips.{instanceOn, gapLeft, siteOpens, openCost, joinCost}
@@ -36,27 +38,34 @@ module _ (q : Measures) (hs bs rs ds : List ℕ) where
   unfolding cost opens joinsUp joinsDown farFrom clearFrom
   cost-on p s k = refl
 
--- `opens`, by the slot's place, the gap it leaves, and what does not turn on it
+-- `opens`, by the slot's place, the gap it leaves, what does not turn on it, and that it is not barred
 pub opens-split : (q : Measures) (hs bs : List ℕ) (p : Strip) (s : Point) (k : ℕ)
-    → opens (instanceOn q hs bs) p s k ≡ (ltb (p .a) (k + 1) && ltb (k + 1) (p .b) && ltb k (length hs)) && (gapLeft (slotsBy q hs) p s k && siteOpens (instanceOn q hs bs) p s)
+    → opens (instanceOn q hs bs) p s k ≡ (ltb (p .a) (k + 1) && ltb (k + 1) (p .b) && ltb k (length hs)) && (gapLeft (slotsBy q hs) p s k && (siteOpens (instanceOn q hs bs) p s && not (hasSlot (s .barred) k)))
 unfolding opens gapLeft siteOpens
 opens-split q hs bs p s k =
     let P = instanceOn q hs bs in
     let e : k + 1 ≡ suc k = omega arith in
     regroup (ltb (p .a) (suc k)) (ltb (suc k) (p .b)) (ltb k (length hs)) (farFrom (slotsBy q hs) (p .a) (p .ca) k (suc (s .c))) (farFrom (slotsBy q hs) (p .b) (p .cb) k (suc (s .c)))
-    (clearFrom (slotsBy q hs) (p .a) (s .y)) (clearFrom (slotsBy q hs) (p .b) (s .y)) (not (eqb (getD bs (s .c) unbounded) 0)) (not (heldBy hs p s))
-    ∙ ap (λ (z : ℕ). (ltb (p .a) z && ltb z (p .b) && ltb k (length hs)) && (gapLeft (slotsBy q hs) p s k && siteOpens P p s)) (sym e)
+    (clearFrom (slotsBy q hs) (p .a) (s .y)) (clearFrom (slotsBy q hs) (p .b) (s .y)) (not (eqb (getD bs (s .c) unbounded) 0)) (not (hasSlot (s .barred) k)) (not (heldBy hs p s))
+    ∙ ap (λ (z : ℕ). (ltb (p .a) z && ltb z (p .b) && ltb k (length hs)) && (gapLeft (slotsBy q hs) p s k && (siteOpens P p s && not (hasSlot (s .barred) k)))) (sym e)
   where
-    regroup : (a b c d e f g h i : Bool) → (((((((((a && b) && c) && d) && e) && f) && g) && h) && true) && i) ≡ (((a && b) && c) && ((d && e) && (((f && g) && h) && i)))
-    regroup false b c d e f g h i = refl
-    regroup true false c d e f g h i = refl
-    regroup true true false d e f g h i = refl
-    regroup true true true false e f g h i = refl
-    regroup true true true true false f g h i = refl
-    regroup true true true true true false g h i = refl
-    regroup true true true true true true false h i = refl
-    regroup true true true true true true true false i = refl
-    regroup true true true true true true true true i = refl
+    regroup : (a b c d e f g h i j : Bool) → (((((((((a && b) && c) && d) && e) && f) && g) && h) && i) && j) ≡ (((a && b) && c) && ((d && e) && ((((f && g) && h) && j) && i)))
+    regroup false b c d e f g h i j = refl
+    regroup true false c d e f g h i j = refl
+    regroup true true false d e f g h i j = refl
+    regroup true true true false e f g h i j = refl
+    regroup true true true true false f g h i j = refl
+    regroup true true true true true false g h i j = refl
+    regroup true true true true true true false h i j = refl
+    regroup true true true true true true true false i j = refl
+    regroup true true true true true true true true false true = refl
+    regroup true true true true true true true true false false = refl
+    regroup true true true true true true true true true false = refl
+    regroup true true true true true true true true true true = refl
+
+-- a slot where a label may be opened is not barred
+pub opens-free : (q : Measures) (hs bs : List ℕ) (p : Strip) (s : Point) (k : ℕ) → opens (instanceOn q hs bs) p s k ≡ true → hasSlot (s .barred) k ≡ false
+opens-free q hs bs p s k e = not-f _ (opens-e (instanceOn q hs bs) p s k e .5)
 
 pub joins-down-by : (q : Measures) (hs bs : List ℕ) (p : Strip) (s : Point) (k : ℕ)
     → joinsDown (instanceOn q hs bs) p s k ≡ eqb (p .b) (k + 1) && ltb k (length hs) && eqb (p .cb) (s .c + 1) && clearFrom (slotsBy q hs) (p .a) (s .y)
@@ -68,7 +77,7 @@ joins-down-by q hs bs p s k =
 module _ (q : Measures) (hs bs : List ℕ) (p : Strip) (s : Point) (k : ℕ) where
   pub cost-opens : opens (instanceOn q hs bs) p s k ≡ true → cost (instanceOn q hs bs) p s k ≡ openCost q hs s k
   unfolding cost
-  cost-opens e = rw e
+  cost-opens e = rw (e, opens-free q hs bs p s k e)
 
   pub cost-joins : opens (instanceOn q hs bs) p s k ≡ false → cost (instanceOn q hs bs) p s k ≡ cond (joinsUp (instanceOn q hs bs) p s k || joinsDown (instanceOn q hs bs) p s k) (joinCost q hs s k) topWord
   unfolding cost

@@ -7,10 +7,10 @@ use Prim.Native.Nat.{ℕ, suc, _+_, _-_, _<_, _≤_}
 use native.Mathlib.Omega.{arith}
 use lib.ListN.{length, getD}
 use borrow.Author.Tests.{lt-ltb, ltb-true, eqb-true}
-use Rattle.lists.proofs.Tests.{by-test, by-either, and-both, and-of}
+use Rattle.lists.proofs.Tests.{by-test, by-either, and-both, and-of, not-f}
 use Rattle.labelling.proofs.Distances.{share-le}
 use Rattle.optimum.specs.Strips.{Point, Strip, opens, joinsUp, joinsDown}
-use Rattle.optimum.specs.OneSided.{topWord}
+use Rattle.optimum.specs.OneSided.{topWord, hasSlot}
 use Rattle.arrays.specs.declared.Measures.{Measures}
 use Rattle.arrays.specs.Arrays.{slotsBy, turnBy}
 use Rattle.arrays.specs.Given.{OfSheet, SiteIn, onSlots}
@@ -25,6 +25,7 @@ pub record Opening (q : Measures) (hs bs : List ℕ) (p : Strip) (s : Point) (k 
   pub slot : k < length hs
   pub gap : gapLeft (slotsBy q hs) p s k ≡ true
   pub site : siteOpens (instanceOn q hs bs) p s ≡ true
+  pub free : hasSlot (s .barred) k ≡ false
 
 pub opening : (q : Measures) (hs bs : List ℕ) (p : Strip) (s : Point) (k : ℕ) → opens (instanceOn q hs bs) p s k ≡ true → Opening q hs bs p s k
 opening q hs bs p s k e =
@@ -32,12 +33,13 @@ opening q hs bs p s k e =
     let b = and-both _ _ (w .0) in
     let c = and-both _ _ (b .0) in
     let g = and-both _ _ (w .1) in
-    record { above = ltb-true _ _ (c .0); under = ltb-true _ _ (c .1); slot = ltb-true _ _ (b .1); gap = g .0; site = g .1 }
+    let t = and-both _ _ (g .1) in
+    record { above = ltb-true _ _ (c .0); under = ltb-true _ _ (c .1); slot = ltb-true _ _ (b .1); gap = g .0; site = t .0; free = not-f _ (t .1) }
 
 pub opens-of : (q : Measures) (hs bs : List ℕ) (p : Strip) (s : Point) (k : ℕ) → Opening q hs bs p s k → opens (instanceOn q hs bs) p s k ≡ true
 opens-of q hs bs p s k o =
     opens-split q hs bs p s k
-    ∙ and-of _ _ (and-of _ _ (and-of _ _ (lt-ltb _ _ (o .above)) (lt-ltb _ _ (o .under))) (lt-ltb _ _ (o .slot))) (and-of _ _ (o .gap) (o .site))
+    ∙ and-of _ _ (and-of _ _ (and-of _ _ (lt-ltb _ _ (o .above)) (lt-ltb _ _ (o .under))) (lt-ltb _ _ (o .slot))) (and-of _ _ (o .gap) (and-of _ _ (o .site) (rw (o .free))))
 
 module _ (q : Measures) (hs bs : List ℕ) (p : Strip) (s : Point) where
   -- a label cannot be opened where one is joined

@@ -8,7 +8,7 @@ use lib.ListN.{length, getD}
 use Rattle.labelling.specs.Layout.{shareBy}
 use Rattle.optimum.specs.Slots.{Slots, farFrom, clearFrom}
 use Rattle.optimum.specs.Strips.{Point, Strip, Instance, joinsUp, joinsDown}
-use Rattle.optimum.specs.OneSided.{topWord}
+use Rattle.optimum.specs.OneSided.{topWord, hasSlot}
 use Rattle.arrays.specs.declared.Measures.{Measures}
 use Rattle.arrays.specs.Arrays.{turnBy}
 use Rattle.arrays.specs.Given.{onStrip, instanceOf}
@@ -48,9 +48,9 @@ pub record WindowOf (S : Slots) (p : Strip) (s : Point) (w : Window) : Type 0 wh
   pub high : w .from < w .to → w .to < p .b
   pub leaves : (k : ℕ) → p .a ≤ k → k + 1 < p .b → gapLeft S p s k ≡ leb (w .from) k && ltb k (w .to)
 
--- what a step costs that opens a label, and one that joins it
+-- what a step costs that opens a label, none if the slot is barred, and one that joins it
 abbrev pub openCost : Measures → (heights : List ℕ) → Point → (slot : ℕ) → ℕ
-openCost q hs s k = wordBy q 1 (q .head .width - s .x + shareBy (getD hs k 0) (s .y))
+openCost q hs s k = cond (hasSlot (s .barred) k) topWord (wordBy q 1 (q .head .width - s .x + shareBy (getD hs k 0) (s .y)))
 
 abbrev pub joinCost : Measures → (heights : List ℕ) → Point → (slot : ℕ) → ℕ
 joinCost q hs s k = wordBy q 0 (shareBy (getD hs k 0) (s .y))

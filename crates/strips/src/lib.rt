@@ -6,6 +6,7 @@ ghost use Prim.Native.Nat.{ℕ, _+_, _<_, _≤_};
 ghost use lib.ListN.{length};
 ghost use Rattle.sheet.specs.Limits.{mostSlots, mostColours};
 ghost use Rattle.optimum.specs.Strips as model;
+ghost use Rattle.optimum.specs.OneSided.{hasSlot};
 ghost use Rattle.strips.specs.Strips.{riseCost, fallCost, risen, fallen, instanceOn, FirstFar, FarEnd, WindowOf, siteOpens, openCost, joinCost};
 ghost use Rattle.rows.specs.Rows.{stripOf, pointOf, Lies};
 ghost use Rattle.arrays.specs.Arrays.{slotsBy, turnBy, heldBy};
@@ -121,6 +122,14 @@ pub fn site_opens(q: Measures, heights: &[u32], bounds: &[u32], p: Strip, s: Sit
     both(free, is_not(is_held(heights, p, s)))
 }
 
+// The site may open no label at slot k.
+fn is_barred(s: Site, k: u32) -> bool
+    requires { ⌜ k ≤ mostSlots ⌝ }
+    ensures { λ r. ⌜ r ≡ hasSlot (s .barred) k ⌝ }
+{
+    (s.barred >> k) % 2 == 1
+}
+
 // The site, which lies in the strip, may open a label at slot k.
 fn opens(q: Measures, heights: &[u32], bounds: &[u32], p: Strip, s: Site, k: u32) -> bool
     requires { ⌜ (s .c < length (now bounds)) × (s .c < mostColours) × (k ≤ mostSlots) ⌝ }
@@ -133,7 +142,11 @@ fn opens(q: Measures, heights: &[u32], bounds: &[u32], p: Strip, s: Site, k: u32
         is_far(q, heights, p.a, p.ca, k, c),
         is_far(q, heights, p.b, p.cb, k, c),
     );
-    both(between, both(gap, site_opens(q, heights, bounds, p, s)))
+    let free = both(
+        site_opens(q, heights, bounds, p, s),
+        is_not(is_barred(s, k)),
+    );
+    both(between, both(gap, free))
 }
 
 // It may join the label above, at slot k; the label below.
@@ -155,16 +168,17 @@ fn joins_down(q: Measures, heights: &[u32], p: Strip, s: Site, k: u32) -> bool
     both(own, is_clear(q, heights, p.a, s.y))
 }
 
-// What it costs to open a label at slot k; to join one there.
+// What it costs to open a label at slot k, NONE if the slot is barred; to join one there.
 pub fn open_cost(q: Measures, heights: &[u32], s: Site, k: u32) -> u32
-    requires { ⌜ OfSheet (onSlots q (now heights)) × SiteIn q (pointOf s) ⌝ }
+    requires { ⌜ OfSheet (onSlots q (now heights)) × SiteIn q (pointOf s) × (k ≤ mostSlots) ⌝ }
     ensures { λ r. ⌜ r ≡ openCost q (now (heights .entry)) (pointOf s) k ⌝ }
 {
-    cost_word(
+    let cost = cost_word(
         q,
         1,
         monus(q.head.width, s.x) + share_of(get(heights, k), s.y),
-    )
+    );
+    choose(is_barred(s, k), NONE, cost)
 }
 
 fn join_cost(q: Measures, heights: &[u32], s: Site, k: u32) -> u32

@@ -21,7 +21,7 @@ use Rattle.optimum.proofs.Full.{none-at-full}
 use Rattle.optimum.proofs.Loops.{at-drop}
 use Rattle.arrays.specs.declared.Measures.{Measures}
 use Rattle.arrays.specs.Arrays.{turnBy}
-use Rattle.arrays.specs.Given.{Given, instanceOf, pointsOf, OfSheet, SiteIn}
+use Rattle.arrays.specs.Given.{Given, instanceOf, pointIn, pointsOf, OfSheet, SiteIn}
 use Rattle.strips.specs.Strips.{instanceOn}
 use Rattle.rows.specs.Budgets.{Others, Splits, leftBy}
 use Rattle.rows.specs.Rows.{rowOf, rowsOf, rowIn, levelOf, upperPart, lowerPart}
@@ -30,7 +30,8 @@ use Rattle.table.proofs.entries.Entries.{Falls, cell-row, entry-by}
 use Rattle.table.specs.Marks.{Shaped, ReachMarked}
 use Rattle.parts.specs.Parts.{Marked}
 use Rattle.table.proofs.marks.Levels.{next-level, level-within, row-within}
-use Rattle.table.proofs.marks.Points.{points-long, point-at, drop-point}
+use Rattle.arrays.proofs.Points.{points-long, point-at}
+use Rattle.table.proofs.marks.Points.{drop-point}
 use Rattle.table.proofs.marks.Asked.{asks-parts}
 use Rattle.table.proofs.marks.Reach.{asks-by, reached-on, reached-shape}
 use Rattle.table.specs.Levels.{RowFilled, TableReady, LevelRight, LevelMarked}
@@ -64,7 +65,7 @@ module _ {g : Given} (o : OfSheet g) where
   rising = o .rising
 
   sites-many : length ss ≡ length xs
-  sites-many = points-long xs (g .ys) (g .colours) (o .ysLong) (o .coloursLong)
+  sites-many = points-long q hs xs (g .ys) (g .colours)
 
   -- what is reached has a row
   shape : (j : ℕ) → j ≤ length xs → (p : Strip) → Reached P ss j p → Shaped (length hs) (q .colours) p
@@ -82,7 +83,7 @@ module _ {g : Given} (o : OfSheet g) where
       row-inside r rows n v h k = omega (arith, row-within r rows n h)
 
   -- a level from the one below it
-  pub level-right : (old new parts counts left : List ℕ) (j base low : ℕ) (s : Point) → s ≡ record { x = getD xs j 0; y = getD (g .ys) j 0; c = getD (g .colours) j 0 }
+  pub level-right : (old new parts counts left : List ℕ) (j base low : ℕ) (s : Point) → s ≡ pointIn g j
       → Splits rs (q .budgets) parts counts → j < length xs
       → ((v : ℕ) → v < q .budgets → getD left v 0 ≡ leftBy rs (getD ds (s .c) 0) v)
       → ((p : Strip) → Shaped (length hs) (q .colours) p → RowFilled q hs bs parts counts left old new base low s p)
@@ -97,7 +98,7 @@ module _ {g : Given} (o : OfSheet g) where
       ∙ ap (λ (l : List Point). T (rulesOf P) l p v) (sym (drop-point ss j (omega (arith, sites-many)) ∙ ap (λ (x : Point). x ∷ drop (j + 1) ss) here))
     where
       here : getD ss j noPoint ≡ s
-      here = point-at xs (g .ys) (g .colours) j (o .ysLong) (o .coloursLong) h ∙ sym is
+      here = point-at q hs xs (g .ys) (g .colours) j h ∙ sym is
 
       next : (x : Strip) → Asks P p s x → Reached P ss (j + 1) x
       next x w = subst (λ (n : ℕ). Reached P ss n x) (sym (add-one j)) (p, a, subst (λ (y : Point). Asks P p y x) (sym here) w)
@@ -120,7 +121,7 @@ module _ {g : Given} (o : OfSheet g) where
           (none _ (asks-by q hs bs rs ds p s _ (a .0)), none _ (asks-by q hs bs rs ds p s _ (a .1)))
 
   -- the site of rank j stands on the sheet
-  pub site-stands : (j : ℕ) (s : Point) → s ≡ record { x = getD xs j 0; y = getD (g .ys) j 0; c = getD (g .colours) j 0 } → j < length xs → SiteIn q s
+  pub site-stands : (j : ℕ) (s : Point) → s ≡ pointIn g j → j < length xs → SiteIn q s
   site-stands j s e h = subst (SiteIn q) (sym e) (o .siteIn j h)
 
   -- THE TABLE, from its levels

@@ -125,7 +125,7 @@ fn fill_site(
     requires { λ g. ⌜ TableReady g (length (now work)) × LevelAt g size j ⌝ }
     ensures { λ g _. ⌜ SiteFilled g size j (now (work .entry)) (now (work .exit)) ⌝ }
 {
-    let s = rows::site_at(xs, ys, cs, j);
+    let s = rows::site_at(q, heights, xs, ys, cs, j);
     let draw = words::get(draws, s.c);
     let mut left = [0u8; BUDGETS_LENGTH];
     list_left(radices, draw, q.budgets as usize, &mut left);

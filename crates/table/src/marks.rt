@@ -191,7 +191,7 @@ fn mark_site(
     requires { λ g. ⌜ OfSheet g × Bounded g × TableFits g (length (now work)) × LevelAt g size j ⌝ }
     ensures { λ g _. ⌜ SiteLed g size j (now (work .entry)) (now (work .exit)) ⌝ }
 {
-    let s = rows::site_at(xs, ys, cs, j);
+    let s = rows::site_at(q, heights, xs, ys, cs, j);
     follow_level(work, q, heights, bounds, s, j * size, (j + 1) * size);
 }
 

@@ -1,8 +1,8 @@
 -- One step of the walk: the slot that the loop finds is the walk's, and where the walk stands after it. Assumes nothing.
 use mathlib.Core.Path.{_≡_, refl, sym, ap, ap₂, _∙_, subst, subst⁻¹}
 use mathlib.Core.Bool.{true}
-use mathlib.Core.List.{List, [], _∷_}
-use Prim.Native.Nat.{ℕ, zero, suc, _+_, _-_, _*_, _≤_, _<_}
+use mathlib.Core.List.{List, _∷_}
+use Prim.Native.Nat.{ℕ, suc, _+_, _-_, _*_, _≤_, _<_}
 use native.Mathlib.Nat.{mul-le-mul, mul-le-mul-right}
 use native.Mathlib.Numerals.{add-one}
 use native.Mathlib.Omega.{arith}
@@ -16,8 +16,8 @@ use Rattle.search.proofs.Cost.{first-is}
 use Rattle.search.specs.Walk.{chooseBy, walkBy}
 use Rattle.arrays.specs.declared.Measures.{Measures}
 use Rattle.sheet.specs.Limits.{mostSites, mostLevel}
-use Rattle.arrays.specs.Arrays.{pointsBy}
-use Rattle.arrays.specs.Given.{Given, instanceOf, pointsOf, SiteIn}
+use Rattle.arrays.proofs.Points.{points-long, point-at}
+use Rattle.arrays.specs.Given.{Given, instanceOf, pointIn, pointsOf, SiteIn}
 use Rattle.optimum.specs.Strips.{Point, Strip, Instance, State, hold, price, next, labels}
 use Rattle.labelling.specs.Layout.{tieWord}
 use Rattle.optimum.specs.OneSided.{topWord, writeTies}
@@ -28,26 +28,6 @@ use Rattle.strips.specs.Steps.{priceIn, budgetLeft}
 use Rattle.walk.specs.Walk.{Found, valueIn, worthIn, levelWords, WalkIn, Standing, tiedFrom}
 use Rattle.rows.proofs.Folding.{size}
 use Rattle.walk.proofs.Value.{first-under, next-is}
-
--- ---- the sites by their numbers
-
-pub points-long : (xs ys cs : List ℕ) (n : ℕ) → length xs ≡ n → length ys ≡ n → length cs ≡ n → length (pointsBy xs ys cs) ≡ n
-unfolding pointsBy
-points-long [] ys cs n a b c = a
-points-long (x ∷ xs) [] cs n a b c = absurd (omega arith)
-points-long (x ∷ xs) (y ∷ ys) [] n a b c = absurd (omega arith)
-points-long (x ∷ xs) (y ∷ ys) (d ∷ cs) zero a b c = absurd (omega arith)
-points-long (x ∷ xs) (y ∷ ys) (d ∷ cs) (suc n) a b c = ap suc (points-long xs ys cs n (omega arith) (omega arith) (omega arith))
-
-point-by : (xs ys cs : List ℕ) (n i : ℕ) → length xs ≡ n → length ys ≡ n → length cs ≡ n → i < n
-    → getD (pointsBy xs ys cs) i noPoint ≡ record { x = getD xs i 0; y = getD ys i 0; c = getD cs i 0 }
-unfolding pointsBy
-point-by [] ys cs n i a b c l = absurd (omega arith)
-point-by (x ∷ xs) [] cs n i a b c l = absurd (omega arith)
-point-by (x ∷ xs) (y ∷ ys) [] n i a b c l = absurd (omega arith)
-point-by (x ∷ xs) (y ∷ ys) (d ∷ cs) zero i a b c l = absurd (omega arith)
-point-by (x ∷ xs) (y ∷ ys) (d ∷ cs) (suc n) zero a b c l = refl
-point-by (x ∷ xs) (y ∷ ys) (d ∷ cs) (suc n) (suc i) a b c l = point-by xs ys cs n i (omega arith) (omega arith) (omega arith) (omega arith)
 
 module _ {g : Given} {work : List ℕ} (a : WalkIn g work) where
   abbrev q : Measures
@@ -66,7 +46,7 @@ module _ {g : Given} {work : List ℕ} (a : WalkIn g work) where
   points = pointsOf g
 
   abbrev site : ℕ → Point
-  site j = record { x = getD (g .xs) j 0; y = getD (g .ys) j 0; c = getD (g .colours) j 0 }
+  site j = pointIn g j
 
   abbrev inWords : State P → List Point → ℕ
   inWords = worthIn g work
@@ -74,14 +54,8 @@ module _ {g : Given} {work : List ℕ} (a : WalkIn g work) where
   abbrev none : List ℕ
   none = replicate (suc (length hs)) 0
 
-  ys-long : length (g .ys) ≡ length order
-  ys-long = a .sheet .ysLong ∙ sym (a .ranked)
-
-  colours-long : length (g .colours) ≡ length order
-  colours-long = a .sheet .coloursLong ∙ sym (a .ranked)
-
   pub long : length points ≡ length order
-  long = points-long (g .xs) (g .ys) (g .colours) (length order) (sym (a .ranked)) ys-long colours-long
+  long = points-long q hs (g .xs) (g .ys) (g .colours) ∙ sym (a .ranked)
 
   pub site-in : (j : ℕ) → j < length order → SiteIn q (site j)
   site-in j l = a .sheet .siteIn j (omega (arith, a .ranked))
@@ -89,7 +63,7 @@ module _ {g : Given} {work : List ℕ} (a : WalkIn g work) where
   pub sites-left : (j : ℕ) → j < length order → drop j points ≡ site j ∷ drop (suc j) points
   sites-left j l =
       drop-cons points j noPoint (omega (arith, long))
-      ∙ ap (λ (s : Point). s ∷ drop (suc j) points) (point-by (g .xs) (g .ys) (g .colours) (length order) j (sym (a .ranked)) ys-long colours-long l)
+      ∙ ap (λ (s : Point). s ∷ drop (suc j) points) (point-at q hs (g .xs) (g .ys) (g .colours) j (omega (arith, a .ranked)))
 
   -- the level of the sites after the first j
   pub level-of : (j : ℕ) (L out : List ℕ) (v here : ℕ) → j < length order → Standing g work L out j v here

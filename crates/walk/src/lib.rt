@@ -37,7 +37,7 @@ fn tie_site(
     ensures { λ g r. ⌜ Standing g (now (work .entry)) (now (labels .exit)) (now (out .exit)) (j + 1) (r .budget) (r .cost) ⌝ }
     ensures { λ g r. ⌜ tiedFrom g (now (work .entry)) (now (labels .entry)) (now (out .entry)) j (left .budget) ≡ tiedFrom g (now (work .entry)) (now (labels .exit)) (now (out .exit)) (j + 1) (r .budget) ⌝ }
 {
-    let s = rows::site_at(xs, ys, colours, j);
+    let s = rows::site_at(q, heights, xs, ys, colours, j);
     let p = rows::hold_of(heights, labels, s.y);
     let size = level_size(q, heights.len());
     let base = (j + 1) * size;

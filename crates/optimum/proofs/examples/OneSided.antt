@@ -12,10 +12,10 @@ use Rattle.labelling.specs.Layout.{tiedOf, isUsed, usedFrom, leastX, slotsOf, b
 use Rattle.optimum.specs.Slots.{over, under, farFrom, clearFrom, farEnough}
 use Rattle.optimum.specs.Strips.{marked, inside, opens, joinsUp, joinsDown, cost, draw, children, stripsFrom, strips, holdFrom, hold, price, next, value, walked}
 use Rattle.optimum.specs.Examples.{Starred, Misreadings}
-use Rattle.optimum.specs.OneSided.{leadOf, mayOpen, tipClear, turnOf, heldOf, radicesOf, drawsOf, wordOf, rankFrom, siteOf, orderFrom, order, pointsAt, scatter, oneSided}
+use Rattle.optimum.specs.OneSided.{leadOf, mayOpen, barredOf, hasSlot, turnOf, heldOf, radicesOf, drawsOf, wordOf, rankFrom, siteOf, orderFrom, order, pointsAt, scatter, oneSided}
 
 pub examples : Starred × Misreadings
-unfolding plus least first sum prod conv cheaper never just table rest below place weight T Rest chooseBy walkBy answerBy slotsIn coloursIn sitesRun sitesIn productOf over under inside farFrom clearFrom opens joinsUp joinsDown cost draw children stripsFrom strips holdFrom hold marked price next value walked farEnough farBy clearBy countsBy shareBy leadOf mayOpen tipClear turnOf heldOf all radicesOf drawsOf wordOf rankFrom rankBy siteOf orderFrom order pointsAt scatter oneSided tiedOf isUsed usedFrom leastX slotsOf boundsKept backbones drops byRank slotAt comesFirst Rattle.labelling.specs.Layout.nextRank
+unfolding plus least first sum prod conv cheaper never just table rest below place weight T Rest chooseBy walkBy answerBy slotsIn coloursIn sitesRun sitesIn productOf over under inside farFrom clearFrom opens joinsUp joinsDown cost draw children stripsFrom strips holdFrom hold marked price next value walked farEnough farBy clearBy countsBy shareBy leadOf mayOpen barredOf hasSlot turnOf heldOf all radicesOf drawsOf wordOf rankFrom rankBy siteOf orderFrom order pointsAt scatter oneSided tiedOf isUsed usedFrom leastX slotsOf boundsKept backbones drops byRank slotAt comesFirst Rattle.labelling.specs.Layout.nextRank
 examples = (
   ((refl, refl, refl), refl, refl, refl, refl, refl),
   ((refl, refl, refl), (refl, refl, refl), (refl, refl), (refl, refl), (refl, refl, refl), (refl, refl, refl), (refl, refl, refl), (refl, refl, refl)),

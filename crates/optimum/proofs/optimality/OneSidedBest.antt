@@ -32,14 +32,14 @@ use Rattle.optimum.specs.CostWord.{layoutCost}
 use Rattle.optimum.specs.OneSided.{boundOf, wordOf, topWord, instanceOf, order, pointAt, pointsAt, scatter, tiesOf, oneSided}
 use Rattle.optimum.proofs.StripsHeld.{walked-first, walked-none}
 use Rattle.optimum.proofs.Neighbours.{Apart}
-use Rattle.optimum.proofs.Steps.{Steps, Pays, Tips, Turns, tips-all, turns-all, opened, total, run-e, run-i}
+use Rattle.optimum.proofs.Steps.{Steps, Pays, Tips, Turns, turns-all, opened, total, run-e, run-i}
 use Rattle.optimum.proofs.Pairs.{zeros, StepAll, Pairs, steps-e, steps-i, first-step}
 use Rattle.optimum.proofs.optimality.Pays.{isOf, pays-e, pays-i}
 use Rattle.optimum.proofs.Budgets.{bounded-low, full-digit}
 use Rattle.optimum.proofs.optimality.CostWord.{layout-low, better-costs}
 use Rattle.optimum.proofs.optimality.Order.{Rise, ordered, gather, scatter-long, gather-scatter}
 use Rattle.optimum.proofs.optimality.Distances.{good}
-use Rattle.optimum.proofs.optimality.Instance.{tip-clear, not-held, linear, budgeted}
+use Rattle.optimum.proofs.optimality.Instance.{tips-clear, not-held, linear, budgeted}
 use Rattle.optimum.proofs.optimality.RankedPairs.{AllPairs, pairs-rising, rising-pairs, list-e, list-i}
 use Rattle.optimum.proofs.optimality.Counts.{shares-drops, count-is, lead-is, colour-is}
 pub use Rattle.optimum.specs.Budgets.{fullBudget}
@@ -94,7 +94,7 @@ module _ (s : Sheet) (o : Sound s) (one : s .isTwoSided ≡ false) where
             (list-i s js (order s) (ordered s o .rise) (λ i j ui uj h. pairs-rising s o one js p i j (ordered s o .low i ui .0) (ordered s o .low j uj .0) h))
 
         tips : Tips (instanceOf s) (replicate (length (s .slots)) 0) (pointsAt s (order s)) (gather js (order s))
-        tips = tips-all (instanceOf s) (tip-clear s) (pointsAt s (order s)) _ (gather js (order s))
+        tips = tips-clear s (order s) _ (gather js (order s))
 
         turns : Turns (instanceOf s) (replicate (length (s .slots)) 0) (replicate (suc (length (s .slots))) 0) (pointsAt s (order s)) (gather js (order s))
         turns = turns-all (instanceOf s) (not-held s) (pointsAt s (order s)) _ _ (gather js (order s))

@@ -1,4 +1,4 @@
-use mathlib.Core.Path.{_∙_}
+use mathlib.Core.Path.{refl}
 use Prim.Native.Nat.{_<_}
 use native.Mathlib.Omega.{arith}
 use borrow.Author.Needs.{needs}
@@ -33,11 +33,17 @@ cost-word-requires c κs =
     let p = begin (c .before) .pre in
     omega (arith, p .0 .narrow, c .share-of .ensures, c .before .before .monus .ensures, share-le _ _ (height-low (c .before)) (p .1 .yLow))
 
+is-barred-requires : tie.Need-is-barred-requires
+is-barred-requires c κs = begin (c .before .before) .pre .2
+
+choose-requires : tie.Need-choose-requires
+choose-requires c κs = search needs
+
 returns : tie.Need-returns
 returns c =
-    c .cost-word .ensures ∙ rw (c .before .share-of .ensures, c .before .before .get .ensures, c .before .before .before .monus .ensures)
+    rw (c .choose .ensures, c .before .is-barred .ensures, c .before .before .cost-word .ensures, c .before .before .before .share-of .ensures, c .before .before .before .before .get .ensures, c .before .before .before .before .before .monus .ensures) refl
 
 pub open-cost-spec : {M : Type 1} → statement M
 open-cost-spec =
     tie.close
-    (tie.spec monus-requires get-requires share-of-requires add-cost-word cost-word-requires returns)
+    (tie.spec monus-requires get-requires share-of-requires add-cost-word cost-word-requires is-barred-requires choose-requires returns)

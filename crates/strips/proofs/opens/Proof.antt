@@ -13,10 +13,13 @@ use Rattle.words.proofs.less.Reads as less-reads
 use Rattle.arrays.proofs.places.is_far.Reads as is-far-reads
 use Rattle.strips.proofs.site_opens.Reads as site-opens-reads
 
+abbrev begin : tie.After-struct-known → tie.Start
+begin c = c .before .before .before
+
 returns : tie.Need-returns
 unfolding gapLeft
 returns c =
-    rw (opens-split, ← (add-one (c .before .before .before .before .before .before .before .before .before .before .before .before .before .args .s .c)), c .both5 .ensures, c .before .both4 .ensures, c .before .before .site-opens .ensures, c .before .before .before .both3 .ensures, c .before .before .before .before .is-far2 .ensures, c .before .before .before .before .before .is-far .ensures, c .before .before .before .before .before .before .both2 .ensures, c .before .before .before .before .before .before .before .both .ensures, c .before .before .before .before .before .before .before .before .less2 .ensures, c .before .before .before .before .before .before .before .before .before .less .ensures) refl
+    rw (opens-split, ← (add-one (begin (c .before .before .before .before .before .before .before .before .before .before .before .before .before) .args .s .c)), c .both6 .ensures, c .before .both5 .ensures, c .before .before .both4 .ensures, c .before .before .before .is-not .ensures, c .before .before .before .before .is-barred .ensures, c .before .before .before .before .before .site-opens .ensures, c .before .before .before .before .before .before .both3 .ensures, c .before .before .before .before .before .before .before .is-far2 .ensures, c .before .before .before .before .before .before .before .before .is-far .ensures, c .before .before .before .before .before .before .before .before .before .both2 .ensures, c .before .before .before .before .before .before .before .before .before .before .both .ensures, c .before .before .before .before .before .before .before .before .before .before .before .less2 .ensures, c .before .before .before .before .before .before .before .before .before .before .before .before .less .ensures) refl
 
 add-c : tie.Need-add-c
 add-c c = search needs
@@ -57,6 +60,15 @@ both-requires-4 c κs = search needs
 both-requires-5 : tie.Need-both-requires-5
 both-requires-5 c κs = search needs
 
+is-barred-requires : tie.Need-is-barred-requires
+is-barred-requires c κs = search needs
+
+is-not-requires : tie.Need-is-not-requires
+is-not-requires c κs = search needs
+
+both-requires-6 : tie.Need-both-requires-6
+both-requires-6 c κs = search needs
+
 pub opens-spec : {M : Type 1} → statement M
 opens-spec =
     tie.close
@@ -72,6 +84,9 @@ opens-spec =
     is-far-requires-2
     both-requires-3
     site-opens-requires
+    is-barred-requires
+    is-not-requires
     both-requires-4
     both-requires-5
+    both-requires-6
     returns)

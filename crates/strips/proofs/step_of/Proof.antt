@@ -17,7 +17,7 @@ opens-requires c κs =
 
 open-cost-requires : tie.Need-open-cost-requires
 open-cost-requires c κs =
-    let p = c .before .before .before .before .before .before .before .pre in (on-slots (p .0), p .2)
+    let p = c .before .before .before .before .before .before .before .pre in (on-slots (p .0), p .2, omega (arith, p .3))
 
 is-below-requires : tie.Need-is-below-requires
 is-below-requires c κs =

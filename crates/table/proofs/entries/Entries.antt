@@ -15,7 +15,7 @@ use Rattle.search.proofs.Cost.{plus-top, top-plus, plus-le, least-le, least-le-
 use Rattle.search.specs.Split.{conv}
 use Rattle.search.specs.Radix.{below}
 use Rattle.optimum.specs.Strips.{Point, Strip, Instance, inside, opens, joinsUp, joinsDown}
-use Rattle.optimum.specs.OneSided.{topWord, markCount}
+use Rattle.optimum.specs.OneSided.{topWord, hasSlot, markCount}
 use Rattle.optimum.specs.Cells.{cellOf, splitCells, stepCell}
 use Rattle.optimum.proofs.Loops.{at-drop}
 use Rattle.arrays.specs.declared.Measures.{Measures}
@@ -105,10 +105,17 @@ module _ (q : Measures) (hs bs rs ds work parts counts left : List ℕ) (low : �
       open-none parts counts (q .budgets) (openCost q hs s k) (getD left v 0) (row (upperPart (turnBy hs s k) p s k)) (row (lowerPart p s k)) (splits .within)
       (by-either (or-e _ _ e) (λ x. inl (falls i k o .0 (eqb-true _ _ x))) (λ x. inr (falls i k o .1 (eqb-true _ _ x))))
 
+  -- what it costs where the slot is not barred
+  open-is : (k : ℕ) → hasSlot (s .barred) k ≡ false → openCost q hs s k ≡ P .word 1 (P .lead (s .x) + P .slots .share (getD hs k 0) (s .y))
+  open-is k e = rw e
+
   step-open : inside (instanceOn q hs bs) p s ≡ true → (k : ℕ) → opens (instanceOn q hs bs) p s k ≡ true → step k ≡ term k
   unfolding stepCell slotTerm
   step-open i k o =
-      rw (opens-on q hs bs rs ds p s k, o, opening q hs bs p s k o .gap, ← (upper-is (turnBy hs s k) p s k), ← (lower-is p s k)) (by-draw k (below rs (getD ds (s .c) 0) v) refl ∙ by-part i k o (noPart q hs parts counts left row p s k) refl)
+      rw (opens-on q hs bs rs ds p s k, o, opening q hs bs p s k o .gap, ← (upper-is (turnBy hs s k) p s k), ← (lower-is p s k))
+      (ap (λ (c : ℕ). cond (below rs (getD ds (s .c) 0) v) (plus topWord c (splitCells P (q .colours) (q .budgets) (drop low work) (upperPart (turnBy hs s k) p s k) (lowerPart p s k) (v - getD ds (s .c) 0))) topWord)
+      (sym (open-is k (opening q hs bs p s k o .free)))
+      ∙ by-draw k (below rs (getD ds (s .c) 0) v) refl ∙ by-part i k o (noPart q hs parts counts left row p s k) refl)
 
   step-join : (k : ℕ) → opens (instanceOn q hs bs) p s k ≡ false → joinsUp (instanceOn q hs bs) p s k || joinsDown (instanceOn q hs bs) p s k ≡ true
       → step k ≡ plus topWord (joinCost q hs s k) (row (markedBy (turnBy hs s k) p) v)
@@ -193,13 +200,25 @@ module _ (q : Measures) (hs bs rs ds work parts counts left : List ℕ) (low : �
   unfolding slotTerm
   term-shut k e = rw e
 
+  -- nor does one that is barred count
+  term-barred : (k : ℕ) → hasSlot (s .barred) k ≡ true → term k ≡ topWord
+  unfolding slotTerm
+  term-barred k e =
+      by-test (gapLeft (slotsBy q hs) p s k)
+      (λ g. by-test (noPart q hs parts counts left row p s k)
+      (λ t. rw (g, t))
+      (λ t. rw (g, t, e) (by-test (ltb (getD left v 0) (q .budgets)) (λ u. rw u (top-plus topWord _)) (λ u. rw u))))
+      (λ g. rw g)
+
   total-slot : inside (instanceOn q hs bs) p s ≡ true → siteOpens (instanceOn q hs bs) p s ≡ true → (i : ℕ) → i < p .b - 1 - p .a → total ≤ term (p .a + i)
   total-slot e o i h =
       by-test (gapLeft (slotsBy q hs) p s (p .a + i))
-      (λ g.
+      (λ g. by-test (hasSlot (s .barred) (p .a + i))
+      (λ b. rw (term-barred (p .a + i) b) (least-le-top topWord (length hs) step))
+      (λ b.
       let k : p .a + i < length hs = omega (arith, lies .bLow) in
-      let t = opens-of q hs bs p s (p .a + i) (record { above = omega arith; under = omega arith; slot = k; gap = g; site = o }) in
-      rw (step-open e (p .a + i) t) at (least-le topWord (length hs) step (p .a + i) k))
+      let t = opens-of q hs bs p s (p .a + i) (record { above = omega arith; under = omega arith; slot = k; gap = g; site = o; free = b }) in
+      rw (step-open e (p .a + i) t) at (least-le topWord (length hs) step (p .a + i) k)))
       (λ g. rw (term-shut (p .a + i) g) (least-le-top topWord (length hs) step))
 
   total-opens : inside (instanceOn q hs bs) p s ≡ true → total ≤ cond (siteOpens (instanceOn q hs bs) p s) (slotsLeast q hs parts counts left row p s (p .b - 1 - p .a) v) topWord

@@ -43,7 +43,8 @@ mul-fill-level c =
     omega (arith, place-small (p .0 .sheet) (begin c .args .j) _ (omega (arith, p .1 .1, p .0 .sheet .fewSites)) (p .1 .0))
 
 add-fill-level : tie.Need-add-fill-level
-add-fill-level c = search needs
+add-fill-level c =
+    let p = begin c .pre in omega (arith, p .1 .1, p .0 .sheet .fewSites)
 
 mul-fill-level-2 : tie.Need-mul-fill-level-2
 mul-fill-level-2 c =

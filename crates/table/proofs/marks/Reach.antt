@@ -23,7 +23,7 @@ use Rattle.rows.proofs.Places.{marked-lies, upper-lies, lower-lies}
 use Rattle.table.specs.Marks.{Shaped, Led, ReachMarked}
 use Rattle.parts.specs.Parts.{Marked, Marking}
 use Rattle.table.proofs.marks.Asked.{asked-out, asked-in}
-use Rattle.table.proofs.marks.Points.{point-at}
+use Rattle.arrays.proofs.Points.{point-at}
 
 -- ---- radices and draws have no part in what is reached
 
@@ -96,7 +96,7 @@ module _ {g : Given} (o : OfSheet g) where
       lower k u = record { lies = lower-lies _ _ p s k (t .lies) (i .colourLow) u; falls = u; ends = label k (s .c) }
 
   pub site-stands : (j : ℕ) → j < length (g .xs) → SiteIn q (getD ss j noPoint)
-  site-stands j h = subst (SiteIn q) (sym (point-at (g .xs) (g .ys) (g .colours) j (o .ysLong) (o .coloursLong) h)) (o .siteIn j h)
+  site-stands j h = subst (SiteIn q) (sym (point-at q hs (g .xs) (g .ys) (g .colours) j h)) (o .siteIn j h)
 
   pub reached-shape : (j : ℕ) → j ≤ length (g .xs) → (p : Strip) → Reached (instanceOn q hs bs) ss j p → Shaped (length hs) (q .colours) p
   unfolding Reached upperEnd

@@ -34,7 +34,7 @@ loop-holds c =
 
 open-cost-requires : tie.Need-open-cost-requires Inv-loop μ-loop
 open-cost-requires c κs =
-    let p = c .before .before .before .before .before .pre in (p .sheet, p .site)
+    let p = c .before .before .before .before .before .pre in (p .sheet, p .site, omega (arith, p .sheet .fewSlots, p .high, p .lies .bLow, c .if1 .taken))
 
 turn-at-requires : tie.Need-turn-at-requires Inv-loop μ-loop
 turn-at-requires c κs = search needs

@@ -91,7 +91,8 @@ returns c =
 
 open-cost-requires : tie.Need-open-cost-requires
 open-cost-requires c κs =
-    let p = start (c .before .before .before .before .before .before .before .before) .pre .0 in (on-slots (p .ready .sheet), p .ready .site)
+    let p = start (c .before .before .before .before .before .before .before .before) .pre in
+    (on-slots (p .0 .ready .sheet), p .0 .ready .site, omega (arith, p .0 .ready .sheet .fewSlots, p .0 .lies .bLow, p .1 .0))
 
 open-row-requires : tie.Need-open-row-requires
 open-row-requires c κs =

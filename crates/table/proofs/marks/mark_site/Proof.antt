@@ -1,6 +1,6 @@
 use Rattle.table.proofs.marks.Reach.{at-site}
 use Rattle.table.proofs.marks.Levels.{next-level, level-within}
-use Rattle.table.proofs.marks.Points.{point-at}
+use Rattle.arrays.proofs.Points.{point-at}
 use Rattle.arrays.specs.Given.{SiteIn}
 use Rattle.arrays.proofs.Narrowed.{on-slots}
 use mathlib.Core.Path.{sym, _∙_, subst}
@@ -53,7 +53,7 @@ returns : tie.Need-returns
 returns c =
     let p = c .before .before .before .before .before .before .before .before .before .before .before .pre in
     let a = c .before .before .before .before .before .before .before .before .before .before .before .args in
-    at-site (a .q) (a .heights .now) (a .bounds .now) (a .work .now) (c .before .before .follow-level .last .0) (a .size) _ _ _ _ (p .3 .0) (point-at (a .xs .now) (a .ys .now) (a .cs .now) (a .j) (p .0 .ysLong) (p .0 .coloursLong) (p .3 .1) ∙ sym (c .before .before .before .before .site-at .ensures)) (c .before .before .follow-level .ensures)
+    at-site (a .q) (a .heights .now) (a .bounds .now) (a .work .now) (c .before .before .follow-level .last .0) (a .size) _ _ _ _ (p .3 .0) (point-at (a .q) (a .heights .now) (a .xs .now) (a .ys .now) (a .cs .now) (a .j) (p .3 .1) ∙ sym (c .before .before .before .before .site-at .ensures)) (c .before .before .follow-level .ensures)
 
 pub mark-site-spec : {M : Type 1} → statement M
 mark-site-spec =

@@ -23,7 +23,7 @@ use Rattle.table.proofs.marks.mark_own.Reads as mark-own-reads
 use Rattle.table.proofs.marks.mark_site.Reads as mark-site-reads
 
 abbrev Inv-loop : tie.InvT-loop
-Inv-loop work₀ q heights bounds xs ys cs rows n size j₀ work j = (size ≡ levelOf q heights) × (j ≤ length xs) × (length work ≡ length work₀) × (OfSheet (onSites q heights bounds xs ys cs) → ReachMarked (instanceOn q heights bounds) q (pointsBy xs ys cs) work size (j + 1)) × ((i : ℕ) → (length xs + 1) * size ≤ i → getD work i 0 ≡ getD work₀ i 0)
+Inv-loop work₀ q heights bounds xs ys cs rows n size j₀ work j = (size ≡ levelOf q heights) × (j ≤ length xs) × (length work ≡ length work₀) × (OfSheet (onSites q heights bounds xs ys cs) → ReachMarked (instanceOn q heights bounds) q (pointsBy q heights xs ys cs) work size (j + 1)) × ((i : ℕ) → (length xs + 1) * size ≤ i → getD work i 0 ≡ getD work₀ i 0)
 
 abbrev μ-loop : tie.MeasureT-loop
 μ-loop work₀ q heights bounds xs ys cs rows n size j₀ work j = length xs - j
@@ -113,7 +113,7 @@ returns c =
     let p = begin (c .before .before) .pre in
     let l = c .before .loop in
     let z : l .j ≡ length (a .xs .now) = omega (arith, c .loop-test .left, l .inv .1) in (
-      to-level (instanceOn (a .q) (a .heights .now) (a .bounds .now)) (a .q) (pointsBy (a .xs .now) (a .ys .now) (a .cs .now)) (l .work) _ _ (l .j) (l .inv .0) z (l .inv .3 (p .0)),
+      to-level (instanceOn (a .q) (a .heights .now) (a .bounds .now)) (a .q) (pointsBy (a .q) (a .heights .now) (a .xs .now) (a .ys .now) (a .cs .now)) (l .work) _ _ (l .j) (l .inv .0) z (l .inv .3 (p .0)),
       λ i h.
           let e = ap (λ (z : ℕ). z * a .q .budgets) (p .3) in
           l .inv .4 i (rw (l .inv .0) h) ∙ c .before .before .before .before .mark-own .ensures .0 .others .after i (first-within _ _ _ h) ∙ c .before .before .before .before .before .before .before .before .clear-marks .ensures .1 i (count-words (length (a .xs .now) + 1) (a .rows) (a .q .budgets) _ _ e h),
