@@ -1,6 +1,6 @@
 -- Refusals 4, 5 and 6: one step of each word-by-word test, at a place of a list. Assumes nothing.
-use mathlib.Core.Path.{_≡_}
-use mathlib.Core.Bool.{_&&_, _||_}
+use mathlib.Core.Path.{_≡_, refl, sym, ap, _∙_}
+use mathlib.Core.Bool.{Bool, true, false, _&&_, _||_}
 use mathlib.Core.List.{List}
 use Prim.Native.Nat.{ℕ, _+_, _<_, _≤_}
 use native.Mathlib.Omega.{arith}
@@ -15,6 +15,15 @@ use Rattle.refusals.specs.Wordwise.{lowOk, lowNext, risesFrom, widthOk, allInsi
 -- the least height that may come stays a number that fits
 pub low-le : (l w : ℕ) → l ≤ numberTop → lowNext l w ≤ numberTop
 low-le l w h = by-test (eqb (kindOf w) 2) (λ e. rw e (omega arith)) (λ e. rw e h)
+
+-- what was found so far, or is found later: one more word; no word left
+pub or-more : (t v : Bool) {q r u : Bool} → q ≡ r → u ≡ (r || v) → ((t || q) || v) ≡ (t || u)
+or-more true v e f = refl
+or-more false v e f = ap (λ (b : Bool). b || v) e ∙ sym f
+
+pub or-none : (t : Bool) {u : Bool} → u ≡ false → t ≡ (t || u)
+or-none true e = refl
+or-none false e = sym e
 
 module _ (s : List ℕ) (i : ℕ) (h : i < length s) where
   pub rises-at : (l : ℕ) → risesFrom l (drop i s) ≡ (lowOk l (getD s i 0) && risesFrom (lowNext l (getD s i 0)) (drop (i + 1) s))

@@ -10,18 +10,17 @@ use words::either;
 use words::kind_of;
 use words::rank_of;
 
-// Some word from a place on is a site of this rank.
+// Some word from a place on is a site of this rank. No branch: several words are looked at at a time.
 fn some_ranked(words: &[u32], from: usize, rank: u32) -> bool
     ensures { λ r. ⌜ r ≡ someRanked rank (drop from (now (words .entry))) ⌝ }
 {
+    let mut found = false;
     let mut i = from;
     while i < words.len() {
-        if is_ranked(rank, words[i]) {
-            return true;
-        }
+        found = found | is_ranked(rank, words[i]);
         i += 1;
     }
-    false
+    found
 }
 
 // No later word is a site of the rank of the site here.

@@ -1,22 +1,22 @@
 -- `refusal_6::some_ranked` meets its contract.
-use mathlib.Core.Path.{_≡_, refl, sym, _∙_}
-use Prim.Native.Nat.{_-_}
+use mathlib.Core.Bool.{_||_}
+use mathlib.Core.Path.{_≡_, refl, ap, _∙_}
+use Prim.Native.Nat.{_+_, _-_}
 use lib.ListN.{drop-of-length-le, length, drop}
 use borrow.Author.Needs.{needs}
-use Rattle.lists.proofs.Places.{found, on}
 use Rattle.refusals.specs.Wordwise.{someRanked}
-use Rattle.reader.proofs.Steps.{some-at}
+use Rattle.reader.proofs.Steps.{some-at, or-more, or-none}
 use Rattle.reader.proofs.refusal_6.some_ranked.Statement.{statement}
 use Rattle.reader.proofs.refusal_6.some_ranked.Tie as tie
 
 abbrev Inv-loop : tie.InvT-loop
-Inv-loop words from rank i₀ i = someRanked rank (drop from words) ≡ someRanked rank (drop i words)
+Inv-loop words from rank found₀ i₀ found i = (found || someRanked rank (drop i words)) ≡ someRanked rank (drop from words)
 
 abbrev μ-loop : tie.MeasureT-loop
-μ-loop words from rank i₀ i = length words - i
+μ-loop words from rank found₀ i₀ found i = length words - i
 
 loop-holds : tie.Need-loop-holds Inv-loop μ-loop
-loop-holds c = search needs
+loop-holds c = refl
 
 mul-is-ranked : tie.Need-mul-is-ranked Inv-loop μ-loop
 mul-is-ranked c = search needs
@@ -27,12 +27,6 @@ shared-slice-read-is-ranked c = search needs
 is-ranked-requires : tie.Need-is-ranked-requires Inv-loop μ-loop
 is-ranked-requires c κs = search needs
 
-returns : tie.Need-returns Inv-loop μ-loop
-returns c =
-    let a = c .before .before .before .before .before .before .args in
-    let l = c .before .before .before .before .loop in
-    rw (l .inv) (found _ (some-at (a .words .now) (l .i) (c .before .before .before .loop-test .taken) (a .rank)) (sym (c .before .is-ranked .ensures) ∙ c .if1 .taken))
-
 add-i : tie.Need-add-i Inv-loop μ-loop
 add-i c = search needs
 
@@ -41,14 +35,14 @@ loop-less c = search needs
 
 loop-again : tie.Need-loop-again Inv-loop μ-loop
 loop-again c =
-    let a = c .before .before .before .before .before .before .args in
-    let l = c .before .before .before .before .loop in
-    l .inv ∙ on _ (some-at (a .words .now) (l .i) (c .before .before .before .loop-test .taken) (a .rank)) (sym (c .before .is-ranked .ensures) ∙ c .if1 .left)
+    let a = c .before .before .before .before .before .args in
+    let l = c .before .before .before .loop in
+    or-more (l .found) (someRanked (a .rank) (drop (l .i + 1) (a .words .now))) (c .is-ranked .ensures) (some-at (a .words .now) (l .i) (c .before .before .loop-test .taken) (a .rank)) ∙ l .inv
 
-returns-2 : tie.Need-returns-2 Inv-loop μ-loop
+returns : tie.Need-returns Inv-loop μ-loop
 unfolding someRanked
-returns-2 c =
-    rw (c .before .loop .inv, drop-of-length-le (c .before .before .before .args .words .now) (c .loop-test .left)) refl
+returns c =
+    or-none (c .before .loop .found) (ap (someRanked (c .before .before .before .args .rank)) (drop-of-length-le (c .before .before .before .args .words .now) (c .loop-test .left))) ∙ c .before .loop .inv
 
 pub some-ranked-spec : {M : Type 1} → statement M
 some-ranked-spec =
@@ -60,8 +54,7 @@ some-ranked-spec =
     mul-is-ranked
     shared-slice-read-is-ranked
     is-ranked-requires
-    returns
     add-i
     loop-less
     loop-again
-    returns-2)
+    returns)
