@@ -16,7 +16,7 @@ use Rattle.labelling.specs.Counted.{allBefore, sumBefore, isTaken, isFirst}
 use Rattle.labelling.proofs.Counted.{all-before}
 use Rattle.words.specs.declared.tied.Head.{Head}
 use Rattle.layouts.specs.declared.labels.Among.the-variants.{All}
-use Rattle.layouts.specs.Model.{oneIf, amongBy, Low, leastBefore, leftOn, lengthAt, mostAdded}
+use Rattle.layouts.specs.Model.{oneIf, amongBy, Low, leastBefore, leftOn, lengthBy, lengthAt, mostAdded}
 
 -- A TEST OF ALL
 pub all-none : (f : ℕ → Bool) → allBefore f 0 ≡ true
@@ -94,19 +94,17 @@ length-le h hs xs ys cs js n l i =
     cond-le false n = omega arith
 
 -- a site's part by the callees' results: its slot k and the slot's height, its share r, whether it is the first of its label
-module _ (h : Head) (hs xs ys cs js : List ℕ) (n i : ℕ) {k a r : ℕ} (ek : k ≡ getD js i 0) (ea : a ≡ getD hs k 0) (es : r ≡ shareBy a (getD ys i 0)) where
+module _ (h : Head) (hs xs ys js : List ℕ) (n i : ℕ) {k a r : ℕ} (ek : k ≡ getD js i 0) (ea : a ≡ getD hs k 0) (es : r ≡ shareBy a (getD ys i 0)) where
   share-is : r ≡ shareBy (getD hs (getD js i 0) 0) (getD ys i 0)
   share-is = es ∙ ap (λ (z : ℕ). shareBy z (getD ys i 0)) (ea ∙ ap (λ (z : ℕ). getD hs z 0) ek)
 
   pub share-low : Low h hs ys → r ≤ mostNumber
   share-low l = omega (arith, share-is, share-le _ _ (l .heights (getD js i 0)) (l .ys i))
 
-  module _ {b : Bool} (eb : b ≡ isFirst (amongBy All cs) js i) where
-    pub length-other : b ≡ false → r ≡ lengthAt h hs xs ys cs js n i
-    length-other f = let e : isFirst (amongBy All cs) js i ≡ false = sym eb ∙ f in rw e (omega (arith, share-is))
+  pub length-other : (b : Bool) → b ≡ false → r ≡ lengthBy h b hs xs ys js n i
+  length-other b e = rw e (omega (arith, share-is))
 
-    pub length-first : {l m : ℕ} → b ≡ true → l ≡ leftOn h xs js n k → m ≡ h .width - l → m + r ≡ lengthAt h hs xs ys cs js n i
-    length-first {l} {m} f el em =
-        let e : isFirst (amongBy All cs) js i ≡ true = sym eb ∙ f in
-        let q : l ≡ leftOn h xs js n (getD js i 0) = el ∙ ap (leftOn h xs js n) ek in
-        rw e (omega (arith, share-is, em, q))
+  pub length-first : (b : Bool) {l m : ℕ} → b ≡ true → l ≡ leftOn h xs js n k → m ≡ h .width - l → m + r ≡ lengthBy h b hs xs ys js n i
+  length-first b {l} {m} e el em =
+      let q : l ≡ leftOn h xs js n (getD js i 0) = el ∙ ap (leftOn h xs js n) ek in
+      rw e (omega (arith, share-is, em, q))

@@ -81,9 +81,11 @@ abbrev pub leftOn : Head → (xs ties : List ℕ) → (count slot : ℕ) → ℕ
 leftOn h xs js n k = cond (h .twosided) 0 (leastBefore k (h .width) (λ i. getD js i 0) (λ i. getD xs i 0) n)
 
 -- what a site adds to the length, and the length
+abbrev pub lengthBy : Head → (first : Bool) → (heights xs ys ties : List ℕ) → (count site : ℕ) → ℕ
+lengthBy h b hs xs ys js n i = cond b (h .width - leftOn h xs js n (getD js i 0)) 0 + shareBy (getD hs (getD js i 0) 0) (getD ys i 0)
+
 abbrev pub lengthAt : Head → (heights xs ys colours ties : List ℕ) → (count site : ℕ) → ℕ
-lengthAt h hs xs ys cs js n i =
-    cond (isFirst (amongBy All cs) js i) (h .width - leftOn h xs js n (getD js i 0)) 0 + shareBy (getD hs (getD js i 0) 0) (getD ys i 0)
+lengthAt h hs xs ys cs js n i = lengthBy h (isFirst (amongBy All cs) js i) hs xs ys js n i
 
 abbrev pub lengthOn : Head → (heights xs ys colours ties : List ℕ) → (count : ℕ) → ℕ
 lengthOn h hs xs ys cs js n = sumBefore (lengthAt h hs xs ys cs js n) n

@@ -15,7 +15,7 @@ pub enum Among {
     Of(usize),
 }
 
-fn one_if(b: bool) -> usize
+pub fn one_if(b: bool) -> usize
     ensures { λ r. ⌜ r ≡ oneIf b ⌝ }
 {
     if b {

@@ -5,7 +5,7 @@ ghost use Rattle.labelling.specs.Twin.{asOneSided};
 ghost use Rattle.decoding.specs.Decoding.{sheetBy, LayoutRead};
 ghost use Rattle.twin.specs.Twin.{headOneSided};
 use decoding::Numbers;
-use layouts::rule_6::total_length;
+use layouts::rule_6::totals_of;
 use words::TIES_AT;
 use words::tied::Head;
 
@@ -29,12 +29,13 @@ pub fn one_sided_length(numbers: Numbers, layout: &[u32]) -> u32
     let xs = numbers.xs;
     let ys = numbers.ys;
     let colours = numbers.colours;
-    total_length(
+    let totals = totals_of(
         one_sided(numbers.head),
         &heights,
         &xs,
         &ys,
         &colours,
         &layout[TIES_AT..],
-    )
+    );
+    totals.length
 }

@@ -7,42 +7,36 @@ use borrow.Author.Needs.{needs}
 use Rattle.layouts.proofs.rule_6.site_length.Statement.{statement}
 use Rattle.layouts.proofs.rule_6.site_length.Tie as tie
 
--- where the function starts, seen from where it is known whether the site is the first of its label
-abbrev begin : tie.After-is-first → tie.Start
-begin f = f .before .before .before .before .before .before .before .before .before .before
+-- where the function starts, seen from where the share is known
+abbrev begin : tie.After-share-of → tie.Start
+begin f = f .before .before .before .before .before .before .before .before
 
 slot-at-requires : tie.Need-slot-at-requires
-slot-at-requires c κs =
-    c .before .before .before .before .before .pre .1 .1
+slot-at-requires c κs = search needs
 
 get-requires : tie.Need-get-requires
 get-requires c κs = search needs
 
 mul-share-of : tie.Need-mul-share-of
-mul-share-of c =
-    omega (arith, c .before .before .before .before .before .before .before .pre .1 .1, c .before .before .before .before .before .before .before .pre .0 .ys-long)
+mul-share-of c = search needs
 
 shared-slice-read-share-of : tie.Need-shared-slice-read-share-of
 shared-slice-read-share-of c = search needs
 
 share-of-requires : tie.Need-share-of-requires
 share-of-requires c κs =
-    let a = c .before .before .before .before .before .before .before .before .args in
-    let p = c .before .before .before .before .before .before .before .before .pre .1 .0 in
+    let a = c .before .before .before .before .before .before .before .args in
+    let p = c .before .before .before .before .before .before .before .pre .1 in
     (omega (arith, c .before .get .ensures, p .heights (c .before .before .slot-at .result)), omega (arith, p .ys (a .i)))
-
-is-first-requires : tie.Need-is-first-requires
-is-first-requires c κs =
-    (omega (arith, c .before .before .before .before .before .before .before .before .before .pre .1 .1, c .before .before .before .before .before .before .before .before .before .pre .0 .colours-long), c .before .before .before .before .before .before .before .before .before .pre .1 .1)
 
 returns : tie.Need-returns
 returns c =
     let a = begin (c .before) .args in
-    length-other (a .h) (a .heights .now) (a .xs .now) (a .ys .now) (a .colours .now) _ _ (a .i) (c .before .before .before .before .before .slot-at .ensures) (c .before .before .before .before .get .ensures) (c .before .before .share-of .ensures) (c .before .is-first .ensures) (not-true _ (c .if1 .taken))
+    length-other (a .h) (a .heights .now) (a .xs .now) (a .ys .now) (tiesIn (a .ties .now)) (length (a .ties .now)) (a .i) (c .before .before .before .before .slot-at .ensures) (c .before .before .before .get .ensures) (c .before .share-of .ensures) (a .first) (not-true _ (c .if1 .taken))
 
 left-end-requires : tie.Need-left-end-requires
 left-end-requires c κs =
-    begin (c .before) .pre .0 .xs-long
+    begin (c .before) .pre .0 .0
 
 monus-requires : tie.Need-monus-requires
 monus-requires c κs = search needs
@@ -50,14 +44,14 @@ monus-requires c κs = search needs
 add-result : tie.Need-add-result
 add-result c =
     let a = begin (c .before .before .before) .args in
-    let p = begin (c .before .before .before) .pre .1 .0 in
-    let s = share-low (a .h) (a .heights .now) (a .xs .now) (a .ys .now) (a .colours .now) (tiesIn (a .ties .now)) (length (a .ties .now)) (a .i) (c .before .before .before .before .before .before .before .slot-at .ensures) (c .before .before .before .before .before .before .get .ensures) (c .before .before .before .before .share-of .ensures) p in
+    let p = begin (c .before .before .before) .pre .1 in
+    let s = share-low (a .h) (a .heights .now) (a .xs .now) (a .ys .now) (tiesIn (a .ties .now)) (length (a .ties .now)) (a .i) (c .before .before .before .before .before .before .slot-at .ensures) (c .before .before .before .before .before .get .ensures) (c .before .before .before .share-of .ensures) p in
     omega (arith, s, c .monus .ensures, p .width)
 
 returns-2 : tie.Need-returns-2
 returns-2 c =
     let a = begin (c .before .before .before) .args in
-    length-first (a .h) (a .heights .now) (a .xs .now) (a .ys .now) (a .colours .now) _ _ (a .i) (c .before .before .before .before .before .before .before .slot-at .ensures) (c .before .before .before .before .before .before .get .ensures) (c .before .before .before .before .share-of .ensures) (c .before .before .before .is-first .ensures) (not-false _ (c .before .before .if1 .left)) (c .before .left-end .ensures) (c .monus .ensures)
+    length-first (a .h) (a .heights .now) (a .xs .now) (a .ys .now) (tiesIn (a .ties .now)) (length (a .ties .now)) (a .i) (c .before .before .before .before .before .before .slot-at .ensures) (c .before .before .before .before .before .get .ensures) (c .before .before .before .share-of .ensures) (a .first) (not-false _ (c .before .before .if1 .left)) (c .before .left-end .ensures) (c .monus .ensures)
 
 pub site-length-spec : {M : Type 1} → statement M
 site-length-spec =
@@ -68,7 +62,6 @@ site-length-spec =
     mul-share-of
     shared-slice-read-share-of
     share-of-requires
-    is-first-requires
     returns
     left-end-requires
     monus-requires
