@@ -13,11 +13,11 @@ use Rattle.sheet.proofs.Accepted.{sound}
 use Rattle.optimum.specs.OneSided.{order}
 use Rattle.optimum.specs.Budgets.{radicesOf}
 use Rattle.optimum.proofs.optimality.Order.{ordered}
-use Rattle.arrays.specs.Arrays.{boundsOf, drawsList, xsOf, ysOf, coloursOf, gathered, orderBy, radicesBy, drawsBy, productBy}
+use Rattle.arrays.specs.Arrays.{boundsOf, drawsList, xsOf, ysOf, coloursOf, gathered, ranksBy, orderBy, radicesBy, drawsBy, productBy}
 use Rattle.decoding.specs.Decoding.{collected}
 use Rattle.lists.proofs.Arrays.{padded-front}
 use Rattle.decoding.proofs.Fields.{bounds-long, xs-long, ys-long, colours-long, bounds-are}
-use Rattle.arrays.proofs.Ordered.{order-is, gathered-long, radices-are, radices-long, draws-are, draws-long, product-are}
+use Rattle.arrays.proofs.Ordered.{ranks-long, order-is, gathered-long, radices-are, radices-long, draws-are, draws-long, product-are}
 use Rattle.lists.specs.Arrays.{padded}
 
 -- an array has the list at its front, in so many places
@@ -76,7 +76,12 @@ module _ (ws : List ℕ) (f : sheetFault ws ≡ 0) where
   pub colours : (r : List ℕ) (k : ℕ) → r ≡ padded mostSites (coloursOf (s .sites)) → k ≡ length (s .sites) → IsFront r k (coloursOf (s .sites))
   colours r k e h = part mostSites (coloursOf (s .sites)) r k e (h ∙ sym (colours-long (s .sites)))
 
-  pub orders : (b r : List ℕ) (k : ℕ) → take k b ≡ xsOf (s .sites) → k ≡ length (s .sites) → r ≡ padded mostSites (orderBy (take k b) (length (take k b)) 0)
+  pub ranks : (b d r : List ℕ) (k : ℕ) → take k b ≡ xsOf (s .sites) → take k d ≡ ysOf (s .sites) → k ≡ length (s .sites) → r ≡ padded mostSites (ranksBy (take k b) (take k d))
+      → IsFront r k (ranksBy (xsOf (s .sites)) (ysOf (s .sites)))
+  ranks b d r k e o h g =
+      part mostSites (ranksBy (xsOf (s .sites)) (ysOf (s .sites))) r k (g ∙ ap₂ (λ (x y : List ℕ). padded mostSites (ranksBy x y)) e o) (h ∙ sym (ranks-long s))
+
+  pub orders : (b r : List ℕ) (k : ℕ) → take k b ≡ ranksBy (xsOf (s .sites)) (ysOf (s .sites)) → k ≡ length (s .sites) → r ≡ padded mostSites (orderBy (take k b) (length (take k b)) 0)
       → IsFront r k (order s)
   orders b r k e h g =
       part mostSites (order s) r k (g ∙ ap (λ (l : List ℕ). padded mostSites (orderBy l (length l) 0)) e ∙ ap (padded mostSites) (order-is s)) (h ∙ sym (ordered s (sound ws f) .long))

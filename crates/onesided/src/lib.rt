@@ -12,6 +12,7 @@ use arrays::draws_of;
 use arrays::gathered_of;
 use arrays::order_of;
 use arrays::radices_of;
+use arrays::ranks_of;
 use decoding::bounds_of;
 use decoding::colours_of;
 use decoding::head_of;
@@ -138,14 +139,16 @@ pub fn lay_one_sided(
     requires { ⌜ TakesOneSided (now sheet) (now work) (now out) slots colours sites budgets ⌝ }
     ensures { λ r. ⌜ Made (now (sheet .entry)) (now (work .entry)) (now (out .entry)) r (now (work .exit)) (now (out .exit)) ⌝ }
 {
-    let ranks = xs_of(sheet);
+    let xs = xs_of(sheet);
     let ys = ys_of(sheet);
     let site_colours = colours_of(sheet);
-    let ranks = &ranks[..sites];
-    let order = order_of(ranks);
+    let xs = &xs[..sites];
+    let ys = &ys[..sites];
+    let ranks = ranks_of(xs, ys);
+    let order = order_of(&ranks[..sites]);
     let order = &order[..sites];
-    let ranked_xs = gathered_of(ranks, order);
-    let ranked_ys = gathered_of(&ys[..sites], order);
+    let ranked_xs = gathered_of(xs, order);
+    let ranked_ys = gathered_of(ys, order);
     let ranked_colours = gathered_of(&site_colours[..sites], order);
     lay_sites(
         sheet,

@@ -1,7 +1,7 @@
 -- For the code: the first that passes a test, as a loop finds it; a part of an area; each step of the walk finds its slot.
-use mathlib.Core.Path.{_≡_, refl, sym, ap, _∙_}
+use mathlib.Core.Path.{_≡_, refl, sym, ap, ap₂, _∙_}
 use mathlib.Core.Logic.{_⊎_, inl, inr}
-use mathlib.Core.Bool.{Bool, true, false}
+use mathlib.Core.Bool.{Bool, true, false, cond}
 use mathlib.Core.List.{List, [], _∷_}
 use Prim.Native.Nat.{ℕ, zero, suc, _+_, _<_}
 use native.Mathlib.Omega.{arith}
@@ -17,6 +17,12 @@ use Rattle.optimum.proofs.Slots.{Rising}
 use Rattle.optimum.proofs.StripsHeld.{Fit, value-best, next-fit}
 
 -- ---- the first that passes, as a loop finds it
+
+-- the first below n that passes either of two tests that agree there
+pub first-under : (n : ℕ) (t u : ℕ → Bool) → ((k : ℕ) → k < n → t k ≡ u k) → first n t ≡ first n u
+unfolding first
+first-under zero t u h = refl
+first-under (suc n) t u h = ap₂ (λ (b : Bool) (z : ℕ). cond b 0 (suc z)) (h 0 (omega arith)) (first-under n (λ k. t (suc k)) (λ k. u (suc k)) (λ k l. h (suc k) (omega arith)))
 
 pub first-at : (n : ℕ) (t : ℕ → Bool) (k : ℕ) → k < n → ((j : ℕ) → j < k → t j ≡ false) → t k ≡ true → first n t ≡ k
 unfolding first

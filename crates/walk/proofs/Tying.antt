@@ -21,13 +21,14 @@ use Rattle.arrays.specs.Given.{Given, instanceOf, pointIn, pointsOf, SiteIn}
 use Rattle.optimum.specs.Strips.{Point, Strip, Instance, State, hold, price, next, labels}
 use Rattle.labelling.specs.Layout.{tieWord}
 use Rattle.optimum.specs.OneSided.{topWord, writeTies}
+use Rattle.optimum.proofs.Loops.{first-under}
 use Rattle.optimum.specs.Reached.{noPoint}
 use Rattle.rows.specs.Rest.{LevelIn, restRows}
 use Rattle.choice.specs.Choice.{labelled, keepsCost, withTie}
 use Rattle.strips.specs.Steps.{priceIn, budgetLeft}
 use Rattle.walk.specs.Walk.{Found, valueIn, worthIn, levelWords, WalkIn, Standing, tiedFrom}
 use Rattle.rows.proofs.Folding.{size}
-use Rattle.walk.proofs.Value.{first-under, next-is}
+use Rattle.walk.proofs.Value.{next-is}
 
 module _ {g : Given} {work : List ℕ} (a : WalkIn g work) where
   abbrev q : Measures

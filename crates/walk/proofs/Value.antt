@@ -1,7 +1,7 @@
 -- REST over the words is the value of the state, where the rows of its strips hold the table; so the walk over the words is the
 -- walk by the table. Assumes nothing but that the heights rise, the parts counts are right, and the table is, wherever it is asked.
 use mathlib.Core.Path.{_≡_, refl, sym, ap, ap₂, _∙_, subst}
-use mathlib.Core.Bool.{Bool, cond}
+use mathlib.Core.Bool.{cond}
 use mathlib.Core.List.{List, [], _∷_}
 use Prim.Native.Nat.{ℕ, zero, suc, _+_, _-_, _*_, _<_}
 use native.Mathlib.Omega.{arith}
@@ -9,7 +9,7 @@ use lib.Dec.{eqb}
 use lib.ListN.{length, getD, set, drop, replicate, length-set, length-replicate}
 use lib.Seq.{getD-drop, drop-drop}
 use Rattle.lists.proofs.Tests.{by-test, by-order}
-use Rattle.search.specs.Cost.{plus, first}
+use Rattle.search.specs.Cost.{plus}
 use Rattle.search.proofs.Cost.{least-cong, plus-past}
 use Rattle.search.specs.Radix.{below}
 use Rattle.search.specs.Split.{just, conv}
@@ -25,7 +25,7 @@ use Rattle.optimum.proofs.Slots.{Rising}
 use Rattle.optimum.proofs.Levels.{value-rows}
 use Rattle.search.specs.Sums.{listing}
 use Rattle.search.proofs.Sums.{listing-same, length-listing}
-use Rattle.optimum.proofs.Loops.{walk-step}
+use Rattle.optimum.proofs.Loops.{first-under, walk-step}
 use Rattle.optimum.proofs.Reached.{reached-next, reached-rows}
 use Rattle.optimum.proofs.Pairs.{zeros}
 use Rattle.arrays.proofs.Marks.{turn-low}
@@ -35,11 +35,6 @@ use Rattle.rows.specs.Rows.{levelSize}
 use Rattle.rows.specs.Rest.{rowStart, splitRow, joinRow, foldRows, restRows}
 use Rattle.walk.specs.Walk.{Found, valueIn}
 use Rattle.rows.proofs.Folding.{join-long}
-
-pub first-under : (n : ℕ) (t u : ℕ → Bool) → ((k : ℕ) → k < n → t k ≡ u k) → first n t ≡ first n u
-unfolding first
-first-under zero t u h = refl
-first-under (suc n) t u h = ap₂ (λ (b : Bool) (z : ℕ). cond b 0 (suc z)) (h 0 (omega arith)) (first-under n (λ k. t (suc k)) (λ k. u (suc k)) (λ k l. h (suc k) (omega arith)))
 
 -- marks that are all 0 stay so
 pub set-zero : (n i : ℕ) → set {A = ℕ} (replicate n 0) i 0 ≡ replicate n 0
