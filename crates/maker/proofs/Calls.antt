@@ -4,11 +4,11 @@ use mathlib.Core.Bool.{Bool, true, false}
 use mathlib.Core.List.{List, [], _∷_}
 use Prim.Native.Nat.{ℕ, suc, _+_, _≤_, _<_}
 use native.Mathlib.Omega.{arith}
-use lib.ListN.{length, getD}
+use lib.ListN.{length, getD, take}
 use borrow.Author.Tests.{lt-ltb, eq-eqb}
 use Rattle.lists.proofs.Tests.{and-of}
-use Rattle.sheet.specs.Limits.{mostSlots, mostColours, mostSites, mostBudgets, wordTop}
-use Rattle.sheet.specs.Sheet.{Sheet, bodyOf, coloursIn, sheetIn, sheetFault, productOf, workFor}
+use Rattle.sheet.specs.Limits.{mostSlots, mostColours, mostSites, mostBudgets, byteTop, wordTop}
+use Rattle.sheet.specs.Sheet.{Sheet, sheetIn, sheetFault, productOf, workFor}
 use Rattle.sheet.specs.Binding.{bindingOnly, bindingColours, withColours}
 use Rattle.sheet.proofs.Accepted.{Sound, sound, unrefused}
 use Rattle.sheet.proofs.Binding.{sheet-binding, length-binding}
@@ -22,10 +22,13 @@ use Rattle.areas.proofs.faults.Faults.{fault-sheet, fault-side, fault-work, fau
 use Rattle.reader.specs.declared.Sizes.{Sizes}
 use Rattle.reader.specs.Read.{readOf, readPost}
 use Rattle.reader.proofs.Reading.{reading, refusal-is}
-use Rattle.refusals.specs.Wordwise.{capped}
 use Rattle.sizes.specs.Work.{workOf}
-use Rattle.reader.proofs.refusal_7.Factors.{capped-same}
-use Rattle.onesided.specs.Laying.{SizesOf, Made}
+use Rattle.onesided.specs.Laying.{TakesOneSided, Made}
+use Rattle.onesided.proofs.Parts.{bounds, bounds-fit}
+use Rattle.arrays.proofs.Ordered.{product-are}
+use Rattle.sizes.specs.Budgets.{productBy}
+use Rattle.decoding.specs.declared.Numbers.{Numbers}
+use Rattle.decoding.specs.Decoding.{numbersBy}
 
 -- a list of 32-bit numbers
 pub are-words : (ws : List ℕ) → ((i : ℕ) → getD ws i 0 < wordTop) → areWords ws ≡ true
@@ -75,13 +78,19 @@ module _ (ws k o : List ℕ) (r : Sizes) (e : r ≡ readPost ws) where
             rw (eq-eqb (sheetFault ws) 0 (g .accepted)) at e,
           )
 
--- THE SHEET WITHOUT THE BOUNDS THAT CAN'T BIND in place of the sheet, whose sizes are r
-module _ (ws k o ls : List ℕ) (e : ls ≡ bindingOnly ws) (t : takesSheet ws k o) (r : Sizes) (q : r ≡ readOf (sheetIn ws)) where
-  pub takes-kept : takesSheet ls k o
-  takes-kept = subst (λ (l : List ℕ). takesSheet l k o) (sym e) (takes-binding ws k o t)
+-- THE SHEET WITHOUT THE BOUNDS THAT CAN'T BIND in place of the sheet, whose sizes are r; d: its numbers
+module _ (ws k o : List ℕ) (t : takesSheet ws k o) (r : Sizes) (q : r ≡ readOf (sheetIn ws)) {d : Numbers} (e : d ≡ numbersBy (sheetIn (bindingOnly ws))) where
+  abbrev ls : List ℕ
+  ls = bindingOnly ws
 
   kept-is : sheetIn ls ≡ withColours (sheetIn ws) (bindingColours (sheetIn ws .colours))
-  kept-is = ap sheetIn e ∙ sheet-binding ws (unrefused ws (t .1) .head)
+  kept-is = sheet-binding ws (unrefused ws (t .1) .head)
+
+  pub takes-kept : takesSheet ls k o
+  takes-kept = takes-binding ws k o t
+
+  abbrev whole : TakesOneSided d (productOf (sheetIn ls .colours)) k o
+  whole = record { words = ls; takes = takes-kept; numbers = e; product = refl }
 
   -- the sizes fit
   pub small : (r .m ≤ mostSlots) × (r .c ≤ mostColours) × (r .n ≤ mostSites)
@@ -92,30 +101,37 @@ module _ (ws k o ls : List ℕ) (e : ls ≡ bindingOnly ws) (t : takesSheet ws k
         omega (arith, s .few-sites, ap (λ (z : Sizes). z .n) q),
       )
 
-  module _ (body : List ℕ) (p : ℕ) (h : body ≡ bodyOf ls) (c : p ≡ capped (productOf (coloursIn body))) where
-    few-budgets : productOf (sheetIn ls .colours) ≤ mostBudgets
-    few-budgets = sound ls (takes-kept .1) .product
+  -- the bounds, and what P asks of them
+  pub bounds-long : d .kinds ≡ length (take (d .kinds) (d .bounds))
+  bounds-long = bounds whole .1
 
+  pub bounds-low : ((i : ℕ) → getD (take (d .kinds) (d .bounds)) i 0 < byteTop) × (productBy (take (d .kinds) (d .bounds)) ≤ mostBudgets)
+  bounds-low = (bounds-fit whole .1, bounds-fit whole .2)
+
+  module _ (p : ℕ) (c : p ≡ productBy (take (d .kinds) (d .bounds))) where
     product-kept : p ≡ productOf (sheetIn ls .colours)
-    product-kept = c ∙ ap (λ (b : List ℕ). capped (productOf (coloursIn b))) h ∙ capped-same (productOf (sheetIn ls .colours)) few-budgets
+    product-kept = c ∙ ap productBy (bounds whole .0) ∙ product-are (sheetIn ls .colours)
 
     pub few : p ≤ mostBudgets
-    few = omega (arith, product-kept, few-budgets)
+    few = omega (arith, c, bounds-low .1)
 
-    -- n, m and C stay, and p is P
-    pub sizes-kept : SizesOf (sheetIn ls) (r .m) (r .c) (r .n) p
+    -- p is P
+    pub takes-numbers : TakesOneSided d p k o
+    takes-numbers = record { words = ls; takes = takes-kept; numbers = e; product = product-kept }
+
+    -- n, m and C stay
+    sizes-kept : (r .m ≡ length (sheetIn ls .slots)) × (r .c ≡ length (sheetIn ls .colours)) × (r .n ≡ length (sheetIn ls .sites))
     sizes-kept = (
       ap (λ (z : Sizes). z .m) q ∙ sym (ap (λ (s : Sheet). length (s .slots)) kept-is),
       ap (λ (z : Sizes). z .c) q ∙ sym (ap (λ (s : Sheet). length (s .colours)) kept-is ∙ length-binding (sheetIn ws .colours)),
       ap (λ (z : Sizes). z .n) q ∙ sym (ap (λ (s : Sheet). length (s .sites)) kept-is),
-      product-kept,
     )
 
     module _ (n : ℕ) (w : n ≡ workOf false (r .m) (r .c) (r .n) p) where
       words-kept : n ≡ workFor (sheetIn (bindingOnly ws))
       words-kept =
           let z = sizes-kept in
-          w ∙ (λ i. workOf (sym (takes-kept .4) i) (z .0 i) (z .1 i) (z .2 i) (z .3 i)) ∙ ap (λ (l : List ℕ). workFor (sheetIn l)) e
+          w ∙ (λ i. workOf (sym (takes-kept .4) i) (z .0 i) (z .1 i) (z .2 i) (product-kept i))
 
       words-given : r .work ≡ workFor (sheetIn ws)
       words-given = ap (λ (z : Sizes). z .work) q
@@ -125,11 +141,11 @@ module _ (ws k o ls : List ℕ) (e : ls ≡ bindingOnly ws) (t : takesSheet ws k
 
       -- the call, from the call on the sheet without them
       pub laid : (f : ℕ) (l m a : List ℕ) → f ≡ makeFault ls k o → l ≡ makeWork ls k o → a ≡ makeAnswer ls k o → m ≡ zeroed n (r .work) l → Made ws k o f m a
-      laid f l m a x y z d =
+      laid f l m a x y z g =
           record {
-            fault-is = x ∙ ap (λ (v : List ℕ). makeFault v k o) e ∙ fault-binding ws k o serves;
-            work-is = d ∙ ap₃ words-kept words-given (y ∙ ap (λ (v : List ℕ). makeWork v k o) e) ∙ work-zeroed ws k o serves;
-            out-is = z ∙ ap (λ (v : List ℕ). makeAnswer v k o) e ∙ area-binding ws k o serves;
+            fault-is = x ∙ fault-binding ws k o serves;
+            work-is = g ∙ ap₃ words-kept words-given y ∙ work-zeroed ws k o serves;
+            out-is = z ∙ area-binding ws k o serves;
           }
         where
           serves : Serves ws k o

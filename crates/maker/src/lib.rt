@@ -1,20 +1,21 @@
 // The layout maker: refusals 1 to 7, 18, 8 and 9, then the table and the walk, on the sheet without the bounds that can't bind.
 // `make_layout` asks nothing of its caller. What has a `requires` below it, here and in other crates, is internal to the maker.
+mod binding;
+
 ghost use mathlib.Core.Path.{_≡_};
 ghost use Rattle.sheet.specs.Sheet.{sheetIn};
 ghost use Rattle.labelling.specs.Entry.{makeFault, makeAnswer, makeWork};
 ghost use Rattle.labelling.specs.Promise.{takesSheet};
 ghost use Rattle.reader.specs.Read.{readOf};
 ghost use Rattle.onesided.specs.Laying.{Made};
+use crate::binding::binding_numbers;
 use areas::faults::maker_fault;
 use areas::zero_part;
 use onesided::lay_one_sided;
 use reader::Sizes;
-use reader::binding::binding_only;
-use reader::refusal_7::product;
 use refusals::refusal_18::is_two_sided;
+use sizes::product_of;
 use sizes::work_for;
-use words::body::body_of;
 
 // An accepted one-sided sheet as it was read, its areas long enough: laid out without the bounds that can't bind. These change P alone of
 // the sizes; where P falls, fewer work words are needed, so the rest is zeroed.
@@ -23,14 +24,18 @@ fn lay_binding(sheet: &[u32], sizes: Sizes, work: &mut [u32], out: &mut [u32]) -
     requires { ⌜ sizes ≡ readOf (sheetIn (now sheet)) ⌝ }
     ensures { λ r. ⌜ Made (now (sheet .entry)) (now (work .entry)) (now (out .entry)) r (now (work .exit)) (now (out .exit)) ⌝ }
 {
-    let words = binding_only(sheet);
-    let kept = &words[..sheet.len()];
-    let budgets = product(body_of(kept));
-    let slots = sizes.m as usize;
-    let colours = sizes.c as u32;
-    let sites = sizes.n as usize;
-    let table = work_for(false, sizes.m as u32, colours, sizes.n as u32, budgets);
-    let refusal = lay_one_sided(kept, slots, colours, sites, budgets, work, out);
+    let numbers = binding_numbers(sheet);
+    let kinds = numbers.kinds;
+    let bounds = numbers.bounds;
+    let budgets = product_of(&bounds[..kinds]);
+    let table = work_for(
+        false,
+        sizes.m as u32,
+        sizes.c as u32,
+        sizes.n as u32,
+        budgets,
+    );
+    let refusal = lay_one_sided(numbers, budgets, work, out);
     zero_part(work, table as usize, sizes.work as usize);
     refusal
 }

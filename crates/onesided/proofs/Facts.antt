@@ -27,7 +27,8 @@ use Rattle.arrays.specs.Arrays.{measuresOf, boundsOf, drawsList, xsOf, ysOf, co
 use Rattle.arrays.specs.Given.{Given, given, instanceOf, pointsOf, OfSheet}
 use Rattle.decoding.proofs.Places.{ys-at, colours-at}
 use Rattle.decoding.proofs.Fields.{bounds-long}
-use Rattle.arrays.proofs.Ordered.{gathered-long, gathered-word, radix-pos}
+use Rattle.arrays.proofs.Ordered.{gathered-long, gathered-word}
+use Rattle.sizes.proofs.Budgets.{radix-pos}
 use Rattle.rows.proofs.Folding.{size}
 use Rattle.rows.specs.Budgets.{Splits}
 use Rattle.walk.specs.Walk.{levelWords}

@@ -1,3 +1,3 @@
 mod Called
 mod Facts
-mod Parts
+pub mod Parts

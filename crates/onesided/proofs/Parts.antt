@@ -1,20 +1,25 @@
 -- The front parts of the arrays that are decoded from an accepted sheet are its lists, and as long as they are said to be. Assumes nothing.
-use mathlib.Core.Path.{_≡_, sym, ap, ap₂, _∙_}
+use mathlib.Core.Path.{_≡_, refl, sym, ap, ap₂, _∙_, subst, subst⁻¹}
 use mathlib.Core.List.{List, [], _∷_}
-use Prim.Native.Nat.{ℕ, zero, suc, _-_, _/_, _%_, _≤_, _<_}
+use Prim.Native.Nat.{ℕ, zero, suc, _/_, _%_, _≤_, _<_}
 use native.Mathlib.Omega.{arith}
 use lib.Dec.{eqb}
 use lib.ListN.{length, getD, take, length-take}
 use native.Mathlib.Nat.{mod-lt}
 use Rattle.lists.proofs.Tests.{by-test}
 use Rattle.sheet.specs.Limits.{mostSlots, mostColours, mostSites, mostBudgets, byteTop}
-use Rattle.sheet.specs.Sheet.{kindOf, Sheet, bodyOf, sheetIn, sheetFault}
-use Rattle.sheet.proofs.Accepted.{sound}
+use Rattle.sheet.specs.Sheet.{kindOf, Sheet, bodyOf, sheetIn}
+use Rattle.sheet.proofs.Accepted.{Sound, sound}
 use Rattle.optimum.specs.OneSided.{order}
 use Rattle.optimum.specs.Budgets.{radicesOf}
 use Rattle.optimum.proofs.optimality.Order.{ordered}
-use Rattle.arrays.specs.Arrays.{boundsOf, drawsList, xsOf, ysOf, coloursOf, gathered, ranksBy, orderBy, radicesBy, drawsBy, productBy}
-use Rattle.decoding.specs.Decoding.{collected}
+use Rattle.arrays.specs.Arrays.{measuresOf, boundsOf, drawsList, xsOf, ysOf, coloursOf, gathered, ranksBy, orderBy, radicesBy, drawsBy}
+use Rattle.sizes.specs.Budgets.{productBy}
+use Rattle.decoding.specs.declared.Numbers.{Numbers}
+use Rattle.decoding.specs.Decoding.{numbersBy, sheetBy, collected}
+use Rattle.decoding.proofs.Places.{sheet-read}
+use Rattle.arrays.specs.declared.Measures.{Measures}
+use Rattle.onesided.specs.Laying.{TakesOneSided, RankedSites}
 use Rattle.lists.proofs.Arrays.{padded-front}
 use Rattle.decoding.proofs.Fields.{bounds-long, xs-long, ys-long, colours-long, bounds-are}
 use Rattle.arrays.proofs.Ordered.{ranks-long, order-is, gathered-long, radices-are, radices-long, draws-are, draws-long, product-are}
@@ -37,61 +42,89 @@ collected-low k d q h (w ∷ ws) i = by-test (eqb (kindOf w) k) (λ e. rw e (fir
     first r zero = mod-lt (w / d) h
     first r (suc i) = r i
 
-module _ (ws : List ℕ) (f : sheetFault ws ≡ 0) where
+-- NUMBERS OF AN ACCEPTED SHEET
+module _ {d : Numbers} {p : ℕ} {k o : List ℕ} (t : TakesOneSided d p k o) where
   abbrev s : Sheet
-  s = sheetIn ws
+  s = sheetIn (t .words)
 
-  pub heights : (r : List ℕ) (k : ℕ) → r ≡ padded mostSlots (s .slots) → k ≡ length (s .slots) → IsFront r k (s .slots)
-  heights r k e h = part mostSlots (s .slots) r k e h
+  fine : Sound s
+  fine = sound (t .words) (t .takes .1)
 
-  pub bounds : (r : List ℕ) (k : ℕ) → r ≡ padded mostColours (boundsOf (s .colours)) → k ≡ length (s .colours) → IsFront r k (boundsOf (s .colours))
-  bounds r k e h = part mostColours (boundsOf (s .colours)) r k e (h ∙ sym (bounds-long (s .colours)))
+  kinds-are : d .kinds ≡ length (s .colours)
+  kinds-are = ap (λ (z : Numbers). z .kinds) (t .numbers)
 
-  pub bounds-low : (i : ℕ) → getD (boundsOf (s .colours)) i 0 < byteTop
-  bounds-low i = rw (← (bounds-are (bodyOf ws))) (collected-low 3 1 byteTop (omega arith) (bodyOf ws) i)
+  sites-are : d .sites ≡ length (s .sites)
+  sites-are = ap (λ (z : Numbers). z .sites) (t .numbers)
+
+  pub few-kinds : d .kinds ≤ mostColours
+  few-kinds = omega (arith, kinds-are, fine .few-colours)
+
+  pub few-sites : d .sites ≤ mostSites
+  few-sites = omega (arith, sites-are, fine .few-sites)
+
+  pub measures-are : _≡_ {A = Measures} (record { head = d .head; colours = d .kinds; budgets = p }) (measuresOf s)
+  measures-are = rw (t .numbers, t .product) refl
+
+  pub heights : IsFront (d .heights) (d .slots) (s .slots)
+  heights = part mostSlots (s .slots) (d .heights) (d .slots) (ap (λ (z : Numbers). z .heights) (t .numbers)) (ap (λ (z : Numbers). z .slots) (t .numbers))
+
+  pub bounds : IsFront (d .bounds) (d .kinds) (boundsOf (s .colours))
+  bounds = part mostColours (boundsOf (s .colours)) (d .bounds) (d .kinds) (ap (λ (z : Numbers). z .bounds) (t .numbers)) (kinds-are ∙ sym (bounds-long (s .colours)))
+
+  bounds-low : (i : ℕ) → getD (boundsOf (s .colours)) i 0 < byteTop
+  bounds-low i = rw (← (bounds-are (bodyOf (t .words)))) (collected-low 3 1 byteTop (omega arith) (bodyOf (t .words)) i)
 
   -- what the budget arrays ask of the bounds
-  pub bounds-fit : (l : List ℕ) → l ≡ boundsOf (s .colours) → (length l ≤ mostColours) × ((i : ℕ) → getD l i 0 < byteTop) × (productBy l ≤ mostBudgets)
-  bounds-fit l e =
-      rw e (omega (arith, bounds-long (s .colours), sound ws f .few-colours), bounds-low, omega (arith, product-are (s .colours), sound ws f .product))
+  pub bounds-fit : (length (take (d .kinds) (d .bounds)) ≤ mostColours) × ((i : ℕ) → getD (take (d .kinds) (d .bounds)) i 0 < byteTop) × (productBy (take (d .kinds) (d .bounds)) ≤ mostBudgets)
+  bounds-fit =
+      rw (bounds .0) (omega (arith, bounds-long (s .colours), fine .few-colours), bounds-low, omega (arith, product-are (s .colours), fine .product))
 
-  pub radices : (b r : List ℕ) (k : ℕ) → take k b ≡ boundsOf (s .colours) → k ≡ length (s .colours) → r ≡ padded mostColours (radicesBy (take k b))
-      → IsFront r k (radicesOf (s .colours))
-  radices b r k e h g =
-      part mostColours (radicesOf (s .colours)) r k (g ∙ ap (λ (l : List ℕ). padded mostColours (radicesBy l)) e ∙ ap (padded mostColours) (radices-are (s .colours)))
-      (h ∙ sym (bounds-long (s .colours)) ∙ sym (radices-long (boundsOf (s .colours))) ∙ ap length (radices-are (s .colours)))
+  pub radices : {r : List ℕ} → r ≡ padded mostColours (radicesBy (take (d .kinds) (d .bounds))) → IsFront r (d .kinds) (radicesOf (s .colours))
+  radices {r} g =
+      part mostColours (radicesOf (s .colours)) r (d .kinds) (g ∙ ap (λ (l : List ℕ). padded mostColours (radicesBy l)) (bounds .0) ∙ ap (padded mostColours) (radices-are (s .colours)))
+      (kinds-are ∙ sym (bounds-long (s .colours)) ∙ sym (radices-long (boundsOf (s .colours))) ∙ ap length (radices-are (s .colours)))
 
-  pub draws : (b r : List ℕ) (k : ℕ) → take k b ≡ boundsOf (s .colours) → k ≡ length (s .colours) → r ≡ padded mostColours (drawsBy 1 (take k b))
-      → IsFront r k (drawsList s)
-  draws b r k e h g =
-      part mostColours (drawsList s) r k (g ∙ ap (λ (l : List ℕ). padded mostColours (drawsBy 1 l)) e ∙ ap (padded mostColours) (draws-are s))
-      (h ∙ sym (bounds-long (s .colours)) ∙ sym (draws-long 1 (boundsOf (s .colours))) ∙ ap length (draws-are s))
+  pub draws : {r : List ℕ} → r ≡ padded mostColours (drawsBy 1 (take (d .kinds) (d .bounds))) → IsFront r (d .kinds) (drawsList s)
+  draws {r} g =
+      part mostColours (drawsList s) r (d .kinds) (g ∙ ap (λ (l : List ℕ). padded mostColours (drawsBy 1 l)) (bounds .0) ∙ ap (padded mostColours) (draws-are s))
+      (kinds-are ∙ sym (bounds-long (s .colours)) ∙ sym (draws-long 1 (boundsOf (s .colours))) ∙ ap length (draws-are s))
 
-  pub xs : (r : List ℕ) (k : ℕ) → r ≡ padded mostSites (xsOf (s .sites)) → k ≡ length (s .sites) → IsFront r k (xsOf (s .sites))
-  xs r k e h = part mostSites (xsOf (s .sites)) r k e (h ∙ sym (xs-long (s .sites)))
+  pub xs : IsFront (d .xs) (d .sites) (xsOf (s .sites))
+  xs = part mostSites (xsOf (s .sites)) (d .xs) (d .sites) (ap (λ (z : Numbers). z .xs) (t .numbers)) (sites-are ∙ sym (xs-long (s .sites)))
 
-  pub ys : (r : List ℕ) (k : ℕ) → r ≡ padded mostSites (ysOf (s .sites)) → k ≡ length (s .sites) → IsFront r k (ysOf (s .sites))
-  ys r k e h = part mostSites (ysOf (s .sites)) r k e (h ∙ sym (ys-long (s .sites)))
+  pub ys : IsFront (d .ys) (d .sites) (ysOf (s .sites))
+  ys = part mostSites (ysOf (s .sites)) (d .ys) (d .sites) (ap (λ (z : Numbers). z .ys) (t .numbers)) (sites-are ∙ sym (ys-long (s .sites)))
 
-  pub colours : (r : List ℕ) (k : ℕ) → r ≡ padded mostSites (coloursOf (s .sites)) → k ≡ length (s .sites) → IsFront r k (coloursOf (s .sites))
-  colours r k e h = part mostSites (coloursOf (s .sites)) r k e (h ∙ sym (colours-long (s .sites)))
+  pub colours : IsFront (d .colours) (d .sites) (coloursOf (s .sites))
+  colours = part mostSites (coloursOf (s .sites)) (d .colours) (d .sites) (ap (λ (z : Numbers). z .colours) (t .numbers)) (sites-are ∙ sym (colours-long (s .sites)))
 
-  pub ranks : (b d r : List ℕ) (k : ℕ) → take k b ≡ xsOf (s .sites) → take k d ≡ ysOf (s .sites) → k ≡ length (s .sites) → r ≡ padded mostSites (ranksBy (take k b) (take k d))
-      → IsFront r k (ranksBy (xsOf (s .sites)) (ysOf (s .sites)))
-  ranks b d r k e o h g =
-      part mostSites (ranksBy (xsOf (s .sites)) (ysOf (s .sites))) r k (g ∙ ap₂ (λ (x y : List ℕ). padded mostSites (ranksBy x y)) e o) (h ∙ sym (ranks-long s))
+  pub ranks : {r : List ℕ} → r ≡ padded mostSites (ranksBy (take (d .sites) (d .xs)) (take (d .sites) (d .ys))) → IsFront r (d .sites) (ranksBy (xsOf (s .sites)) (ysOf (s .sites)))
+  ranks {r} g =
+      part mostSites (ranksBy (xsOf (s .sites)) (ysOf (s .sites))) r (d .sites) (g ∙ ap₂ (λ (x y : List ℕ). padded mostSites (ranksBy x y)) (xs .0) (ys .0)) (sites-are ∙ sym (ranks-long s))
 
-  pub orders : (b r : List ℕ) (k : ℕ) → take k b ≡ ranksBy (xsOf (s .sites)) (ysOf (s .sites)) → k ≡ length (s .sites) → r ≡ padded mostSites (orderBy (take k b) (length (take k b)) 0)
-      → IsFront r k (order s)
-  orders b r k e h g =
-      part mostSites (order s) r k (g ∙ ap (λ (l : List ℕ). padded mostSites (orderBy l (length l) 0)) e ∙ ap (padded mostSites) (order-is s)) (h ∙ sym (ordered s (sound ws f) .long))
+  pub orders : (b r : List ℕ) → take (d .sites) b ≡ ranksBy (xsOf (s .sites)) (ysOf (s .sites)) → r ≡ padded mostSites (orderBy (take (d .sites) b) (length (take (d .sites) b)) 0) → IsFront r (d .sites) (order s)
+  orders b r e g =
+      part mostSites (order s) r (d .sites) (g ∙ ap (λ (l : List ℕ). padded mostSites (orderBy l (length l) 0)) e ∙ ap (padded mostSites) (order-is s)) (sites-are ∙ sym (ordered s fine .long))
 
   -- numbers of the sites by rank
-  pub ranked : (l b d r : List ℕ) (k : ℕ) → take k b ≡ l → take k d ≡ order s → k ≡ length (s .sites) → r ≡ padded mostSites (gathered (take k b) (take k d))
-      → IsFront r k (gathered l (order s))
-  ranked l b d r k e o h g =
-      part mostSites (gathered l (order s)) r k (g ∙ ap₂ (λ (x y : List ℕ). padded mostSites (gathered x y)) e o)
-      (h ∙ sym (ordered s (sound ws f) .long) ∙ sym (gathered-long l (order s)))
+  pub ranked : (l b q r : List ℕ) → take (d .sites) b ≡ l → take (d .sites) q ≡ order s → r ≡ padded mostSites (gathered (take (d .sites) b) (take (d .sites) q)) → IsFront r (d .sites) (gathered l (order s))
+  ranked l b q r e f g =
+      part mostSites (gathered l (order s)) r (d .sites) (g ∙ ap₂ (λ (x y : List ℕ). padded mostSites (gathered x y)) e f)
+      (sites-are ∙ sym (ordered s fine .long) ∙ sym (gathered-long l (order s)))
+
+  -- the sheet of the numbers is that of the words
+  sheet-is : sheetBy d ≡ s
+  sheet-is = sheet-read (t .numbers)
+
+  pub by-words : {us vs cs os : List ℕ} → RankedSites (sheetBy d) us vs cs os → RankedSites s us vs cs os
+  by-words {us} {vs} {cs} {os} r = subst (λ (z : Sheet). RankedSites z us vs cs os) sheet-is r
+
+  pub by-numbers : {us vs cs os : List ℕ} → RankedSites s us vs cs os → RankedSites (sheetBy d) us vs cs os
+  by-numbers {us} {vs} {cs} {os} r = subst⁻¹ (λ (z : Sheet). RankedSites z us vs cs os) sheet-is r
+
+  -- and so that of any words that have them
+  pub same-sheet : (ws : List ℕ) → d ≡ numbersBy (sheetIn ws) → s ≡ sheetIn ws
+  same-sheet ws e = sym sheet-is ∙ sheet-read e
 
 -- a part that is as long as asked stands in its array
 pub stands : (k : ℕ) (r : List ℕ) → k ≡ length (take k r) → k ≤ length r

@@ -9,24 +9,27 @@ use Rattle.labelling.specs.Promise.{takesSheet}
 use Rattle.optimum.specs.OneSided.{order}
 use Rattle.optimum.specs.Budgets.{radicesOf}
 use Rattle.arrays.specs.Arrays.{measuresOf, boundsOf, drawsList, xsOf, ysOf, coloursOf, gathered}
+use Rattle.decoding.specs.declared.Numbers.{Numbers}
+use Rattle.decoding.specs.Decoding.{numbersBy}
 use Rattle.arrays.specs.Given.{Given, given, OfSheet, Bounded, Ranked}
 use Rattle.table.specs.Marks.{TableFits}
 
--- the sizes of a sheet: m, C, n and P
-abbrev pub SizesOf : Sheet → (slots colours sites budgets : ℕ) → Type 0
-SizesOf s m c n p =
-    (m ≡ length (s .slots)) × (c ≡ length (s .colours)) × (n ≡ length (s .sites)) × (p ≡ productOf (s .colours))
-
--- an accepted one-sided sheet of these sizes, its areas long enough
-pub record TakesOneSided (ws work out : List ℕ) (slots colours sites budgets : ℕ) : Type 0 where
-  pub takes : takesSheet ws work out
-  pub sizes : SizesOf (sheetIn ws) slots colours sites budgets
+-- an accepted one-sided sheet by its numbers and P, its areas long enough; the words are there for the contract alone
+pub record TakesOneSided (d : Numbers) (budgets : ℕ) (work out : List ℕ) : Type 0 where
+  pub words : List ℕ
+  pub takes : takesSheet words work out
+  pub numbers : d ≡ numbersBy (sheetIn words)
+  pub product : budgets ≡ productOf (sheetIn words .colours)
 
 -- THE CALL: what it returns, and both areas after it, by what they were before
 pub record Made (ws work out : List ℕ) (fault : ℕ) (workAfter outAfter : List ℕ) : Type 0 where
   pub fault-is : fault ≡ makeFault ws work out
   pub work-is : workAfter ≡ makeWork ws work out
   pub out-is : outAfter ≡ makeAnswer ws work out
+
+-- the same of every sheet that has these numbers
+abbrev pub MadeBy : Numbers → (work out : List ℕ) → (fault : ℕ) → (workAfter outAfter : List ℕ) → Type 0
+MadeBy d k o f k' o' = (ws : List ℕ) → takesSheet ws k o → d ≡ numbersBy (sheetIn ws) → Made ws k o f k' o'
 
 -- the arrays are those of the sheet's sites, by rising rank
 pub record RankedSites (s : Sheet) (xs ys colours os : List ℕ) : Type 0 where

@@ -2,10 +2,10 @@
 ghost use mathlib.Core.Path.{_≡_};
 ghost use mathlib.Core.List.{[]};
 ghost use lib.ListN.{length};
-ghost use Rattle.sheet.specs.Sheet.{sheetIn};
+ghost use Rattle.decoding.specs.Decoding.{sheetBy};
 ghost use Rattle.arrays.specs.Given.{Given, given};
 ghost use Rattle.walk.specs.Laid.{laidFault, laidWork, laidOut};
-ghost use Rattle.onesided.specs.Laying.{TakesOneSided, Made, RankedSites, LaysOut};
+ghost use Rattle.onesided.specs.Laying.{TakesOneSided, MadeBy, RankedSites, LaysOut};
 use areas::zero_part;
 use arrays::Measures;
 use arrays::draws_of;
@@ -13,12 +13,7 @@ use arrays::gathered_of;
 use arrays::order_of;
 use arrays::radices_of;
 use arrays::ranks_of;
-use decoding::bounds_of;
-use decoding::colours_of;
-use decoding::head_of;
-use decoding::heights_of;
-use decoding::xs_of;
-use decoding::ys_of;
+use decoding::Numbers;
 use rows::budgets::BUDGETS_LENGTH;
 use rows::budgets::SPLITS_LENGTH;
 use rows::budgets::list_splits;
@@ -83,11 +78,9 @@ fn lay_ranked(
     fault
 }
 
-// What the layout maker does with an accepted one-sided sheet whose sites are given by rising rank.
+// What the layout maker does with the numbers of an accepted one-sided sheet, whose sites are given by rising rank.
 fn lay_sites(
-    sheet: &[u32],
-    slots: usize,
-    colour_count: u32,
+    numbers: Numbers,
     budgets: u32,
     xs: &[u32],
     ys: &[u32],
@@ -96,18 +89,20 @@ fn lay_sites(
     work: &mut [u32],
     out: &mut [u32],
 ) -> u8
-    requires { ⌜ TakesOneSided (now sheet) (now work) (now out) slots «colour_count» (length (now order)) budgets ⌝ }
-    requires { ⌜ RankedSites (sheetIn (now sheet)) (now xs) (now ys) (now colours) (now order) ⌝ }
-    ensures { λ r. ⌜ Made (now (sheet .entry)) (now (work .entry)) (now (out .entry)) r (now (work .exit)) (now (out .exit)) ⌝ }
+    requires { ⌜ TakesOneSided numbers budgets (now work) (now out) ⌝ }
+    requires { ⌜ RankedSites (sheetBy numbers) (now xs) (now ys) (now colours) (now order) ⌝ }
+    ensures { λ r. ⌜ MadeBy numbers (now (work .entry)) (now (out .entry)) r (now (work .exit)) (now (out .exit)) ⌝ }
 {
+    let head = numbers.head;
+    let count = numbers.kinds;
     let q = Measures {
-        head: head_of(sheet),
-        colours: colour_count,
+        head: head,
+        colours: count as u32,
         budgets: budgets,
     };
-    let heights = heights_of(sheet);
-    let bounds = bounds_of(sheet);
-    let count = colour_count as usize;
+    let slots = numbers.slots;
+    let heights = numbers.heights;
+    let bounds = numbers.bounds;
     let bounds = &bounds[..count];
     let radices = radices_of(bounds);
     let draws = draws_of(bounds);
@@ -126,22 +121,15 @@ fn lay_sites(
     )
 }
 
-// What the layout maker does with an accepted one-sided sheet of these sizes, its areas long enough.
-pub fn lay_one_sided(
-    sheet: &[u32],
-    slots: usize,
-    colours: u32,
-    sites: usize,
-    budgets: u32,
-    work: &mut [u32],
-    out: &mut [u32],
-) -> u8
-    requires { ⌜ TakesOneSided (now sheet) (now work) (now out) slots colours sites budgets ⌝ }
-    ensures { λ r. ⌜ Made (now (sheet .entry)) (now (work .entry)) (now (out .entry)) r (now (work .exit)) (now (out .exit)) ⌝ }
+// What the layout maker does with the numbers of an accepted one-sided sheet and its P, its areas long enough.
+pub fn lay_one_sided(numbers: Numbers, budgets: u32, work: &mut [u32], out: &mut [u32]) -> u8
+    requires { ⌜ TakesOneSided numbers budgets (now work) (now out) ⌝ }
+    ensures { λ r. ⌜ MadeBy numbers (now (work .entry)) (now (out .entry)) r (now (work .exit)) (now (out .exit)) ⌝ }
 {
-    let xs = xs_of(sheet);
-    let ys = ys_of(sheet);
-    let site_colours = colours_of(sheet);
+    let sites = numbers.sites;
+    let xs = numbers.xs;
+    let ys = numbers.ys;
+    let site_colours = numbers.colours;
     let xs = &xs[..sites];
     let ys = &ys[..sites];
     let ranks = ranks_of(xs, ys);
@@ -151,9 +139,7 @@ pub fn lay_one_sided(
     let ranked_ys = gathered_of(ys, order);
     let ranked_colours = gathered_of(&site_colours[..sites], order);
     lay_sites(
-        sheet,
-        slots,
-        colours,
+        numbers,
         budgets,
         &ranked_xs[..sites],
         &ranked_ys[..sites],

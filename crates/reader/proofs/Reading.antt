@@ -1,18 +1,14 @@
 -- What `read_sheet`'s answer says: its refusal, and each size of an accepted sheet. Assumes nothing.
 use mathlib.Core.Path.{_≡_, sym, ap, _∙_}
 use mathlib.Core.List.{List}
-use Prim.Native.Nat.{ℕ, _≤_}
+use Prim.Native.Nat.{ℕ}
 use lib.Dec.{eqb}
-use lib.ListN.{length, take}
-use borrow.Author.Tests.{eqb-true, eq-eqb, le-leb}
+use lib.ListN.{length}
+use borrow.Author.Tests.{eqb-true, eq-eqb}
 use Rattle.lists.proofs.Tests.{by-test}
-use Rattle.lists.proofs.Arrays.{padded-front}
-use Rattle.sheet.specs.Limits.{mostWords}
 use Rattle.sheet.specs.Sheet.{productOf, sheetIn, sheetFault, workFor}
-use Rattle.sheet.specs.Binding.{bindingOnly}
-use Rattle.sheet.proofs.Binding.{length-kept}
 use Rattle.reader.specs.declared.Sizes.{Sizes}
-use Rattle.reader.specs.Read.{eightOf, readOf, refusedOf, readPost, bindingArray}
+use Rattle.reader.specs.Read.{eightOf, readOf, refusedOf, readPost}
 
 -- its refusal is the sheet's
 pub refusal-is : (ws : List ℕ) (r : Sizes) → r ≡ readPost ws → r .refusal ≡ sheetFault ws
@@ -44,7 +40,3 @@ reading ws r e h =
       work = ap (λ (z : Sizes). z .work) q;
       eight = ap (λ (z : Sizes). z .colours) q;
     }
-
--- the front of the array of binding_only, for a list that is not too long
-pub binding-front : (ws r : List ℕ) → r ≡ bindingArray ws → length ws ≤ mostWords → take (length ws) r ≡ bindingOnly ws
-binding-front ws r e h = rw (e, le-leb (length ws) mostWords h) (padded-front mostWords (bindingOnly ws) (length ws) (sym (length-kept ws)))

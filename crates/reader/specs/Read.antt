@@ -2,12 +2,10 @@
 use mathlib.Core.Bool.{cond}
 use mathlib.Core.List.{List, [], _∷_, _++_}
 use Prim.Native.Nat.{ℕ, _-_}
-use lib.Dec.{eqb, leb}
+use lib.Dec.{eqb}
 use lib.ListN.{length, replicate}
-use Rattle.lists.specs.Arrays.{padded}
-use Rattle.sheet.specs.Limits.{mostColours, mostWords}
+use Rattle.sheet.specs.Limits.{mostColours}
 use Rattle.sheet.specs.Sheet.{Colour, productOf, Sheet, sheetIn, sheetFault, workFor}
-use Rattle.sheet.specs.Binding.{bindingOnly}
 use Rattle.reader.specs.declared.ColourSize.{ColourSize}
 use Rattle.reader.specs.declared.Sizes.{Sizes}
 
@@ -44,8 +42,3 @@ refusedOf f = record { refusal = f; n = 0; m = 0; c = 0; p = 0; work = 0; colour
 -- the reader's answer for every list of words
 abbrev pub readPost : (words : List ℕ) → Sizes
 readPost ws = cond (eqb (sheetFault ws) 0) (readOf (sheetIn ws)) (refusedOf (sheetFault ws))
-
--- the sheet without the bounds that can't bind, in an array as long as the longest sheet: of a longer list, which has no reading,
--- zeros alone
-abbrev pub bindingArray : (words : List ℕ) → List ℕ
-bindingArray ws = padded mostWords (cond (leb (length ws) mostWords) (bindingOnly ws) [])

@@ -1,5 +1,4 @@
 // The reader: the refusal of any list of words, or the sizes of the sheet in it.
-pub mod binding;
 pub mod faults;
 mod refusal_1;
 mod refusal_2;

@@ -1,2 +1,2 @@
 mod Bounds
-mod Binding
+pub mod Budgets

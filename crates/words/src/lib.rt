@@ -43,8 +43,6 @@ pub const MOST_SITES: usize = 32;
 
 pub const MOST_BUDGETS: u32 = 64;
 
-pub const MOST_WORDS: usize = 89;
-
 pub const UNBOUNDED: u32 = 255;
 
 pub const KIND_TOP: u32 = 268435456;

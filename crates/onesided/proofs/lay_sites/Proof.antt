@@ -1,99 +1,85 @@
 use Rattle.sheet.specs.Sheet.{sheetIn}
-use Rattle.arrays.specs.Arrays.{measuresOf, boundsOf, drawsList}
+use Rattle.onesided.proofs.Parts.{IsFront, few-kinds, measures-are, heights, bounds, bounds-fit, radices, draws, by-words, same-sheet, stands}
 use Rattle.optimum.specs.Budgets.{radicesOf}
-use Rattle.onesided.proofs.Parts.{IsFront, heights, bounds, bounds-fit, radices, draws, stands}
-use Rattle.onesided.proofs.Facts.{arrays-are, lays-is}
-use Rattle.onesided.proofs.Called.{laid-is}
-use mathlib.Core.Path.{_≡_, refl, _∙_}
-use mathlib.Core.List.{[]}
+use Rattle.arrays.specs.Arrays.{drawsList}
 use Rattle.arrays.specs.Given.{given}
 use Rattle.onesided.specs.Laying.{arraysOf}
-use Prim.Native.Nat.{_-_}
+use Rattle.onesided.proofs.Facts.{arrays-are, lays-is}
+use Rattle.onesided.proofs.Called.{laid-is}
+use mathlib.Core.Path.{_≡_, refl, ap, _∙_}
+use mathlib.Core.List.{[]}
+use native.Mathlib.Omega.{arith}
 use lib.ListN.{take}
 use borrow.Author.Needs.{needs}
 use Rattle.onesided.proofs.lay_sites.Statement.{statement}
 use Rattle.onesided.proofs.lay_sites.Tie as tie
 
+-- where the function starts, seen from where the bounds are lent
+abbrev begin : tie.After-bounds2 → tie.Start
+begin c = c .before .before .before .before .before .before .before .before .before .before
+
 -- the arrays are the sheet's
-heights-are : (c : tie.After-heights-of) → IsFront (c .heights-of .result) (c .before .before .before .before .before .before .before .before .before .args .slots) (sheetIn (c .before .before .before .before .before .before .before .before .before .args .sheet .now) .slots)
-heights-are c = heights (c .before .before .before .before .before .before .before .before .before .args .sheet .now) (c .before .before .before .before .before .before .before .before .before .pre .0 .takes .1) (c .heights-of .result) (c .before .before .before .before .before .before .before .before .before .args .slots) (c .heights-of .ensures) (c .before .before .before .before .before .before .before .before .before .pre .0 .sizes .0)
+radices-are : (c : tie.After-radices-of) → IsFront (c .radices-of .result) (begin (c .before) .args .numbers .kinds) (radicesOf (sheetIn (begin (c .before) .pre .0 .words) .colours))
+radices-are c = radices (begin (c .before) .pre .0) (c .radices-of .ensures)
 
-bounds-are : (c : tie.After-bounds-of) → IsFront (c .bounds-of .result) (c .before .before .before .before .before .before .before .before .before .before .args .colour-count) (boundsOf (sheetIn (c .before .before .before .before .before .before .before .before .before .before .args .sheet .now) .colours))
-bounds-are c = bounds (c .before .before .before .before .before .before .before .before .before .before .args .sheet .now) (c .before .before .before .before .before .before .before .before .before .before .pre .0 .takes .1) (c .bounds-of .result) (c .before .before .before .before .before .before .before .before .before .before .args .colour-count) (c .bounds-of .ensures) (c .before .before .before .before .before .before .before .before .before .before .pre .0 .sizes .1)
+draws-are : (c : tie.After-draws-of) → IsFront (c .draws-of .result) (begin (c .before .before) .args .numbers .kinds) (drawsList (sheetIn (begin (c .before .before) .pre .0 .words)))
+draws-are c = draws (begin (c .before .before) .pre .0) (c .draws-of .ensures)
 
-radices-are : (c : tie.After-radices-of) → IsFront (c .radices-of .result) (c .before .before .before .before .before .before .before .before .before .before .before .before .args .colour-count) (radicesOf (sheetIn (c .before .before .before .before .before .before .before .before .before .before .before .before .args .sheet .now) .colours))
-radices-are c = radices (c .before .before .before .before .before .before .before .before .before .before .before .before .args .sheet .now) (c .before .before .before .before .before .before .before .before .before .before .before .before .pre .0 .takes .1) (c .before .before .bounds-of .result) (c .radices-of .result) (c .before .before .before .before .before .before .before .before .before .before .before .before .args .colour-count) (bounds-are (c .before .before) .0) (c .before .before .before .before .before .before .before .before .before .before .before .before .pre .0 .sizes .1) (c .radices-of .ensures)
+arrays : (c : tie.After-draws-of) → (let a = begin (c .before .before) .args in let d = a .numbers in
+    given (record { head = d .head; colours = d .kinds; budgets = a .budgets }) (take (d .slots) (d .heights)) (take (d .kinds) (d .bounds)) (take (d .kinds) (c .before .radices-of .result)) (take (d .kinds) (c .draws-of .result))
+    (a .xs .now) (a .ys .now) (a .colours .now) (a .order .now) [] [] ≡ arraysOf (sheetIn (begin (c .before .before) .pre .0 .words)))
+arrays c =
+    let p = begin (c .before .before) .pre .0 in
+    arrays-are _ (measures-are p) (heights p .0) (bounds p .0) (radices-are (c .before) .0) (draws-are c .0) (by-words p (begin (c .before .before) .pre .1))
 
-draws-are : (c : tie.After-draws-of) → IsFront (c .draws-of .result) (c .before .before .before .before .before .before .before .before .before .before .before .before .before .args .colour-count) (drawsList (sheetIn (c .before .before .before .before .before .before .before .before .before .before .before .before .before .args .sheet .now)))
-draws-are c = draws (c .before .before .before .before .before .before .before .before .before .before .before .before .before .args .sheet .now) (c .before .before .before .before .before .before .before .before .before .before .before .before .before .pre .0 .takes .1) (c .before .before .before .bounds-of .result) (c .draws-of .result) (c .before .before .before .before .before .before .before .before .before .before .before .before .before .args .colour-count) (bounds-are (c .before .before .before) .0) (c .before .before .before .before .before .before .before .before .before .before .before .before .before .pre .0 .sizes .1) (c .draws-of .ensures)
-
-measures-are : (c : tie.After-head-of) → record { head = c .head-of .result; colours = c .before .before .before .before .before .before .before .before .args .colour-count; budgets = c .before .before .before .before .before .before .before .before .args .budgets } ≡ measuresOf (sheetIn (c .before .before .before .before .before .before .before .before .args .sheet .now))
-measures-are c = rw (c .head-of .ensures, c .before .before .before .before .before .before .before .before .pre .0 .sizes .1, c .before .before .before .before .before .before .before .before .pre .0 .sizes .3)
-
--- where the function starts, seen from the call of `lay_ranked`; the arrays there are the sheet's
-abbrev begin : tie.After-lay-ranked-arg2 → tie.Start
-begin c = c .before .before .before .before .before .before .before .before .before .before .before .before .before .before .before .before .before .before
-
-sheet-is : (c : tie.After-lay-ranked-arg2) → (let a = begin c .args in given (record { head = c .before .before .before .before .before .before .before .before .before .before .head-of .result; colours = a .colour-count; budgets = a .budgets }) (take (a .slots) (c .before .before .before .before .before .before .before .before .before .heights-of .result)) (take (a .colour-count) (c .before .before .before .before .before .before .before .before .bounds-of .result))
-    (take (a .colour-count) (c .before .before .before .before .before .before .radices-of .result)) (take (a .colour-count) (c .before .before .before .before .before .draws-of .result)) (a .xs .now) (a .ys .now) (a .colours .now) (a .order .now) [] [] ≡ arraysOf (sheetIn (a .sheet .now)))
-sheet-is c =
-    arrays-are _ (measures-are (c .before .before .before .before .before .before .before .before .before .before)) (heights-are (c .before .before .before .before .before .before .before .before .before) .0) (bounds-are (c .before .before .before .before .before .before .before .before) .0) (radices-are (c .before .before .before .before .before .before) .0) (draws-are (c .before .before .before .before .before) .0) (begin c .pre .1)
-
-heights-of-requires : tie.Need-heights-of-requires
-heights-of-requires c κs = c .before .before .before .before .before .before .before .before .pre .0 .takes .1
-
-bounds-of-requires : tie.Need-bounds-of-requires
-bounds-of-requires c κs = c .before .before .before .before .before .before .before .before .before .pre .0 .takes .1
+cast-t18 : tie.Need-cast-t18
+cast-t18 c =
+    omega (arith, few-kinds (c .before .before .before .before .before .before .before .pre .0))
 
 array-share-prefix-bounds : tie.Need-array-share-prefix-bounds
-array-share-prefix-bounds c = stands _ _ (bounds-are c .1)
+array-share-prefix-bounds c =
+    stands _ _ (bounds (c .before .before .before .before .before .before .before .before .before .pre .0) .1)
 
 slice-aggregate-bounds : tie.Need-slice-aggregate-bounds
-slice-aggregate-bounds c = bounds-are (c .before) .1
+slice-aggregate-bounds c =
+    bounds (begin c .pre .0) .1
 
 radices-of-requires : tie.Need-radices-of-requires
 radices-of-requires c κs =
-    let b = bounds-fit (c .before .before .before .before .before .before .before .before .before .before .before .args .sheet .now) (c .before .before .before .before .before .before .before .before .before .before .before .pre .0 .takes .1) _ (bounds-are (c .before) .0) in
-    (b .0, b .1)
+    let b = bounds-fit (begin c .pre .0) in (b .0, b .1)
 
 draws-of-requires : tie.Need-draws-of-requires
 draws-of-requires c κs =
-    let b = bounds-fit (c .before .before .before .before .before .before .before .before .before .before .before .before .args .sheet .now) (c .before .before .before .before .before .before .before .before .before .before .before .before .pre .0 .takes .1) _ (bounds-are (c .before .before) .0) in
-    (b .0, (b .1, b .2))
+    let b = bounds-fit (begin (c .before) .pre .0) in (b .0, (b .1, b .2))
 
 array-share-prefix-heights : tie.Need-array-share-prefix-heights
-array-share-prefix-heights c = stands _ _ (heights-are (c .before .before .before .before) .1)
+array-share-prefix-heights c =
+    stands _ _ (heights (begin (c .before .before) .pre .0) .1)
 
 slice-aggregate-lay-ranked : tie.Need-slice-aggregate-lay-ranked
-slice-aggregate-lay-ranked c = heights-are (c .before .before .before .before .before) .1
+slice-aggregate-lay-ranked c =
+    heights (begin (c .before .before .before) .pre .0) .1
 
 array-share-prefix-radices : tie.Need-array-share-prefix-radices
-array-share-prefix-radices c = stands _ _ (radices-are (c .before .before) .1)
+array-share-prefix-radices c =
+    stands _ _ (radices-are (c .before .before) .1)
 
 slice-aggregate-lay-ranked-2 : tie.Need-slice-aggregate-lay-ranked-2
-slice-aggregate-lay-ranked-2 c = radices-are (c .before .before .before) .1
+slice-aggregate-lay-ranked-2 c =
+    radices-are (c .before .before .before) .1
 
 array-share-prefix-draws : tie.Need-array-share-prefix-draws
-array-share-prefix-draws c = stands _ _ (draws-are (c .before .before) .1)
+array-share-prefix-draws c =
+    stands _ _ (draws-are (c .before .before) .1)
 
 slice-aggregate-lay-ranked-3 : tie.Need-slice-aggregate-lay-ranked-3
-slice-aggregate-lay-ranked-3 c = draws-are (c .before .before .before) .1
+slice-aggregate-lay-ranked-3 c =
+    draws-are (c .before .before .before) .1
 
 lay-ranked-requires : tie.Need-lay-ranked-requires
 lay-ranked-requires c κs =
-    let p = begin c .pre .0 in
-    lays-is (begin c .args .sheet .now) (p .takes .1) _ _ _ (sheet-is c) (p .takes .4) (p .takes .2) (p .takes .3)
-
-returns : tie.Need-returns
-returns c =
-    let a = begin (c .before .before .before .before .before) .args in
-    let p = begin (c .before .before .before .before .before) .pre .0 in
-    let m = laid-is (a .sheet .now) (a .work .now) (a .out .now) (p .takes) _ _ (sheet-is (c .before .before .before .before .before)) refl in
-    let e = c .before .before .before .before .lay-ranked .ensures in
-    record { fault-is = e .0 ∙ m .fault-is; work-is = e .1 .0 ∙ m .work-is; out-is = e .1 .1 ∙ m .out-is }
-
-head-of-requires : tie.Need-head-of-requires
-head-of-requires c κs = search needs
+    let p = begin (c .before .before .before .before .before .before .before) .pre .0 in
+    lays-is (p .words) (p .takes .1) _ _ _ (arrays (c .before .before .before .before .before)) (p .takes .4) (p .takes .2) (p .takes .3)
 
 same-length : tie.Need-same-length
 same-length c = search needs
@@ -101,13 +87,20 @@ same-length c = search needs
 same-length-2 : tie.Need-same-length-2
 same-length-2 c = search needs
 
+returns : tie.Need-returns
+returns c =
+    let a = begin (c .before .before .before .before .before .before .before .before .before .before .before .before) .args in
+    let p = begin (c .before .before .before .before .before .before .before .before .before .before .before .before) .pre .0 in
+    let e = c .before .before .before .before .lay-ranked .ensures in
+    λ ws t q.
+    let m = laid-is ws (a .work .now) (a .out .now) t _ _ (arrays (c .before .before .before .before .before .before .before .before .before .before) ∙ ap arraysOf (same-sheet p ws q)) refl in
+    record { fault-is = e .0 ∙ m .fault-is; work-is = e .1 .0 ∙ m .work-is; out-is = e .1 .1 ∙ m .out-is }
+
 pub lay-sites-spec : {M : Type 1} → statement M
 lay-sites-spec =
     tie.close
     (tie.spec
-    head-of-requires
-    heights-of-requires
-    bounds-of-requires
+    cast-t18
     array-share-prefix-bounds
     slice-aggregate-bounds
     radices-of-requires
