@@ -1,5 +1,5 @@
 -- The slots that are tried one after the other. Assumes nothing.
-use mathlib.Core.Path.{_≡_, refl, sym, ap, _∙_, subst⁻¹}
+use mathlib.Core.Path.{_≡_, refl, sym, ap, _∙_}
 use mathlib.Core.Bool.{Bool, true, false}
 use mathlib.Core.List.{List}
 use Prim.Native.Nat.{ℕ, _+_, _-_, _≤_, _<_}
@@ -10,21 +10,22 @@ use Rattle.lists.proofs.Tests.{by-equal}
 use Rattle.search.specs.Cost.{first}
 use Rattle.optimum.proofs.Loops.{first-at, first-none}
 use Rattle.optimum.specs.Strips.{Point, Strip}
+use Rattle.arrays.specs.Arrays.{turnBy}
 use Rattle.arrays.specs.Given.{Given, instanceOf}
 use Rattle.rows.specs.Rest.{LevelIn}
 use Rattle.strips.specs.Steps.{priceIn, budgetLeft}
-use Rattle.choice.specs.Choice.{comesTo, keepsCost}
+use Rattle.choice.specs.Choice.{markedAt, comesTo, keepsCost}
 
--- the labels are as they were
-pub level-same : (parts counts work : List ℕ) (base C R : ℕ) (old new : List ℕ) → new ≡ old → LevelIn parts counts work base C R old → LevelIn parts counts work base C R new
-level-same parts counts work base C R old new e l = subst⁻¹ (LevelIn parts counts work base C R) e l
+-- the labels and the marks are as they were
+pub level-same : (parts counts work : List ℕ) (base C R : ℕ) (old new was now : List ℕ) → new ≡ old → now ≡ was → LevelIn parts counts work base C R old was → LevelIn parts counts work base C R new now
+level-same parts counts work base C R old new was now e f l = rw (e, f) l
 
 -- what a slot is asked, by its step
-pub kept-by : (g : Given) (work : List ℕ) (base : ℕ) (p : Strip) (s : Point) (old new : List ℕ) (v here k left price : ℕ) (r : Bool) → new ≡ old → length old ≡ length (g .heights)
-    → left ≡ budgetLeft (instanceOf g) p s v k → price ≡ priceIn (instanceOf g) p s v k
-    → r ≡ comesTo (g .parts) (g .counts) work base (g .measures) (set new k (s .c + 1)) left price here
-    → r ≡ keepsCost g work base p s old v here k
-kept-by g work base p s old new v here k left price r e m l c f = f ∙ rw (length-set new k (s .c + 1), e, m, l, c, add-one (s .c)) refl
+pub kept-by : (g : Given) (work : List ℕ) (base : ℕ) (p : Strip) (s : Point) (old new was now : List ℕ) (v here k d left price : ℕ) (r : Bool) → new ≡ old → now ≡ was → length old ≡ length (g .heights)
+    → d ≡ turnBy (g .heights) s k → left ≡ budgetLeft (instanceOf g) p s v k → price ≡ priceIn (instanceOf g) p s v k
+    → r ≡ comesTo (g .parts) (g .counts) work base (g .measures) (set new k (s .c + 1)) (markedAt new now (p .a) d k) left price here
+    → r ≡ keepsCost g work base p s old was v here k
+kept-by g work base p s old new was now v here k d left price r e n m t l c f = f ∙ rw (length-set new k (s .c + 1), e, n, m, t, l, c, add-one (s .c)) refl
 
 -- the slot that the loop finds
 pub record Tried (t : ℕ → Bool) (m k : ℕ) : Type 0 where

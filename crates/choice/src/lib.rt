@@ -29,20 +29,23 @@ pub fn choose_slot(
     radices: &[u32],
     draws: &[u32],
     labels: &mut [u32],
+    marks: &mut [u32],
     p: Strip,
     s: Site,
     left: Left,
 ) -> u32
     ghost { Given }
     requires { λ g. ⌜ given q (now heights) (now bounds) (now radices) (now draws) [] [] [] [] (now parts) (now counts) ≡ g ⌝ }
-    requires { λ g. ⌜ ChosenIn g (now work) base (now labels) (pointOf s) left ⌝ }
-    ensures { λ g r. ⌜ r ≡ lowestKept g (now (work .entry)) base (stripOf p) (pointOf s) (now (labels .entry)) left ⌝ }
+    requires { λ g. ⌜ ChosenIn g (now work) base (now labels) (now marks) (p .a) (pointOf s) left ⌝ }
+    ensures { λ g r. ⌜ r ≡ lowestKept g (now (work .entry)) base (stripOf p) (pointOf s) (now (labels .entry)) (now (marks .entry)) left ⌝ }
     ensures { λ g _. ⌜ now (labels .exit) ≡ now (labels .entry) ⌝ }
+    ensures { λ g _. ⌜ now (marks .exit) ≡ now (marks .entry) ⌝ }
 {
     let m = heights.len() as u32;
     let c = s.c + 1;
     let mut k: u32 = 0;
     while k < m {
+        let d = strips::turn_at(heights, s, k);
         let step = strips::step_of(q, heights, bounds, radices, draws, p, s, left.budget, k);
         if crate::kept::keeps_cost(
             parts,
@@ -51,7 +54,10 @@ pub fn choose_slot(
             base,
             q,
             labels,
+            marks,
             k,
+            p.a,
+            d,
             c,
             step.left,
             step.price,

@@ -13,7 +13,6 @@ use Rattle.lists.proofs.Tests.{by-equal}
 use Rattle.search.specs.Cost.{plus}
 use Rattle.search.proofs.Cost.{least-cong}
 use Rattle.optimum.specs.OneSided.{topWord}
-use Rattle.optimum.proofs.Marks.{some-mark}
 use Rattle.search.specs.Split.{just}
 use Rattle.search.specs.Sums.{listing}
 use Rattle.search.proofs.Sums.{listing-first, length-listing}
@@ -67,12 +66,12 @@ unfolding joinRow
 join-long parts counts acc work row = length-listing _ 0 (length acc)
 
 -- a strip in range is one of its level
-pub lies : (m C R a ca b cb : ℕ) → StripIn m C R a ca b cb → Lies m C (record { a = a; ca = ca; b = b; cb = cb; d = 0 })
-lies m C R a ca b cb i =
-    record { aLow = omega (arith, i .aLow); caLow = omega (arith, i .caLow); bLow = omega (arith, i .bLow); cbLow = omega (arith, i .cbLow); dLow = some-mark }
+pub lies : (m C R a ca b cb d : ℕ) → StripIn m C R a ca b cb d → Lies m C (record { a = a; ca = ca; b = b; cb = cb; d = d })
+lies m C R a ca b cb d i =
+    record { aLow = omega (arith, i .aLow); caLow = omega (arith, i .caLow); bLow = omega (arith, i .bLow); cbLow = omega (arith, i .cbLow); dLow = i .dLow }
 
-pub row-inside : (m C R a ca b cb : ℕ) → StripIn m C R a ca b cb → rowStart m C R a ca b cb + R ≤ levelSize m C R
-row-inside m C R a ca b cb i = row-fits m C R _ (lies m C R a ca b cb i)
+pub row-inside : (m C R a ca b cb d : ℕ) → StripIn m C R a ca b cb d → rowStart m C R a ca b cb d + R ≤ levelSize m C R
+row-inside m C R a ca b cb d i = row-fits m C R _ (lies m C R a ca b cb d i)
 
 -- a level has few words
 pub size : (m C R : ℕ) → m ≤ mostSlots → C ≤ mostColours → R ≤ mostBudgets → levelSize m C R ≤ mostLevel
@@ -81,45 +80,45 @@ size m C R a b c = mul-le-mul {n₂ = mostRows} {m₂ = mostBudgets} (rows-few m
 -- ---- the fold over the open labels
 
 -- what is left to fold from slot i on is what was to fold at the start
-pub record Folding (parts counts work : List ℕ) (base C R : ℕ) (L start acc : List ℕ) (a ca i : ℕ) : Type 0 where
+pub record Folding (parts counts work : List ℕ) (base C R : ℕ) (L M start acc : List ℕ) (a ca i : ℕ) : Type 0 where
   pub long : length acc ≡ R
   pub passed : i ≤ length L
   pub above : a ≤ i
   pub colour : ca ≤ C
-  pub same : foldRows parts counts work base (length L) C R (length L) 0 0 0 L start ≡ foldRows parts counts work base (length L) C R (length L - i) i a ca L acc
+  pub same : foldRows parts counts work base (length L) C R (length L) 0 0 0 L M start ≡ foldRows parts counts work base (length L) C R (length L - i) i a ca L M acc
 
-pub folding-none : (parts counts work : List ℕ) (base C R : ℕ) (L start : List ℕ) → length start ≡ R → Folding parts counts work base C R L start start 0 0 0
-folding-none parts counts work base C R L start h =
-    record { long = h; passed = omega arith; above = omega arith; colour = omega arith; same = ap (λ (r : ℕ). foldRows parts counts work base (length L) C R r 0 0 0 L start) (omega arith) }
+pub folding-none : (parts counts work : List ℕ) (base C R : ℕ) (L M start : List ℕ) → length start ≡ R → Folding parts counts work base C R L M start start 0 0 0
+folding-none parts counts work base C R L M start h =
+    record { long = h; passed = omega arith; above = omega arith; colour = omega arith; same = ap (λ (r : ℕ). foldRows parts counts work base (length L) C R r 0 0 0 L M start) (omega arith) }
 
-pub folding-more : (parts counts work : List ℕ) (base C R : ℕ) (L start acc : List ℕ) (a ca i : ℕ) (next : List ℕ) (a′ ca′ : ℕ)
-    → Folding parts counts work base C R L start acc a ca i → i < length L → getD L i 0 ≤ C
-    → next ≡ cond (eqb (getD L i 0) 0) acc (joinRow parts counts acc work (base + rowStart (length L) C R a ca (i + 1) (getD L i 0)))
+pub folding-more : (parts counts work : List ℕ) (base C R : ℕ) (L M start acc : List ℕ) (a ca i : ℕ) (next : List ℕ) (a′ ca′ : ℕ)
+    → Folding parts counts work base C R L M start acc a ca i → i < length L → getD L i 0 ≤ C
+    → next ≡ cond (eqb (getD L i 0) 0) acc (joinRow parts counts acc work (base + rowStart (length L) C R a ca (i + 1) (getD L i 0) (getD M a 0)))
     → a′ ≡ cond (eqb (getD L i 0) 0) a (i + 1) → ca′ ≡ cond (eqb (getD L i 0) 0) ca (getD L i 0)
-    → Folding parts counts work base C R L start next a′ ca′ (i + 1)
-folding-more parts counts work base C R L start acc a ca i next a′ ca′ f l c en ea ec = rw (en, ea, ec) (go (eqb (getD L i 0) 0) refl)
+    → Folding parts counts work base C R L M start next a′ ca′ (i + 1)
+folding-more parts counts work base C R L M start acc a ca i next a′ ca′ f l c en ea ec = rw (en, ea, ec) (go (eqb (getD L i 0) 0) refl)
   where
-    step : foldRows parts counts work base (length L) C R (length L - i) i a ca L acc ≡ foldRows parts counts work base (length L) C R (suc (length L - (i + 1))) i a ca L acc
-    step = ap (λ (r : ℕ). foldRows parts counts work base (length L) C R r i a ca L acc) (omega arith)
+    step : foldRows parts counts work base (length L) C R (length L - i) i a ca L M acc ≡ foldRows parts counts work base (length L) C R (suc (length L - (i + 1))) i a ca L M acc
+    step = ap (λ (r : ℕ). foldRows parts counts work base (length L) C R r i a ca L M acc) (omega arith)
 
-    go : (b : Bool) → eqb (getD L i 0) 0 ≡ b → Folding parts counts work base C R L start (cond b acc (joinRow parts counts acc work (base + rowStart (length L) C R a ca (i + 1) (getD L i 0)))) (cond b a (i + 1)) (cond b ca (getD L i 0)) (i + 1)
+    go : (b : Bool) → eqb (getD L i 0) 0 ≡ b → Folding parts counts work base C R L M start (cond b acc (joinRow parts counts acc work (base + rowStart (length L) C R a ca (i + 1) (getD L i 0) (getD M a 0)))) (cond b a (i + 1)) (cond b ca (getD L i 0)) (i + 1)
     go true e =
         record { long = f .long; passed = omega arith; above = omega (arith, f .above); colour = f .colour; same = f .same ∙ step ∙ (unfold foldRows in rw (e, add-one i)) }
     go false e =
         record { long = join-long parts counts acc work _ ∙ f .long; passed = omega arith; above = omega arith; colour = c; same = f .same ∙ step ∙ (unfold foldRows in rw (e, add-one i)) }
 
-pub folding-all : (parts counts work : List ℕ) (base C R : ℕ) (L start acc : List ℕ) (a ca i : ℕ) → Folding parts counts work base C R L start acc a ca i → length L ≤ i
-    → joinRow parts counts acc work (base + rowStart (length L) C R a ca (length L + 1) 0) ≡ foldRows parts counts work base (length L) C R (length L) 0 0 0 L start
+pub folding-all : (parts counts work : List ℕ) (base C R : ℕ) (L M start acc : List ℕ) (a ca i : ℕ) → Folding parts counts work base C R L M start acc a ca i → length L ≤ i
+    → joinRow parts counts acc work (base + rowStart (length L) C R a ca (length L + 1) 0 (getD M a 0)) ≡ foldRows parts counts work base (length L) C R (length L) 0 0 0 L M start
 unfolding foldRows
-folding-all parts counts work base C R L start acc a ca i f h =
+folding-all parts counts work base C R L M start acc a ca i f h =
     let e : i ≡ length L = omega (arith, f .passed) in
     let z : length L - i ≡ 0 = omega arith in
     sym (f .same ∙ rw z (rw (e, add-one (length L))))
 
 -- the strip above the bottom edge
-pub last-strip : (parts counts work : List ℕ) (base C R : ℕ) (L start acc : List ℕ) (a ca i : ℕ) → LevelIn parts counts work base C R L → Folding parts counts work base C R L start acc a ca i
-    → StripIn (length L) C R a ca (length L + 1) 0
-last-strip parts counts work base C R L start acc a ca i p f =
+pub last-strip : (parts counts work : List ℕ) (base C R : ℕ) (L M start acc : List ℕ) (a ca i : ℕ) → LevelIn parts counts work base C R L M → Folding parts counts work base C R L M start acc a ca i
+    → StripIn (length L) C R a ca (length L + 1) 0 (getD M a 0)
+last-strip parts counts work base C R L M start acc a ca i p f =
     record {
       fewSlots = p .fewSlots;
       fewColours = p .fewColours;
@@ -128,6 +127,7 @@ last-strip parts counts work base C R L start acc a ca i p f =
       caLow = f .colour;
       bLow = omega arith;
       cbLow = omega arith;
+      dLow = p .marked a;
     }
 
 -- ---- the row that takes nothing and costs nothing

@@ -4,8 +4,8 @@ pub mod rest;
 
 ghost use mathlib.Core.Path.{_≡_};
 ghost use mathlib.Core.List.{List};
-ghost use Prim.Native.Nat.{ℕ, suc, _+_, _*_, _<_, _≤_};
-ghost use lib.ListN.{length, replicate};
+ghost use Prim.Native.Nat.{ℕ, _+_, _*_, _<_, _≤_};
+ghost use lib.ListN.{length};
 ghost use Rattle.sheet.specs.Limits.{mostSlots, mostColours, mostBudgets};
 ghost use Rattle.optimum.specs.Strips as model;
 ghost use Rattle.optimum.specs.OneSided.{markCount};
@@ -192,10 +192,10 @@ pub fn is_upper_end(e: End) -> bool
     0 < e.colour
 }
 
-// The strip that holds the height y.
-pub fn hold_of(heights: &[u32], labels: &[u32], y: u32) -> Strip
+// The strip that holds the height y, with its mark.
+pub fn hold_of(heights: &[u32], labels: &[u32], marks: &[u32], y: u32) -> Strip
     requires { ⌜ (length (now labels) ≡ length (now heights)) × (length (now heights) ≤ mostSlots) ⌝ }
-    ensures { λ r. ⌜ ((q : measured.Measures) (bs rs ds : List ℕ) → stripOf r ≡ model.hold (instanceBy q (now (heights .entry)) bs rs ds) (now (labels .entry)) (replicate (suc (length (now (heights .entry)))) 0) y) ⌝ }
+    ensures { λ r. ⌜ ((q : measured.Measures) (bs rs ds : List ℕ) → stripOf r ≡ model.hold (instanceBy q (now (heights .entry)) bs rs ds) (now (labels .entry)) (now (marks .entry)) y) ⌝ }
 {
     let m = labels.len();
     let mut a: u32 = 0;
@@ -211,7 +211,7 @@ pub fn hold_of(heights: &[u32], labels: &[u32], y: u32) -> Strip
                 ca: ca,
                 b: b,
                 cb: e,
-                d: 0,
+                d: words::get(marks, a),
             };
         }
         a = words::choose(none, a, b);
@@ -224,6 +224,6 @@ pub fn hold_of(heights: &[u32], labels: &[u32], y: u32) -> Strip
         ca: ca,
         b: end,
         cb: 0,
-        d: 0,
+        d: words::get(marks, a),
     }
 }

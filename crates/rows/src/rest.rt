@@ -37,16 +37,16 @@ fn join_row(parts: &[u8], counts: &[u8], acc: &mut [u32], work: &[u32], row: usi
 }
 
 // Where the entries of a strip begin in its level, of m slots.
-fn row_start(q: Measures, m: usize, a: u32, ca: u32, b: u32, cb: u32) -> usize
-    requires { ⌜ StripIn m (q .colours) (q .budgets) a ca b cb ⌝ }
-    ensures { λ r. ⌜ r ≡ rowStart m (q .colours) (q .budgets) a ca b cb ⌝ }
+fn row_start(q: Measures, m: usize, a: u32, ca: u32, b: u32, cb: u32, d: u32) -> usize
+    requires { ⌜ StripIn m (q .colours) (q .budgets) a ca b cb d ⌝ }
+    ensures { λ r. ⌜ r ≡ rowStart m (q .colours) (q .budgets) a ca b cb d ⌝ }
 {
     let strip = Strip {
         a: a,
         ca: ca,
         b: b,
         cb: cb,
-        d: 0,
+        d: d,
     };
     row_place(q, m, strip)
 }
@@ -63,20 +63,21 @@ fn fold_at(
     ca: u32,
     b: u32,
     cb: u32,
+    d: u32,
     acc: &mut [u32],
 )
-    requires { ⌜ StripIn m (q .colours) (q .budgets) a ca b cb ⌝ }
+    requires { ⌜ StripIn m (q .colours) (q .budgets) a ca b cb d ⌝ }
     requires { ⌜ (length (now acc) ≡ q .budgets) × Within (q .budgets) (now parts) (now counts) × (base + levelSize m (q .colours) (q .budgets) ≤ length (now work)) ⌝ }
-    ensures { λ _. ⌜ now (acc .exit) ≡ cond (eqb cb 0) (now (acc .entry)) (joinRow (now (parts .entry)) (now (counts .entry)) (now (acc .entry)) (now (work .entry)) (base + rowStart m (q .colours) (q .budgets) a ca b cb)) ⌝ }
+    ensures { λ _. ⌜ now (acc .exit) ≡ cond (eqb cb 0) (now (acc .entry)) (joinRow (now (parts .entry)) (now (counts .entry)) (now (acc .entry)) (now (work .entry)) (base + rowStart m (q .colours) (q .budgets) a ca b cb d)) ⌝ }
 {
     if cb == 0 {
         return;
     }
-    let row = base + row_start(q, m, a, ca, b, cb);
+    let row = base + row_start(q, m, a, ca, b, cb, d);
     join_row(parts, counts, acc, work, row);
 }
 
-// All strips of the open labels take their shares, by rising slot; what the budget v then costs.
+// All strips of the open labels, with their marks, take their shares, by rising slot; what the budget v then costs.
 fn fold_rows(
     parts: &[u8],
     counts: &[u8],
@@ -84,12 +85,13 @@ fn fold_rows(
     base: usize,
     q: Measures,
     labels: &[u32],
+    marks: &[u32],
     v: u32,
     acc: &mut [u32],
 ) -> u32
-    requires { ⌜ LevelIn (now parts) (now counts) (now work) base (q .colours) (q .budgets) (now labels) ⌝ }
+    requires { ⌜ LevelIn (now parts) (now counts) (now work) base (q .colours) (q .budgets) (now labels) (now marks) ⌝ }
     requires { ⌜ (length (now acc) ≡ q .budgets) × (v < q .budgets) ⌝ }
-    ensures { λ r. ⌜ r ≡ getD (foldRows (now (parts .entry)) (now (counts .entry)) (now (work .entry)) base (length (now (labels .entry))) (q .colours) (q .budgets) (length (now (labels .entry))) 0 0 0 (now (labels .entry)) (now (acc .entry))) v 0 ⌝ }
+    ensures { λ r. ⌜ r ≡ getD (foldRows (now (parts .entry)) (now (counts .entry)) (now (work .entry)) base (length (now (labels .entry))) (q .colours) (q .budgets) (length (now (labels .entry))) 0 0 0 (now (labels .entry)) (now (marks .entry)) (now (acc .entry))) v 0 ⌝ }
 {
     let m = labels.len();
     let mut a: u32 = 0;
@@ -98,14 +100,16 @@ fn fold_rows(
     while i < m {
         let e = labels[i];
         let b = i as u32 + 1;
-        fold_at(parts, counts, work, base, q, m, a, ca, b, e, acc);
+        let d = words::get(marks, a);
+        fold_at(parts, counts, work, base, q, m, a, ca, b, e, d, acc);
         let none = e == 0;
         a = words::choose(none, a, b);
         ca = words::choose(none, ca, e);
         i += 1;
     }
     let end = m as u32 + 1;
-    let row = base + row_start(q, m, a, ca, end, 0);
+    let d = words::get(marks, a);
+    let row = base + row_start(q, m, a, ca, end, 0, d);
     join_row(parts, counts, acc, work, row);
     let at = v as usize;
     acc[at]
@@ -119,14 +123,25 @@ pub fn rest_of(
     base: usize,
     q: Measures,
     labels: &[u32],
+    marks: &[u32],
     v: u32,
 ) -> u32
-    requires { ⌜ LevelIn (now parts) (now counts) (now work) base (q .colours) (q .budgets) (now labels) ⌝ }
+    requires { ⌜ LevelIn (now parts) (now counts) (now work) base (q .colours) (q .budgets) (now labels) (now marks) ⌝ }
     requires { ⌜ v < q .budgets ⌝ }
-    ensures { λ r. ⌜ r ≡ restRows (now (parts .entry)) (now (counts .entry)) (now (work .entry)) base (length (now (labels .entry))) (q .colours) (q .budgets) (now (labels .entry)) v ⌝ }
+    ensures { λ r. ⌜ r ≡ restRows (now (parts .entry)) (now (counts .entry)) (now (work .entry)) base (length (now (labels .entry))) (q .colours) (q .budgets) (now (labels .entry)) (now (marks .entry)) v ⌝ }
 {
     let r = q.budgets as usize;
     let mut acc = [words::NONE; BUDGETS_LENGTH];
     acc[0] = 0;
-    fold_rows(parts, counts, work, base, q, labels, v, &mut acc[..r])
+    fold_rows(
+        parts,
+        counts,
+        work,
+        base,
+        q,
+        labels,
+        marks,
+        v,
+        &mut acc[..r],
+    )
 }

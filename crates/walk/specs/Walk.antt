@@ -1,11 +1,11 @@
 -- THE WALK over the words of a table: the value of a state read off its level, and what the code asks for. Definitions.
 use mathlib.Core.Path.{_≡_}
 use mathlib.Core.List.{List, [], _∷_}
-use Prim.Native.Nat.{ℕ, suc, _+_, _-_, _*_, _≤_, _<_}
-use lib.ListN.{length, getD, drop, replicate}
+use Prim.Native.Nat.{ℕ, _+_, _-_, _*_, _≤_, _<_}
+use lib.ListN.{length, getD, drop}
 use Rattle.search.specs.Walk.{Process, chooseBy, walkBy}
 use Rattle.optimum.specs.Strips.{Point, Instance, State, labels as process}
-use Rattle.optimum.specs.OneSided.{topWord, writeTies}
+use Rattle.optimum.specs.OneSided.{topWord, markCount, writeTies}
 use Rattle.arrays.specs.Given.{Given, instanceOf, pointsOf, OfSheet, Bounded, Ranked}
 use Rattle.rows.specs.Budgets.{Splits}
 use Rattle.rows.specs.Rows.{levelSize}
@@ -18,7 +18,7 @@ Found G value x (s ∷ ss) = (chooseBy G value x s ss < G .m) × Found G value (
 
 -- the value of a state with the sites ss left, of n sites in all: REST of their level
 unfoldable pub valueIn : (P : Instance) (parts counts work : List ℕ) (C R n : ℕ) → State P → List Point → ℕ
-valueIn P parts counts work C R n x ss = restRows parts counts work ((n - length ss) * levelSize (P .slots .m) C R) (P .slots .m) C R (x .0) (x .1)
+valueIn P parts counts work C R n x ss = restRows parts counts work ((n - length ss) * levelSize (P .slots .m) C R) (P .slots .m) C R (x .0) (x .2) (x .1)
 
 -- the same from a sheet's arrays, and the words of one of its levels
 abbrev pub worthIn : (g : Given) → (work : List ℕ) → State (instanceOf g) → List Point → ℕ
@@ -35,23 +35,25 @@ pub record WalkIn (g : Given) (work : List ℕ) : Type 0 where
   pub splits : Splits (g .radices) (g .measures .budgets) (g .parts) (g .counts)
   pub whole : (length (g .order) + 1) * levelWords g ≤ length work
 
--- the state with these labels open and the budget v
-abbrev pub stateOf : (g : Given) → (labels : List ℕ) → (v : ℕ) → State (instanceOf g)
-stateOf g L v = (L, v, replicate (suc (length (g .heights))) 0)
+-- the state with these labels open, their marks and the budget v
+abbrev pub stateOf : (g : Given) → (labels marks : List ℕ) → (v : ℕ) → State (instanceOf g)
+stateOf g L M v = (L, v, M)
 
--- where the walk stands with the first j sites tied: the open labels, the budget v, and the least cost `here` of the sites left,
+-- where the walk stands with the first j sites tied: the open labels and their marks, the budget v, and the least cost `here` of the sites left,
 -- which the words hold and which is not none; and every step finds its slot
-pub record Standing (g : Given) (work labels out : List ℕ) (j v here : ℕ) : Type 0 where
+pub record Standing (g : Given) (work labels marks out : List ℕ) (j v here : ℕ) : Type 0 where
   pub tied : j ≤ length (pointsOf g)
   pub answerFits : length (pointsOf g) < length out
   pub labelsLong : length labels ≡ length (g .heights)
   pub coloured : (i : ℕ) → getD labels i 0 < g .measures .colours + 1
+  pub marksLong : length marks ≡ length (g .heights) + 1
+  pub marked : (i : ℕ) → getD marks i 0 < markCount
   pub budget : v < g .measures .budgets
   pub low : here < topWord
-  pub worth : here ≡ worthIn g work (stateOf g labels v) (drop j (pointsOf g))
-  pub found : Found (process (instanceOf g)) (worthIn g work) (stateOf g labels v) (drop j (pointsOf g))
+  pub worth : here ≡ worthIn g work (stateOf g labels marks v) (drop j (pointsOf g))
+  pub found : Found (process (instanceOf g)) (worthIn g work) (stateOf g labels marks v) (drop j (pointsOf g))
 
 -- the answer area with the ties of the walk from there on
-abbrev pub tiedFrom : (g : Given) → (work labels out : List ℕ) → (j v : ℕ) → List ℕ
-tiedFrom g work L out j v =
-    writeTies out (drop j (g .order)) (walkBy (process (instanceOf g)) (worthIn g work) (stateOf g L v) (drop j (pointsOf g)))
+abbrev pub tiedFrom : (g : Given) → (work labels marks out : List ℕ) → (j v : ℕ) → List ℕ
+tiedFrom g work L M out j v =
+    writeTies out (drop j (g .order)) (walkBy (process (instanceOf g)) (worthIn g work) (stateOf g L M v) (drop j (pointsOf g)))

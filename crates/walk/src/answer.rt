@@ -7,6 +7,9 @@ use choice::Left;
 use costs::first_word;
 use rows::rest::rest_of;
 
+// An array with a mark for each place above a strip: the top edge and each slot.
+const MARKS_LENGTH: usize = words::MOST_SLOTS + 1;
+
 // Reads the least cost off the filled table, and writes the layout of it: its first word, and the ties of the walk.
 pub fn lay_least(
     parts: &[u8],
@@ -32,7 +35,9 @@ pub fn lay_least(
     let v = q.budgets - 1;
     let m = heights.len();
     let mut labels = [0u32; words::MOST_SLOTS];
-    let least = rest_of(parts, counts, work, 0, q, &labels[..m], v);
+    let places = m + 1;
+    let mut marks = [0u32; MARKS_LENGTH];
+    let least = rest_of(parts, counts, work, 0, q, &labels[..m], &marks[..places], v);
     if least == words::NONE {
         return 10;
     }
@@ -55,6 +60,7 @@ pub fn lay_least(
         colours,
         order,
         &mut labels[..m],
+        &mut marks[..places],
         out,
         0,
         left,

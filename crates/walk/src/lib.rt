@@ -9,6 +9,7 @@ ghost use Rattle.walk.specs.Walk.{WalkIn, Standing, tiedFrom};
 use arrays::Measures;
 use choice::Left;
 use choice::choose_slot;
+use choice::kept::write_marks;
 use rows::rest::level_size;
 
 // Ties the site of rank j, and says what is left.
@@ -26,6 +27,7 @@ fn tie_site(
     colours: &[u32],
     order: &[u32],
     labels: &mut [u32],
+    marks: &mut [u32],
     out: &mut [u32],
     j: usize,
     left: Left,
@@ -33,12 +35,12 @@ fn tie_site(
     ghost { Given }
     requires { λ g. ⌜ given q (now heights) (now bounds) (now radices) (now draws) (now xs) (now ys) (now colours) (now order) (now parts) (now counts) ≡ g ⌝ }
     requires { λ g. ⌜ WalkIn g (now work) ⌝ }
-    requires { λ g. ⌜ Standing g (now work) (now labels) (now out) j (left .budget) (left .cost) × (j < length (now order)) ⌝ }
-    ensures { λ g r. ⌜ Standing g (now (work .entry)) (now (labels .exit)) (now (out .exit)) (j + 1) (r .budget) (r .cost) ⌝ }
-    ensures { λ g r. ⌜ tiedFrom g (now (work .entry)) (now (labels .entry)) (now (out .entry)) j (left .budget) ≡ tiedFrom g (now (work .entry)) (now (labels .exit)) (now (out .exit)) (j + 1) (r .budget) ⌝ }
+    requires { λ g. ⌜ Standing g (now work) (now labels) (now marks) (now out) j (left .budget) (left .cost) × (j < length (now order)) ⌝ }
+    ensures { λ g r. ⌜ Standing g (now (work .entry)) (now (labels .exit)) (now (marks .exit)) (now (out .exit)) (j + 1) (r .budget) (r .cost) ⌝ }
+    ensures { λ g r. ⌜ tiedFrom g (now (work .entry)) (now (labels .entry)) (now (marks .entry)) (now (out .entry)) j (left .budget) ≡ tiedFrom g (now (work .entry)) (now (labels .exit)) (now (marks .exit)) (now (out .exit)) (j + 1) (r .budget) ⌝ }
 {
     let s = rows::site_at(q, heights, xs, ys, colours, j);
-    let p = rows::hold_of(heights, labels, s.y);
+    let p = rows::hold_of(heights, labels, marks, s.y);
     let size = level_size(q, heights.len());
     let base = (j + 1) * size;
     let k = choose_slot(
@@ -52,12 +54,14 @@ fn tie_site(
         radices,
         draws,
         labels,
+        marks,
         p,
         s,
         left,
     );
     let step = strips::step_of(q, heights, bounds, radices, draws, p, s, left.budget, k);
     choice::ties::write_tie(order, out, j, k);
+    write_marks(labels, marks, p.a, strips::turn_at(heights, s, k), k);
     let slot = k as usize;
     labels[slot] = s.c + 1;
     let cost = words::monus(left.cost, step.price);
@@ -82,14 +86,15 @@ pub fn walk(
     colours: &[u32],
     order: &[u32],
     labels: &mut [u32],
+    marks: &mut [u32],
     out: &mut [u32],
     j: usize,
     left: Left,
 )
     ghost { Given }
     requires { λ g. ⌜ given q (now heights) (now bounds) (now radices) (now draws) (now xs) (now ys) (now colours) (now order) (now parts) (now counts) ≡ g ⌝ }
-    requires { λ g. ⌜ WalkIn g (now work) × Standing g (now work) (now labels) (now out) j (left .budget) (left .cost) ⌝ }
-    ensures { λ g _. ⌜ now (out .exit) ≡ tiedFrom g (now (work .entry)) (now (labels .entry)) (now (out .entry)) j (left .budget) ⌝ }
+    requires { λ g. ⌜ WalkIn g (now work) × Standing g (now work) (now labels) (now marks) (now out) j (left .budget) (left .cost) ⌝ }
+    ensures { λ g _. ⌜ now (out .exit) ≡ tiedFrom g (now (work .entry)) (now (labels .entry)) (now (marks .entry)) (now (out .entry)) j (left .budget) ⌝ }
 {
     if j == order.len() {
         return;
@@ -108,6 +113,7 @@ pub fn walk(
         colours,
         order,
         labels,
+        marks,
         out,
         j,
         left,
@@ -126,6 +132,7 @@ pub fn walk(
         colours,
         order,
         labels,
+        marks,
         out,
         j + 1,
         after,

@@ -12,17 +12,17 @@ use Rattle.walk.proofs.tie_site.Reads as tie-site-reads
 use Rattle.walk.proofs.+walk.{statement}
 use Rattle.walk.proofs.+walk.Tie.{close}
 
-abbrev μ-walk : Measures 13 walk-kinds.ps ℕ
-μ-walk κs a = length (a .1 .1 .1 .1 .1 .1 .1 .1 .1 .1 .1 .0 .now) - a .1 .1 .1 .1 .1 .1 .1 .1 .1 .1 .1 .1 .1 .1 .0
+abbrev μ-walk : Measures 14 walk-kinds.ps ℕ
+μ-walk κs a = length (a .1 .1 .1 .1 .1 .1 .1 .1 .1 .1 .1 .0 .now) - a .1 .1 .1 .1 .1 .1 .1 .1 .1 .1 .1 .1 .1 .1 .1 .0
 
-abbrev walk-at : ℕ → In 13 walk-kinds.ps
-walk-at t = and 13 walk-kinds.ps (is 13 walk-kinds.ps μ-walk t) walk.Pre
+abbrev walk-at : ℕ → In 14 walk-kinds.ps
+walk-at t = and 14 walk-kinds.ps (is 14 walk-kinds.ps μ-walk t) walk.Pre
 
-abbrev walk-below : ℕ → In 13 walk-kinds.ps
-walk-below t = and 13 walk-kinds.ps (falls 13 walk-kinds.ps _<_ μ-walk t) walk.Pre
+abbrev walk-below : ℕ → In 14 walk-kinds.ps
+walk-below t = and 14 walk-kinds.ps (falls 14 walk-kinds.ps _<_ μ-walk t) walk.Pre
 
 -- where the function starts, seen from after its slices are known
-abbrev begin : (t : ℕ) → walk-lts.After-slice-known2 (
+abbrev begin : (t : ℕ) → walk-lts.After-slice-known3 (
   tie-site-reads.Asked,
   tie-site-reads.Learnt,
   walk-below t,
@@ -33,7 +33,7 @@ abbrev begin : (t : ℕ) → walk-lts.After-slice-known2 (
   walk-below t,
   walk.Post,
 ) (walk-at t) walk.Post
-begin t c = c .before .before .before .before .before .before .before .before .before .before .before .before .before
+begin t c = c .before .before .before .before .before .before .before .before .before .before .before .before .before .before
 
 walk-returns : (t : ℕ) → walk-lts.Need-returns (
   tie-site-reads.Asked,
@@ -43,7 +43,7 @@ walk-returns : (t : ℕ) → walk-lts.Need-returns (
 ) (walk-at t) walk.Post
 walk-returns t c =
     let a = begin t (c .before) .args in
-    ended (begin t (c .before) .pre .1 .0) (a .j) (a .labels .now) (a .out .now) (a .left .budget) (c .if1 .taken)
+    ended (begin t (c .before) .pre .1 .0) (a .j) (a .labels .now) (a .marks .now) (a .out .now) (a .left .budget) (c .if1 .taken)
 
 walk-tie-site-requires : (t : ℕ) → walk-lts.Need-tie-site-requires (
   tie-site-reads.Asked,
@@ -52,8 +52,8 @@ walk-tie-site-requires : (t : ℕ) → walk-lts.Need-tie-site-requires (
   walk.Post,
 ) (walk-at t) walk.Post
 walk-tie-site-requires t c κs =
-    let p = begin t (c .before .before .before) .pre .1 in let a = begin t (c .before .before .before) .args in
-    (p .0, (p .1, omega (arith, p .1 .tied, long (p .0), c .before .before .if1 .left)))
+    let p = begin t (c .before .before .before .before) .pre .1 in let a = begin t (c .before .before .before .before) .args in
+    (p .0, (p .1, omega (arith, p .1 .tied, long (p .0), c .before .before .before .if1 .left)))
 
 walk-add-walk : (t : ℕ) → walk-lts.Need-add-walk (
   tie-site-reads.Asked,
@@ -62,7 +62,7 @@ walk-add-walk : (t : ℕ) → walk-lts.Need-add-walk (
   walk.Post,
 ) (walk-at t) walk.Post
 walk-add-walk t c =
-    let p = begin t (c .before .before .before .before .before .before .before .before .before .before) .pre .1 in let a = begin t (c .before .before .before .before .before .before .before .before .before .before) .args in
+    let p = begin t (c .before .before .before .before .before .before .before .before .before .before .before .before .before .before) .pre .1 in let a = begin t (c .before .before .before .before .before .before .before .before .before .before .before .before .before .before) .args in
     omega (arith, p .1 .tied, long (p .0), p .0 .sheet .fewSites, p .0 .ranked)
 
 walk-walk-requires : (t : ℕ) → walk-lts.Need-walk-requires (
@@ -72,8 +72,8 @@ walk-walk-requires : (t : ℕ) → walk-lts.Need-walk-requires (
   walk.Post,
 ) (walk-at t) walk.Post
 walk-walk-requires t c κs =
-    let p = begin t (c .before .before .before .before .before .before .before .before .before .before) .pre .1 in let a = begin t (c .before .before .before .before .before .before .before .before .before .before) .args in
-    (omega (arith, begin t (c .before .before .before .before .before .before .before .before .before .before) .pre .0, p .1 .tied, long (p .0), c .before .before .before .before .before .before .before .before .before .if1 .left), (p .0, c .before .before .before .before .before .before .tie-site .ensures .0))
+    let p = begin t (c .before .before .before .before .before .before .before .before .before .before .before .before .before .before) .pre .1 in let a = begin t (c .before .before .before .before .before .before .before .before .before .before .before .before .before .before) .args in
+    (omega (arith, begin t (c .before .before .before .before .before .before .before .before .before .before .before .before .before .before) .pre .0, p .1 .tied, long (p .0), c .before .before .before .before .before .before .before .before .before .before .before .before .before .if1 .left), (p .0, c .before .before .before .before .before .before .before .before .before .tie-site .ensures .0))
 
 walk-same-length : (t : ℕ) → walk-lts.Need-same-length (
   tie-site-reads.Asked,
@@ -82,7 +82,7 @@ walk-same-length : (t : ℕ) → walk-lts.Need-same-length (
   walk.Post,
 ) (walk-at t) walk.Post
 walk-same-length t c =
-    c .before .before .before .before .walk .kept .1 .1 .1 .1 .1 .1 .1 .1 .1 .1 .1 .1 .0 ∙ c .before .before .before .before .before .before .before .before .before .before .before .tie-site .kept .1 .1 .1 .1 .1 .1 .1 .1 .1 .1 .1 .1 .0
+    c .before .before .before .before .before .before .walk .kept .1 .1 .1 .1 .1 .1 .1 .1 .1 .1 .1 .1 .0 ∙ c .before .before .before .before .before .before .before .before .before .before .before .before .before .before .before .before .tie-site .kept .1 .1 .1 .1 .1 .1 .1 .1 .1 .1 .1 .1 .0
 
 walk-same-length-2 : (t : ℕ) → walk-lts.Need-same-length-2 (
   tie-site-reads.Asked,
@@ -91,7 +91,16 @@ walk-same-length-2 : (t : ℕ) → walk-lts.Need-same-length-2 (
   walk.Post,
 ) (walk-at t) walk.Post
 walk-same-length-2 t c =
-    c .before .before .before .before .walk .kept .1 .1 .1 .1 .1 .1 .1 .1 .1 .1 .1 .1 .1 .0 ∙ c .before .before .before .before .before .before .before .before .before .before .before .tie-site .kept .1 .1 .1 .1 .1 .1 .1 .1 .1 .1 .1 .1 .1 .0
+    c .before .before .before .before .before .before .walk .kept .1 .1 .1 .1 .1 .1 .1 .1 .1 .1 .1 .1 .1 .0 ∙ c .before .before .before .before .before .before .before .before .before .before .before .before .before .before .before .before .tie-site .kept .1 .1 .1 .1 .1 .1 .1 .1 .1 .1 .1 .1 .1 .0
+
+walk-same-length-3 : (t : ℕ) → walk-lts.Need-same-length-3 (
+  tie-site-reads.Asked,
+  tie-site-reads.Learnt,
+  walk-below t,
+  walk.Post,
+) (walk-at t) walk.Post
+walk-same-length-3 t c =
+    c .before .before .before .before .before .before .walk .kept .1 .1 .1 .1 .1 .1 .1 .1 .1 .1 .1 .1 .1 .1 .0 ∙ c .before .before .before .before .before .before .before .before .before .before .before .before .before .before .before .before .tie-site .kept .1 .1 .1 .1 .1 .1 .1 .1 .1 .1 .1 .1 .1 .1 .0
 
 walk-returns-2 : (t : ℕ) → walk-lts.Need-returns-2 (
   tie-site-reads.Asked,
@@ -100,7 +109,7 @@ walk-returns-2 : (t : ℕ) → walk-lts.Need-returns-2 (
   walk.Post,
 ) (walk-at t) walk.Post
 walk-returns-2 t c =
-    c .before .before .before .before .walk .ensures ∙ sym (c .before .before .before .before .before .before .before .before .before .before .before .tie-site .ensures .1)
+    c .before .before .before .before .before .before .walk .ensures ∙ sym (c .before .before .before .before .before .before .before .before .before .before .before .before .before .before .before .before .tie-site .ensures .1)
 
 pub +walk-spec : {M : Type 1} → statement M
 +walk-spec = close μ-walk λ t. walk-lts.spec (
@@ -117,4 +126,5 @@ pub +walk-spec : {M : Type 1} → statement M
     (walk-walk-requires t)
     (walk-same-length t)
     (walk-same-length-2 t)
+    (walk-same-length-3 t)
     (walk-returns-2 t)

@@ -3,6 +3,7 @@ use mathlib.Core.Path.{_≡_, refl, sym, ap, _∙_}
 use mathlib.Core.Bool.{true, false}
 use mathlib.Core.List.{List, _∷_}
 use Prim.Native.Nat.{ℕ, zero, suc, _+_, _-_, _*_, _≤_, _<_}
+use native.Mathlib.Numerals.{add-one}
 use native.Mathlib.Omega.{arith}
 use lib.Dec.{ltb}
 use lib.ListN.{length, set, take, replicate, length-set, length-replicate}
@@ -12,6 +13,7 @@ use Rattle.arrays.specs.Given.{Given, instanceOf, pointsOf}
 use Rattle.optimum.specs.Strips.{Point, Instance, value, labels}
 use Rattle.optimum.specs.OneSided.{topWord}
 use Rattle.optimum.proofs.Slots.{Rising}
+use Rattle.optimum.proofs.Marks.{some-mark}
 use Rattle.optimum.proofs.Pairs.{zeros}
 use Rattle.optimum.proofs.Reached.{reached-start}
 use Rattle.search.specs.Walk.{walkBy}
@@ -31,7 +33,7 @@ zeros-part (suc m) (suc n) h = ap (λ (l : List ℕ). 0 ∷ l) (zeros-part m n (
 pub front-long : (m n : ℕ) → m ≤ n → m ≡ length (take m (replicate {A = ℕ} n 0))
 front-long m n h = sym (ap length (zeros-part m n h) ∙ length-replicate m 0)
 
-module _ {g : Given} {work out : List ℕ} (L : List ℕ) (f : FilledIn g work out) (z : L ≡ replicate (length (g .heights)) 0) where
+module _ {g : Given} {work out : List ℕ} (L M : List ℕ) (f : FilledIn g work out) (z : L ≡ replicate (length (g .heights)) 0) (y : M ≡ replicate (length (g .heights) + 1) 0) where
   abbrev q : Measures
   q = g .measures
 
@@ -47,11 +49,17 @@ module _ {g : Given} {work out : List ℕ} (L : List ℕ) (f : FilledIn g work o
   abbrev none : List ℕ
   none = replicate (length hs) 0
 
+  abbrev unmarked : List ℕ
+  unmarked = replicate (suc (length hs)) 0
+
+  no-mark : M ≡ unmarked
+  no-mark = y ∙ ap (λ (n : ℕ). replicate n 0) (add-one (length hs))
+
   abbrev rising : Rising (P .slots)
   rising = f .arrays .sheet .rising
 
   -- the first level stands in the work area
-  pub first-level : LevelIn (g .parts) (g .counts) work 0 (q .colours) (q .budgets) L
+  pub first-level : LevelIn (g .parts) (g .counts) work 0 (q .colours) (q .budgets) L M
   first-level =
       let l : length L ≡ length hs = ap length z ∙ length-replicate (length hs) 0 in
       record {
@@ -60,40 +68,43 @@ module _ {g : Given} {work out : List ℕ} (L : List ℕ) (f : FilledIn g work o
         splits = f .arrays .splits .within;
         within = rw l (let e = whole (length (g .order)) (levelWords g) in omega (arith, f .arrays .whole, e));
         coloured = λ i. rw z (omega (arith, zeros (length hs) i));
+        marked = λ i. rw y (omega (arith, some-mark, zeros (length hs + 1) i));
       }
     where
       whole : (n s : ℕ) → s ≤ (n + 1) * s
       whole n s = omega arith
 
-  met : Met q hs (g .bounds) (g .radices) (g .draws) (g .parts) (g .counts) work (q .colours) (q .budgets) (f .arrays .splits) rising points (f .table) 0 none (q .budgets - 1)
+  met : Met q hs (g .bounds) (g .radices) (g .draws) (g .parts) (g .counts) work (q .colours) (q .budgets) (f .arrays .splits) rising points (f .table) 0 none unmarked (q .budgets - 1)
   met =
-      record { long = length-replicate (length hs) 0; budget = omega (arith, f .arrays .sheet .someBudget); reached = λ p i. reached-start P rising points p i }
+      record { long = length-replicate (length hs) 0; marksLong = length-replicate (suc (length hs)) 0; budget = omega (arith, f .arrays .sheet .someBudget); reached = λ p i. reached-start P rising points p i }
 
   worth : worthIn g work (emptySheet P (q .budgets)) points ≡ leastCost P (q .budgets) points
-  worth = met-value q hs (g .bounds) (g .radices) (g .draws) (g .parts) (g .counts) work (q .colours) (q .budgets) (f .arrays .splits) rising points (f .table) 0 points none (q .budgets - 1) refl (omega arith) met
+  worth = met-value q hs (g .bounds) (g .radices) (g .draws) (g .parts) (g .counts) work (q .colours) (q .budgets) (f .arrays .splits) rising points (f .table) 0 points none unmarked (q .budgets - 1) refl (omega arith) met
 
-  pub least-is : restRows (g .parts) (g .counts) work 0 (length L) (q .colours) (q .budgets) L (q .budgets - 1) ≡ leastCost P (q .budgets) points
+  pub least-is : restRows (g .parts) (g .counts) work 0 (length L) (q .colours) (q .budgets) L M (q .budgets - 1) ≡ leastCost P (q .budgets) points
   unfolding valueIn
   least-is =
       let e : length points - length points ≡ 0 = omega arith in
-      let y : 0 ≡ (length points - length points) * levelWords g = rw e (omega arith) in
-      rw (z, length-replicate {A = ℕ} (length hs) 0)
-      (ap (λ (b : ℕ). restRows (g .parts) (g .counts) work b (length hs) (q .colours) (q .budgets) none (q .budgets - 1)) y ∙ worth)
+      let o : 0 ≡ (length points - length points) * levelWords g = rw e (omega arith) in
+      rw (z, no-mark, length-replicate {A = ℕ} (length hs) 0)
+      (ap (λ (b : ℕ). restRows (g .parts) (g .counts) work b (length hs) (q .colours) (q .budgets) none unmarked (q .budgets - 1)) o ∙ worth)
 
   -- the walk from the empty sheet
   walked : leastCost P (q .budgets) points < topWord
       → (walkBy (labels P) (worthIn g work) (emptySheet P (q .budgets)) points ≡ walkBy (labels P) (value P) (emptySheet P (q .budgets)) points)
       × Found (labels P) (worthIn g work) (emptySheet P (q .budgets)) points
-  walked h = walk-right q hs (g .bounds) (g .radices) (g .draws) (g .parts) (g .counts) work (q .colours) (q .budgets) (f .arrays .splits) rising points (f .table) points 0 none (q .budgets - 1) refl (omega arith) met h
+  walked h = walk-right q hs (g .bounds) (g .radices) (g .draws) (g .parts) (g .counts) work (q .colours) (q .budgets) (f .arrays .splits) rising points (f .table) points 0 none unmarked (q .budgets - 1) refl (omega arith) met h
 
-  pub starts : (least x : ℕ) → least ≡ leastCost P (q .budgets) points → least < topWord → Standing g work L (set out 0 x) 0 (q .budgets - 1) least
+  pub starts : (least x : ℕ) → least ≡ leastCost P (q .budgets) points → least < topWord → Standing g work L M (set out 0 x) 0 (q .budgets - 1) least
   starts least x e h =
-      rw z
+      rw (z, no-mark)
       (record {
         tied = omega arith;
         answerFits = rw (length-set out 0 x) (omega (arith, f .answerFits, long (f .arrays)));
         labelsLong = length-replicate (length hs) 0;
         coloured = λ i. omega (arith, zeros (length hs) i);
+        marksLong = length-replicate (suc (length hs)) 0 ∙ sym (add-one (length hs));
+        marked = λ i. omega (arith, some-mark, zeros (suc (length hs)) i);
         budget = omega (arith, f .arrays .sheet .someBudget);
         low = h;
         worth = e ∙ sym worth;
@@ -101,8 +112,8 @@ module _ {g : Given} {work out : List ℕ} (L : List ℕ) (f : FilledIn g work o
       })
 
   pub ties : (least : ℕ) → least ≡ leastCost P (q .budgets) points → least < topWord
-      → tiedFrom g work L (set out 0 (firstWordBy q least)) 0 (q .budgets - 1) ≡ writtenBy P q points (g .order) out
-  ties least e h = rw (z, e, walked (omega arith) .0) refl
+      → tiedFrom g work L M (set out 0 (firstWordBy q least)) 0 (q .budgets - 1) ≡ writtenBy P q points (g .order) out
+  ties least e h = rw (z, no-mark, e, walked (omega arith) .0) refl
 
   -- the answer by the least cost
   pub none-laid : (least : ℕ) → least ≡ leastCost P (q .budgets) points → least ≡ topWord → (10 ≡ laidFault g) × (out ≡ laidOut g out)

@@ -21,12 +21,12 @@ row-start-requires c κs =
 
 add-row : tie.Need-add-row
 add-row c =
-    omega (arith, c .row-start .ensures, row-inside _ _ _ _ _ _ _ (c .before .before .before .before .before .before .pre .0), c .before .before .before .before .before .before .pre .1)
+    omega (arith, c .row-start .ensures, row-inside _ _ _ _ _ _ _ _ (c .before .before .before .before .before .before .pre .0), c .before .before .before .before .before .before .pre .1)
 
 join-row-requires : tie.Need-join-row-requires
 join-row-requires c κs =
     let p = c .before .before .before .before .before .before .before .pre in
-    (rw (p .1 .0) (p .1 .1), omega (arith, c .before .row-start .ensures, row-inside _ _ _ _ _ _ _ (p .0), p .1 .0, p .1 .2))
+    (rw (p .1 .0) (p .1 .1), omega (arith, c .before .row-start .ensures, row-inside _ _ _ _ _ _ _ _ (p .0), p .1 .0, p .1 .2))
 
 same-length : tie.Need-same-length
 same-length c = search needs

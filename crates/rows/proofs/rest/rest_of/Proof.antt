@@ -20,17 +20,17 @@ array-borrow-prefix-acc c = search needs
 
 slice-aggregate-fold-rows : tie.Need-slice-aggregate-fold-rows
 slice-aggregate-fold-rows c =
-    sym (start-long (c .before .before .before .before .before .before .args .q .budgets) mostBudgets (c .before .before .before .before .before .before .pre .0 .splits .few))
+    sym (start-long (c .before .before .before .before .before .before .before .args .q .budgets) mostBudgets (c .before .before .before .before .before .before .before .pre .0 .splits .few))
 
 fold-rows-requires : tie.Need-fold-rows-requires
 fold-rows-requires c κs =
-    (c .before .before .before .before .before .before .pre .0, (start-long (c .before .before .before .before .before .before .args .q .budgets) mostBudgets (c .before .before .before .before .before .before .pre .0 .splits .few), c .before .before .before .before .before .before .pre .1))
+    (c .before .before .before .before .before .before .before .pre .0, (start-long (c .before .before .before .before .before .before .before .args .q .budgets) mostBudgets (c .before .before .before .before .before .before .before .pre .0 .splits .few), c .before .before .before .before .before .before .before .pre .1))
 
 returns : tie.Need-returns
 unfolding restRows
 returns c =
-    let a = c .before .before .before .before .before .before .before .before .args in
-    c .before .fold-rows .ensures ∙ ap (λ (l : List ℕ). getD (foldRows (a .parts .now) (a .counts .now) (a .work .now) (a .base) (length (a .labels .now)) (a .q .colours) (a .q .budgets) (length (a .labels .now)) 0 0 0 (a .labels .now) l) (a .v) 0) (start-is (a .q .budgets) mostBudgets (c .before .before .before .before .before .before .before .before .pre .0 .splits .few))
+    let a = c .before .before .before .before .before .before .before .before .before .args in
+    c .before .fold-rows .ensures ∙ ap (λ (l : List ℕ). getD (foldRows (a .parts .now) (a .counts .now) (a .work .now) (a .base) (length (a .labels .now)) (a .q .colours) (a .q .budgets) (length (a .labels .now)) 0 0 0 (a .labels .now) (a .marks .now) l) (a .v) 0) (start-is (a .q .budgets) mostBudgets (c .before .before .before .before .before .before .before .before .before .pre .0 .splits .few))
 
 array-write-acc : tie.Need-array-write-acc
 array-write-acc c = search needs

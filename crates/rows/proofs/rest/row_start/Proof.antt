@@ -5,7 +5,7 @@ use Rattle.rows.proofs.rest.row_start.Tie as tie
 row-place-requires : tie.Need-row-place-requires
 row-place-requires c κs =
     let p = c .pre in
-    ((p .fewSlots, p .fewColours, p .fewBudgets), lies _ _ _ _ _ _ _ p)
+    ((p .fewSlots, p .fewColours, p .fewBudgets), lies _ _ _ _ _ _ _ _ p)
 
 returns : tie.Need-returns
 returns c = c .row-place .ensures
