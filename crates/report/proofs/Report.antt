@@ -1,5 +1,5 @@
 -- The program's text by what is refused, and how long it can be. Assumes nothing.
-use mathlib.Core.Path.{_≡_, refl}
+use mathlib.Core.Path.{_≡_, refl, sym, _∙_, subst⁻¹}
 use mathlib.Core.Bool.{Bool, true, false, cond, not}
 use mathlib.Core.List.{List, [], _∷_, _++_}
 use Prim.Native.Nat.{ℕ, suc, _+_, _*_, _-_, _%_, _<_, _≤_}
@@ -10,7 +10,8 @@ use lib.Seq.{take-at}
 use borrow.Author.Tests.{ltb-false, eqb-true, eq-eqb, ne-eqb}
 use Rattle.lists.proofs.Tests.{by-test, or-l}
 use Rattle.sheet.specs.Limits.{mostSites}
-use Rattle.sheet.specs.Sheet.{kindOf, sitesIn, sheetIn, sheetFault, workFor}
+use Rattle.sheet.specs.Sheet.{kindOf, sitesIn, bodyAt, bodyOf, sheetIn, sheetFault, workFor}
+use Rattle.labelling.proofs.Refusals.{make-chain}
 use Rattle.sheet.proofs.Accepted.{sound}
 use Rattle.labelling.specs.Layout.{best, statedCount, statedLength}
 use Rattle.labelling.specs.Entry.{isNone, makeFault, makeAnswer}
@@ -78,8 +79,9 @@ mostFault = 18
 
 fault-few : (ws k o : List ℕ) → makeFault ws k o ≤ mostFault
 fault-few ws k o =
-    chain (sheetFault ws) (not (eqb (sheetFault ws) 0)) (sheetIn ws .isTwoSided) (ltb (length k) (workFor (sheetIn ws)))
-    (ltb (length o) (length (sheetIn ws .sites) + 1)) (isNone (best (sheetIn ws))) (fault-seven ws)
+    subst⁻¹ (λ (n : ℕ). n ≤ mostFault) (make-chain ws k o)
+    (chain (sheetFault ws) (not (eqb (sheetFault ws) 0)) (sheetIn ws .isTwoSided) (ltb (length k) (workFor (sheetIn ws)))
+    (ltb (length o) (length (sheetIn ws .sites) + 1)) (isNone (best (sheetIn ws))) (fault-seven ws))
   where
     chain : (n : ℕ) (a t b c d : Bool) → n ≤ 7 → cond a n (cond t 18 (cond b 8 (cond c 9 (cond d 10 0)))) ≤ mostFault
     chain n true t b c d h = omega arith
@@ -95,11 +97,11 @@ none-first f x h = by-test (eqb f 0) (λ e. eqb-true f 0 e) λ e. rw e at h
 refused-few : (n : ℕ) → n ≤ mostFault → length (refusedLine n) ≤ textBound
 refused-few n h = simp length-append (omega (arith, few n (omega arith)))
 
-layout-few : (ws ls : List ℕ) → length ws ≤ inputWords → length (sitesIn 0 (drop 1 ws)) ≤ mostSites → length (layoutText (sheetIn ws) ls) ≤ textBound
+layout-few : (ws ls : List ℕ) → length ws ≤ inputWords → length (sitesIn 0 (bodyOf ws)) ≤ mostSites → length (layoutText (sheetIn ws) ls) ≤ textBound
 unfolding layoutText
 layout-few ws ls h n =
-    let d : length (drop 1 ws) ≡ length ws - 1 = length-drop 1 ws in
-    simp length-append (omega (arith, few (statedCount ls) (omega arith), few (statedLength ls) (omega arith), lines-few ls 0 0 (drop 1 ws) (omega arith) (omega arith)))
+    let d : length (bodyOf ws) ≡ length ws - 1 = length-drop (bodyAt ws) ws in
+    simp length-append (omega (arith, few (statedCount ls) (omega arith), few (statedLength ls) (omega arith), lines-few ls 0 0 (bodyOf ws) (omega arith) (omega arith)))
 
 by-few : (g n : ℕ) (t : List ℕ) → (g ≡ 0 → length t ≤ n) → length (refusedLine g) ≤ n → length (cond (eqb g 0) t (refusedLine g)) ≤ n
 by-few g n t h k = by-test (eqb g 0) (λ e. rw e (h (eqb-true g 0 e))) λ e. rw e k
@@ -108,7 +110,7 @@ sheet-few : (ws k o : List ℕ) → length ws ≤ inputWords → length (sheetTe
 unfolding sheetText
 sheet-few ws k o h =
     by-few (makeFault ws k o) textBound (layoutText (sheetIn ws) (makeAnswer ws k o))
-    (λ e. layout-few ws (makeAnswer ws k o) h (sound ws (none-first (sheetFault ws) _ e) .few-sites))
+    (λ e. layout-few ws (makeAnswer ws k o) h (sound ws (none-first (sheetFault ws) _ (sym (make-chain ws k o) ∙ e)) .few-sites))
     (refused-few (makeFault ws k o) (omega (arith, fault-few ws k o)))
 
 -- every text fits
