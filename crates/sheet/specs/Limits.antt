@@ -57,8 +57,8 @@ abbrev pub countTop : ℕ
 countTop = 128
 
 -- THE TABLE of the largest sheet: how many ends a strip may have (a slot or one of two edges, and a colour or none:
--- mostSlots + 2 times mostColours + 1), the strips of a level, a row each (mostEnds²), the words of a level (mostBudgets for
--- each row) and of all levels (mostSites + 1 of them). So no place of a table is too large a number.
+-- mostSlots + 2 times mostColours + 1), the rows of a level, one for each strip and mark (mostEnds² times optimum's markCount), the words of
+-- a level (mostBudgets for each row) and of all levels (mostSites + 1 of them). So no place of a table is too large a number.
 abbrev pub mostEnds : ℕ
 mostEnds = 450
 

@@ -75,6 +75,20 @@ walk-walk-requires t c κs =
     let p = begin t (c .before .before .before .before .before .before .before .before .before .before .before .before .before .before) .pre .1 in let a = begin t (c .before .before .before .before .before .before .before .before .before .before .before .before .before .before) .args in
     (omega (arith, begin t (c .before .before .before .before .before .before .before .before .before .before .before .before .before .before) .pre .0, p .1 .tied, long (p .0), c .before .before .before .before .before .before .before .before .before .before .before .before .before .if1 .left), (p .0, c .before .before .before .before .before .before .before .before .before .tie-site .ensures .0))
 
+-- where the site was tied, seen from the end
+abbrev after : (t : ℕ) → walk-lts.After-slice-known9 (
+  tie-site-reads.Asked,
+  tie-site-reads.Learnt,
+  walk-below t,
+  walk.Post,
+) (walk-at t) walk.Post → walk-lts.After-tie-site (
+  tie-site-reads.Asked,
+  tie-site-reads.Learnt,
+  walk-below t,
+  walk.Post,
+) (walk-at t) walk.Post
+after t c = c .before .before .before .before .before .before .before .before .before .before .before .before .before .before .before .before
+
 walk-same-length : (t : ℕ) → walk-lts.Need-same-length (
   tie-site-reads.Asked,
   tie-site-reads.Learnt,
@@ -82,7 +96,7 @@ walk-same-length : (t : ℕ) → walk-lts.Need-same-length (
   walk.Post,
 ) (walk-at t) walk.Post
 walk-same-length t c =
-    c .before .before .before .before .before .before .walk .kept .1 .1 .1 .1 .1 .1 .1 .1 .1 .1 .1 .1 .0 ∙ c .before .before .before .before .before .before .before .before .before .before .before .before .before .before .before .before .tie-site .kept .1 .1 .1 .1 .1 .1 .1 .1 .1 .1 .1 .1 .0
+    c .before .before .before .before .before .before .walk .kept .1 .1 .1 .1 .1 .1 .1 .1 .1 .1 .1 .1 .0 ∙ after t c .tie-site .kept .1 .1 .1 .1 .1 .1 .1 .1 .1 .1 .1 .1 .0
 
 walk-same-length-2 : (t : ℕ) → walk-lts.Need-same-length-2 (
   tie-site-reads.Asked,
@@ -91,7 +105,7 @@ walk-same-length-2 : (t : ℕ) → walk-lts.Need-same-length-2 (
   walk.Post,
 ) (walk-at t) walk.Post
 walk-same-length-2 t c =
-    c .before .before .before .before .before .before .walk .kept .1 .1 .1 .1 .1 .1 .1 .1 .1 .1 .1 .1 .1 .0 ∙ c .before .before .before .before .before .before .before .before .before .before .before .before .before .before .before .before .tie-site .kept .1 .1 .1 .1 .1 .1 .1 .1 .1 .1 .1 .1 .1 .0
+    c .before .before .before .before .before .before .walk .kept .1 .1 .1 .1 .1 .1 .1 .1 .1 .1 .1 .1 .1 .0 ∙ after t c .tie-site .kept .1 .1 .1 .1 .1 .1 .1 .1 .1 .1 .1 .1 .1 .0
 
 walk-same-length-3 : (t : ℕ) → walk-lts.Need-same-length-3 (
   tie-site-reads.Asked,
@@ -100,7 +114,7 @@ walk-same-length-3 : (t : ℕ) → walk-lts.Need-same-length-3 (
   walk.Post,
 ) (walk-at t) walk.Post
 walk-same-length-3 t c =
-    c .before .before .before .before .before .before .walk .kept .1 .1 .1 .1 .1 .1 .1 .1 .1 .1 .1 .1 .1 .1 .0 ∙ c .before .before .before .before .before .before .before .before .before .before .before .before .before .before .before .before .tie-site .kept .1 .1 .1 .1 .1 .1 .1 .1 .1 .1 .1 .1 .1 .1 .0
+    c .before .before .before .before .before .before .walk .kept .1 .1 .1 .1 .1 .1 .1 .1 .1 .1 .1 .1 .1 .1 .0 ∙ after t c .tie-site .kept .1 .1 .1 .1 .1 .1 .1 .1 .1 .1 .1 .1 .1 .1 .0
 
 walk-returns-2 : (t : ℕ) → walk-lts.Need-returns-2 (
   tie-site-reads.Asked,
@@ -109,7 +123,7 @@ walk-returns-2 : (t : ℕ) → walk-lts.Need-returns-2 (
   walk.Post,
 ) (walk-at t) walk.Post
 walk-returns-2 t c =
-    c .before .before .before .before .before .before .walk .ensures ∙ sym (c .before .before .before .before .before .before .before .before .before .before .before .before .before .before .before .before .tie-site .ensures .1)
+    c .before .before .before .before .before .before .walk .ensures ∙ sym (after t c .tie-site .ensures .1)
 
 pub +walk-spec : {M : Type 1} → statement M
 +walk-spec = close μ-walk λ t. walk-lts.spec (

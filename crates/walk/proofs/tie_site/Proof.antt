@@ -17,6 +17,10 @@ begin c = c .before .before .before .before .before .before .before .before .bef
 abbrev begin₂ : tie.After-slice-known5 → tie.Start
 begin₂ c = begin (c .before .before .before .before .before .before .before .before .before .before .before .before)
 
+-- where the slot was chosen, seen from where its label is written
+abbrev chosen : tie.After-struct-known → tie.After-slice-known5
+chosen c = c .before .before .before .before .before .before .before .before .before .before .before .before
+
 -- the step's facts, on plain values
 mid : (c : tie.After-slice-known5) → (let a = begin₂ c .args in Tied (begin₂ c .pre .0) (a .j) (a .labels .now) (a .marks .now) (a .out .now) (a .left .budget) (a .left .cost)
     (pointOf (c .before .before .before .before .before .before .before .before .before .before .before .site-at .result)) (stripOf (c .before .before .before .before .before .before .before .before .hold-of .result)) (c .before .before .before .before .choose-slot .result))
@@ -95,38 +99,38 @@ cast-slot c =
 
 add-labels : tie.Need-add-labels
 add-labels c =
-    let p = begin₂ (c .before .before .before .before .before .before .before .before .before .before .before .before) .pre in let a = begin₂ (c .before .before .before .before .before .before .before .before .before .before .before .before) .args in
-    let i = subst⁻¹ (SiteIn (a .q)) (c .before .before .before .before .before .before .before .before .before .before .before .before .before .before .before .before .before .before .before .before .before .before .before .site-at .ensures) (site-in (p .0) (a .j) (p .1 .1)) in
+    let p = begin₂ (chosen c) .pre in let a = begin₂ (chosen c) .args in
+    let i = subst⁻¹ (SiteIn (a .q)) ((chosen c) .before .before .before .before .before .before .before .before .before .before .before .site-at .ensures) (site-in (p .0) (a .j) (p .1 .1)) in
     omega (arith, i .colourLow, p .0 .sheet .fewColours)
 
 mul-labels : tie.Need-mul-labels
 mul-labels c =
-    omega (arith, mid (c .before .before .before .before .before .before .before .before .before .before .before .before) .slotLow, begin₂ (c .before .before .before .before .before .before .before .before .before .before .before .before) .pre .0 .sheet .fewSlots)
+    omega (arith, mid (chosen c) .slotLow, begin₂ (chosen c) .pre .0 .sheet .fewSlots)
 
 slice-write-labels : tie.Need-slice-write-labels
 slice-write-labels c =
-    let p = begin₂ (c .before .before .before .before .before .before .before .before .before .before .before .before) .pre in
-    omega (arith, mid (c .before .before .before .before .before .before .before .before .before .before .before .before) .slotLow, p .1 .0 .labelsLong, ap length (c .before .before .before .before .before .before .before .before .before .before .before .before .before .before .before .before .choose-slot .ensures .1 .0))
+    let p = begin₂ (chosen c) .pre in
+    omega (arith, mid (chosen c) .slotLow, p .1 .0 .labelsLong, ap length ((chosen c) .before .before .before .before .choose-slot .ensures .1 .0))
 
 monus-requires : tie.Need-monus-requires
 monus-requires c κs = search needs
 
 same-length : tie.Need-same-length
 same-length c =
-    simp length-set (ap length (c .before .before .before .before .before .before .before .before .before .before .before .before .before .before .before .before .before .choose-slot .ensures .1 .0))
+    simp length-set (ap length ((chosen (c .before)) .before .before .before .before .choose-slot .ensures .1 .0))
 
 same-length-2 : tie.Need-same-length-2
 same-length-2 c =
-    c .before .before .before .before .write-marks .kept .1 .0 ∙ ap length (c .before .before .before .before .before .before .before .before .before .before .before .before .before .before .before .before .before .choose-slot .ensures .1 .1)
+    c .before .before .before .before .write-marks .kept .1 .0 ∙ ap length ((chosen (c .before)) .before .before .before .before .choose-slot .ensures .1 .1)
 
 same-length-3 : tie.Need-same-length-3
 same-length-3 c =
-    ap length (c .before .before .before .before .before .before .before .before .before .before .write-tie .ensures) ∙ length-set (begin₂ (c .before .before .before .before .before .before .before .before .before .before .before .before .before) .args .out .now) _ _
+    ap length (c .before .before .before .before .before .before .before .before .before .before .write-tie .ensures) ∙ length-set (begin₂ (chosen (c .before)) .args .out .now) _ _
 
 returns : tie.Need-returns
 returns c =
-    let f = c .before .before .before .before .before .before .before .before .before .before .before .before .step-of .ensures in let o = c .before .before .before .before .before .before .before .before .before .before .before .before .before .before .before .before .before .choose-slot .ensures .1 in
-    step-by (begin₂ (c .before .before .before .before .before .before .before .before .before .before .before .before .before) .pre .0) (mid (c .before .before .before .before .before .before .before .before .before .before .before .before .before)) _ _ _ _ _ _ _ _ (o .0) (o .1) (c .before .before .before .before .before .turn-at .ensures) (c .before .before .before .before .write-marks .ensures) (c .before .before .before .before .before .before .before .before .before .before .write-tie .ensures) (f .0) (f .1) (c .monus .ensures)
+    let f = c .before .before .before .before .before .before .before .before .before .before .before .before .step-of .ensures in let o = (chosen (c .before)) .before .before .before .before .choose-slot .ensures .1 in
+    step-by (begin₂ (chosen (c .before)) .pre .0) (mid (chosen (c .before))) _ _ _ _ _ _ _ _ (o .0) (o .1) (c .before .before .before .before .before .turn-at .ensures) (c .before .before .before .before .write-marks .ensures) (c .before .before .before .before .before .before .before .before .before .before .write-tie .ensures) (f .0) (f .1) (c .monus .ensures)
 
 pub tie-site-spec : {M : Type 1} → statement M
 tie-site-spec =
