@@ -5,10 +5,11 @@ ghost use mathlib.Core.List.{_++_};
 ghost use Prim.Native.Nat.{_≤_};
 ghost use lib.Dec.{eqb};
 ghost use lib.ListN.{length, drop};
-ghost use Rattle.sheet.specs.Sheet.{sheetIn};
+ghost use Rattle.sheet.specs.Sheet.{sheetIn, sheetFault};
 ghost use Rattle.report.specs.Text.{written, pastOf};
 ghost use Rattle.report.specs.Lines.{refusedLine, layoutText};
 ghost use Rattle.report.specs.Report.{programSheetText, programText, textBound};
+use decoding::numbers_of;
 use libc::STDIN_FILENO;
 use libc::STDOUT_FILENO;
 use maker::make_layout;
@@ -32,8 +33,9 @@ const ANSWER_WORDS: usize = MOST_SITES + 1;
 // A bound on the text's length: a first line of at most 36 bytes, and a line of at most 50 for each site.
 const TEXT_BOUND: usize = 36 + MOST_SITES * 50;
 
-// A refusal, or the layout in an answer.
+// A refusal, or the layout in an answer; only a sheet that is accepted has one.
 fn put_answer(text: &mut [u8], sheet: &[u32], answer: &[u32], fault: u8) -> usize
+    requires { ⌜ (fault ≡ 0 → sheetFault (now sheet) ≡ 0) ⌝ }
     ensures { λ r. ⌜ r ≡ pastOf (now (text .entry)) 0 (cond (eqb fault 0) (layoutText (sheetIn (now (sheet .entry))) (now (answer .entry))) (refusedLine fault)) ⌝ }
     ensures { λ r. ⌜ now (text .exit) ≡ written (now (text .entry)) 0 (cond (eqb fault 0) (layoutText (sheetIn (now (sheet .entry))) (now (answer .entry))) (refusedLine fault)) ⌝ }
 {
@@ -41,7 +43,10 @@ fn put_answer(text: &mut [u8], sheet: &[u32], answer: &[u32], fault: u8) -> usiz
         let number = fault as u64;
         return put_refused(text, 0, number);
     }
-    put_layout(text, answer, sheet)
+    let numbers = numbers_of(sheet);
+    let sites = numbers.sites;
+    let colours = numbers.colours;
+    put_layout(text, answer, &colours[..sites])
 }
 
 // What the layout maker says of a sheet, with the program's areas for its work and its answer.

@@ -1,5 +1,5 @@
 mod Written
 mod Decimal
-mod LinesPut
+pub mod LinesPut
 mod Words
 pub mod Report

@@ -1,35 +1,31 @@
--- Lines from their parts, and the sites' lines word by word. Assumes nothing.
-use mathlib.Core.Path.{_≡_, refl, subst}
-use mathlib.Core.Bool.{false}
+-- Lines from their parts, and the sites' lines by their colours. Assumes nothing.
+use mathlib.Core.Path.{_≡_, refl, ap, subst}
 use mathlib.Core.List.{List, [], _∷_, _++_, append-assoc}
 use Prim.Native.Nat.{ℕ, suc, _+_, _<_}
 use native.Mathlib.Numerals.{add-one}
-use native.Mathlib.Omega.{arith}
-use lib.Dec.{eqb}
 use lib.ListN.{length, getD, drop}
 use lib.Seq.{drop-cons}
-use borrow.Author.Tests.{eqb-true, ne-eqb}
-use Rattle.lists.proofs.Tests.{by-test}
 use Rattle.report.specs.Text.{ascii, decimal, blank, lineFeed}
 use Rattle.report.proofs.Written.{Put, put-more}
-use Rattle.sheet.specs.Sheet.{kindOf, sitesIn}
-use Rattle.report.specs.Lines.{layoutLine, siteLine, siteLines, lineOf, countWith}
+use Rattle.sheet.specs.Sheet.{Site, Sheet}
+use Rattle.labelling.specs.Layout.{statedCount, statedLength}
+use Rattle.decoding.specs.Decoding.{coloursOf}
+use Rattle.report.specs.Lines.{layoutLine, siteLine, slotAt, siteLines, layoutText, siteLinesBy, layoutTextBy}
 
-pub lines-of : (ls : List ℕ) (i c w : ℕ) (ws : List ℕ) →
-    siteLines ls i (sitesIn c (w ∷ ws)) ≡ lineOf ls i c w ++ siteLines ls (countWith i 4 w) (sitesIn (countWith c 3 w) ws)
-unfolding siteLines sitesIn
-lines-of ls i c w ws =
-    by-test (eqb (kindOf w) 3)
-    (λ e. let k : kindOf w ≡ 3 = eqb-true (kindOf w) 3 e in
-    let f : eqb (kindOf w) 4 ≡ false = ne-eqb (kindOf w) 4 (λ z. omega arith) in rw (e, f, add-one c, none i) refl)
-    λ e. by-test (eqb (kindOf w) 4) (λ f. rw (e, f, add-one i, none c) refl) λ f. rw (e, f, none i, none c) refl
-  where
-    none : (n : ℕ) → n + 0 ≡ n
-    none n = omega arith
+-- the sites' lines by their colours
+pub lines-by : (ls : List ℕ) (i : ℕ) (ss : List Site) → siteLinesBy ls i (coloursOf ss) ≡ siteLines ls i ss
+unfolding siteLines siteLinesBy coloursOf
+lines-by ls i [] = refl
+lines-by ls i (s ∷ ss) = ap (λ (t : List ℕ). siteLine i (s .colour) (slotAt ls i) ++ t) (lines-by ls (suc i) ss)
 
-pub lines-at : (ls : List ℕ) (i c : ℕ) (s : List ℕ) (j : ℕ) → j < length s →
-    siteLines ls i (sitesIn c (drop j s)) ≡ lineOf ls i c (getD s j 0) ++ siteLines ls (countWith i 4 (getD s j 0)) (sitesIn (countWith c 3 (getD s j 0)) (drop (j + 1) s))
-lines-at ls i c s j h = rw (drop-cons s j 0 h, add-one j) (lines-of ls i c (getD s j 0) (drop (suc j) s))
+pub text-by : (s : Sheet) (ls : List ℕ) → layoutTextBy (coloursOf (s .sites)) ls ≡ layoutText s ls
+unfolding layoutText layoutTextBy
+text-by s ls = ap (λ (t : List ℕ). layoutLine (statedCount ls) (statedLength ls) ++ t) (lines-by ls 0 (s .sites))
+
+-- one more
+pub lines-at : (ls cs : List ℕ) (i : ℕ) → i < length cs → siteLinesBy ls i (drop i cs) ≡ siteLine i (getD cs i 0) (slotAt ls i) ++ siteLinesBy ls (i + 1) (drop (i + 1) cs)
+unfolding siteLinesBy
+lines-at ls cs i h = rw (drop-cons cs i 0 h, add-one i) refl
 
 -- A LINE from its parts, each a name, a number and a last byte
 abbrev Part : (name : List ℕ) (number last : ℕ) → List ℕ

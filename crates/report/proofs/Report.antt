@@ -1,6 +1,6 @@
 -- The program's text by what is refused, and how long it can be. Assumes nothing.
-use mathlib.Core.Path.{_≡_, refl, sym, _∙_, subst⁻¹}
-use mathlib.Core.Bool.{Bool, true, false, cond, not}
+use mathlib.Core.Path.{_≡_, refl}
+use mathlib.Core.Bool.{true, false, cond, not}
 use mathlib.Core.List.{List, [], _∷_, _++_}
 use Prim.Native.Nat.{ℕ, suc, _+_, _*_, _-_, _%_, _<_, _≤_}
 use native.Mathlib.Omega.{arith}
@@ -8,14 +8,15 @@ use lib.Dec.{eqb, ltb}
 use lib.ListN.{length, take, drop, length-append, length-drop}
 use lib.Seq.{take-at}
 use borrow.Author.Tests.{ltb-false, eqb-true, eq-eqb, ne-eqb}
-use Rattle.lists.proofs.Tests.{by-test, or-l}
+use Rattle.labelling.proofs.Maker.{refused-sheet}
+use Rattle.sheet.proofs.Refusals.{at-most}
+use Rattle.sheet.specs.Refusals.{numberedTo}
+use Rattle.lists.proofs.Tests.{by-test, or-l, by-equal}
 use Rattle.sheet.specs.Limits.{mostSites}
-use Rattle.sheet.specs.Sheet.{kindOf, sitesIn, bodyAt, bodyOf, sheetIn, sheetFault, workFor}
-use Rattle.labelling.proofs.Refusals.{make-chain}
+use Rattle.sheet.specs.Sheet.{kindOf, sitesIn, sheetIn, sheetFault, bodyOf, bodyAt}
 use Rattle.sheet.proofs.Accepted.{sound}
-use Rattle.labelling.specs.Layout.{best, statedCount, statedLength}
-use Rattle.labelling.specs.Entry.{isNone, makeFault, makeAnswer}
-use Rattle.sheet.proofs.Accepted.{fault-seven}
+use Rattle.labelling.specs.Layout.{statedCount, statedLength}
+use Rattle.labelling.specs.Entry.{makeFault, makeAnswer, makeRefusals}
 use Rattle.refusals.specs.Input.{mostBytes, isUnfit}
 use Rattle.report.specs.Input.{wordsIn}
 use Rattle.report.specs.Text.{decimal, written, pastOf}
@@ -77,22 +78,16 @@ lines-few ls i c (w ∷ ws) p q =
 abbrev mostFault : ℕ
 mostFault = 18
 
-fault-few : (ws k o : List ℕ) → makeFault ws k o ≤ mostFault
-fault-few ws k o =
-    subst⁻¹ (λ (n : ℕ). n ≤ mostFault) (make-chain ws k o)
-    (chain (sheetFault ws) (not (eqb (sheetFault ws) 0)) (sheetIn ws .isTwoSided) (ltb (length k) (workFor (sheetIn ws)))
-    (ltb (length o) (length (sheetIn ws .sites) + 1)) (isNone (best (sheetIn ws))) (fault-seven ws))
-  where
-    chain : (n : ℕ) (a t b c d : Bool) → n ≤ 7 → cond a n (cond t 18 (cond b 8 (cond c 9 (cond d 10 0)))) ≤ mostFault
-    chain n true t b c d h = omega arith
-    chain n false true b c d h = omega arith
-    chain n false false true c d h = omega arith
-    chain n false false false true d h = omega arith
-    chain n false false false false true h = omega arith
-    chain n false false false false false h = omega arith
+numbered : (ws k o : List ℕ) → numberedTo mostFault (makeRefusals ws k o) ≡ true
+unfolding numberedTo
+numbered ws k o = refl
 
-none-first : (f x : ℕ) → cond (not (eqb f 0)) f x ≡ 0 → f ≡ 0
-none-first f x h = by-test (eqb f 0) (λ e. eqb-true f 0 e) λ e. rw e at h
+fault-few : (ws k o : List ℕ) → makeFault ws k o ≤ mostFault
+fault-few ws k o = at-most mostFault (makeRefusals ws k o) (numbered ws k o)
+
+-- a sheet that is laid out is accepted
+pub made-accepted : (ws k o : List ℕ) → makeFault ws k o ≡ 0 → sheetFault ws ≡ 0
+made-accepted ws k o e = by-equal (sheetFault ws) 0 (λ z. z) (λ n. absurd (omega (arith, refused-sheet ws k o (omega arith) .fault-is)))
 
 refused-few : (n : ℕ) → n ≤ mostFault → length (refusedLine n) ≤ textBound
 refused-few n h = simp length-append (omega (arith, few n (omega arith)))
@@ -100,7 +95,7 @@ refused-few n h = simp length-append (omega (arith, few n (omega arith)))
 layout-few : (ws ls : List ℕ) → length ws ≤ inputWords → length (sitesIn 0 (bodyOf ws)) ≤ mostSites → length (layoutText (sheetIn ws) ls) ≤ textBound
 unfolding layoutText
 layout-few ws ls h n =
-    let d : length (bodyOf ws) ≡ length ws - 1 = length-drop (bodyAt ws) ws in
+    let d : length (bodyOf ws) ≡ length ws - bodyAt ws = length-drop (bodyAt ws) ws in
     simp length-append (omega (arith, few (statedCount ls) (omega arith), few (statedLength ls) (omega arith), lines-few ls 0 0 (bodyOf ws) (omega arith) (omega arith)))
 
 by-few : (g n : ℕ) (t : List ℕ) → (g ≡ 0 → length t ≤ n) → length (refusedLine g) ≤ n → length (cond (eqb g 0) t (refusedLine g)) ≤ n
@@ -110,7 +105,7 @@ sheet-few : (ws k o : List ℕ) → length ws ≤ inputWords → length (sheetTe
 unfolding sheetText
 sheet-few ws k o h =
     by-few (makeFault ws k o) textBound (layoutText (sheetIn ws) (makeAnswer ws k o))
-    (λ e. layout-few ws (makeAnswer ws k o) h (sound ws (none-first (sheetFault ws) _ (sym (make-chain ws k o) ∙ e)) .few-sites))
+    (λ e. layout-few ws (makeAnswer ws k o) h (sound ws (made-accepted ws k o e) .few-sites))
     (refused-few (makeFault ws k o) (omega (arith, fault-few ws k o)))
 
 -- every text fits

@@ -1,10 +1,8 @@
 -- The lines of a report. Assumes nothing: these are definitions.
-use mathlib.Core.Bool.{cond}
 use mathlib.Core.List.{List, [], _∷_, _++_}
-use Prim.Native.Nat.{ℕ, suc, _+_, _-_}
-use lib.Dec.{eqb}
+use Prim.Native.Nat.{ℕ, suc, _+_}
 use lib.ListN.{getD}
-use Rattle.sheet.specs.Sheet.{bits, kindOf, Site, Sheet}
+use Rattle.sheet.specs.Sheet.{bits, Site, Sheet}
 use Rattle.labelling.specs.Layout.{statedCount, statedLength}
 use Rattle.report.specs.Text.{ascii, decimal}
 
@@ -26,12 +24,13 @@ unfoldable pub siteLines : (layout : List ℕ) → (site : ℕ) → List Site �
 siteLines ls i [] = []
 siteLines ls i (s ∷ ss) = siteLine i (s .colour) (slotAt ls i) ++ siteLines ls (suc i) ss
 
--- the same word by word: the line of a site's word, and the numbers after it
-abbrev pub lineOf : (layout : List ℕ) → (site colours word : ℕ) → List ℕ
-lineOf ls i c w = cond (eqb (kindOf w) 4) (siteLine i (c - 1) (slotAt ls i)) []
-
-abbrev pub countWith : (number kind word : ℕ) → ℕ
-countWith n k w = n + cond (eqb (kindOf w) k) 1 0
-
 unfoldable pub layoutText : Sheet → (layout : List ℕ) → List ℕ
 layoutText s ls = layoutLine (statedCount ls) (statedLength ls) ++ siteLines ls 0 (s .sites)
+
+-- the same by the sites' colours alone
+unfoldable pub siteLinesBy : (layout : List ℕ) → (site : ℕ) → (colours : List ℕ) → List ℕ
+siteLinesBy ls i [] = []
+siteLinesBy ls i (c ∷ cs) = siteLine i c (slotAt ls i) ++ siteLinesBy ls (suc i) cs
+
+unfoldable pub layoutTextBy : (colours layout : List ℕ) → List ℕ
+layoutTextBy cs ls = layoutLine (statedCount ls) (statedLength ls) ++ siteLinesBy ls 0 cs

@@ -1,22 +1,15 @@
 // The lines of a report, each put into a lent area: a refusal, a layout, and the site lines of a layout.
 ghost use mathlib.Core.Path.{_≡_};
-ghost use mathlib.Core.Bool.{cond};
 ghost use mathlib.Core.List.{[], _∷_, _++_};
-ghost use Prim.Native.Nat.{_-_, _≤_};
-ghost use lib.Dec.{eqb};
-ghost use Rattle.sheet.specs.Sheet.{bits, kindOf, sitesIn, bodyOf, sheetIn};
+ghost use Rattle.sheet.specs.Sheet.{bits};
 ghost use Rattle.report.specs.Text.{decimal, written, pastOf};
-ghost use Rattle.report.specs.Lines.{refusedLine, layoutLine, slotAt, siteLines, lineOf, layoutText};
+ghost use Rattle.report.specs.Lines.{refusedLine, layoutLine, siteLine, slotAt, siteLinesBy, layoutTextBy};
 use crate::text::put_byte;
 use crate::text::put_bytes;
 use crate::text::put_decimal;
-use words::COLOUR;
-use words::SITE;
-use words::body::body_at;
 use words::byte_field;
 use words::count_field;
 use words::get;
-use words::kind_of;
 use words::length_field;
 
 // A name, a number and a last byte.
@@ -51,62 +44,27 @@ fn slot_of(layout: &[u32], site: usize) -> u64
     byte_field(layout[tie]) as u64
 }
 
-// The number of the last of so many colours, 0 for none.
-fn last_of(colours: usize) -> u64
-    ensures { λ r. ⌜ r ≡ colours - 1 ⌝ }
+// The line of a site.
+fn put_site_line(text: &mut [u8], at: usize, layout: &[u32], site: usize, colour: u32) -> usize
+    ensures { λ r. ⌜ r ≡ pastOf (now (text .entry)) at (siteLine site colour (slotAt (now (layout .entry)) site)) ⌝ }
+    ensures { λ r. ⌜ now (text .exit) ≡ written (now (text .entry)) at (siteLine site colour (slotAt (now (layout .entry)) site)) ⌝ }
 {
-    if colours == 0 {
-        return 0;
-    }
-    (colours - 1) as u64
-}
-
-// The line of a site's word, and nothing for another word.
-fn put_line_of(
-    text: &mut [u8],
-    at: usize,
-    layout: &[u32],
-    site: usize,
-    colours: usize,
-    word: u32,
-) -> usize
-    ensures { λ r. ⌜ r ≡ pastOf (now (text .entry)) at (lineOf (now (layout .entry)) site colours word) ⌝ }
-    ensures { λ r. ⌜ now (text .exit) ≡ written (now (text .entry)) at (lineOf (now (layout .entry)) site colours word) ⌝ }
-{
-    if kind_of(word) != SITE {
-        return at;
-    }
     let slot = slot_of(layout, site);
-    let colour = last_of(colours);
     let mut past = put_named(text, at, b"site ", site as u64, b' ');
-    past = put_named(text, past, b"colour ", colour, b' ');
+    past = put_named(text, past, b"colour ", colour as u64, b' ');
     put_named(text, past, b"slot ", slot, b'\n')
 }
 
-// 1 for a word of the kind, 0 for another.
-fn one_of(kind: u32, word: u32) -> usize
-    ensures { λ r. ⌜ (r ≡ cond (eqb (kindOf word) kind) 1 0) × (r ≤ 1) ⌝ }
-{
-    if kind_of(word) == kind {
-        return 1;
-    }
-    0
-}
-
-fn put_site_lines(text: &mut [u8], at: usize, layout: &[u32], sheet: &[u32]) -> usize
-    ensures { λ r. ⌜ r ≡ pastOf (now (text .entry)) at (siteLines (now (layout .entry)) 0 (sitesIn 0 (bodyOf (now (sheet .entry))))) ⌝ }
-    ensures { λ r. ⌜ now (text .exit) ≡ written (now (text .entry)) at (siteLines (now (layout .entry)) 0 (sitesIn 0 (bodyOf (now (sheet .entry))))) ⌝ }
+// The lines of all sites, by their colours in sheet order.
+fn put_site_lines(text: &mut [u8], at: usize, layout: &[u32], colours: &[u32]) -> usize
+    ensures { λ r. ⌜ r ≡ pastOf (now (text .entry)) at (siteLinesBy (now (layout .entry)) 0 (now (colours .entry))) ⌝ }
+    ensures { λ r. ⌜ now (text .exit) ≡ written (now (text .entry)) at (siteLinesBy (now (layout .entry)) 0 (now (colours .entry))) ⌝ }
 {
     let mut past = at;
     let mut site: usize = 0;
-    let mut colours: usize = 0;
-    let mut i = body_at(sheet);
-    while i < sheet.len() {
-        let word = sheet[i];
-        past = put_line_of(text, past, layout, site, colours, word);
-        site += one_of(SITE, word);
-        colours += one_of(COLOUR, word);
-        i += 1;
+    while site < colours.len() {
+        past = put_site_line(text, past, layout, site, colours[site]);
+        site += 1;
     }
     past
 }
@@ -122,11 +80,11 @@ fn put_layout_line(text: &mut [u8], first: u32) -> usize
     put_named(text, past, b"length ", length, b'\n')
 }
 
-// The lines of a layout of a sheet.
-pub fn put_layout(text: &mut [u8], layout: &[u32], sheet: &[u32]) -> usize
-    ensures { λ r. ⌜ r ≡ pastOf (now (text .entry)) 0 (layoutText (sheetIn (now (sheet .entry))) (now (layout .entry))) ⌝ }
-    ensures { λ r. ⌜ now (text .exit) ≡ written (now (text .entry)) 0 (layoutText (sheetIn (now (sheet .entry))) (now (layout .entry))) ⌝ }
+// The lines of a layout of a sheet whose sites have these colours.
+pub fn put_layout(text: &mut [u8], layout: &[u32], colours: &[u32]) -> usize
+    ensures { λ r. ⌜ r ≡ pastOf (now (text .entry)) 0 (layoutTextBy (now (colours .entry)) (now (layout .entry))) ⌝ }
+    ensures { λ r. ⌜ now (text .exit) ≡ written (now (text .entry)) 0 (layoutTextBy (now (colours .entry)) (now (layout .entry))) ⌝ }
 {
     let past = put_layout_line(text, get(layout, 0));
-    put_site_lines(text, past, layout, sheet)
+    put_site_lines(text, past, layout, colours)
 }

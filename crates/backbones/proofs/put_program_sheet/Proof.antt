@@ -1,4 +1,7 @@
-use Rattle.report.specs.Report.{sheetText, programSheetText}
+use mathlib.Core.Path.{sym, _∙_}
+use Rattle.report.specs.Report.{sheetText, programSheetText, workWords, answerWords}
+use lib.ListN.{replicate}
+use Rattle.report.proofs.Report.{made-accepted}
 use borrow.Author.Needs.{needs}
 use Rattle.backbones.proofs.put_program_sheet.Statement.{statement}
 use Rattle.backbones.proofs.put_program_sheet.Tie as tie
@@ -16,7 +19,7 @@ slice-aggregate-put-answer : tie.Need-slice-aggregate-put-answer
 slice-aggregate-put-answer c = search needs
 
 put-answer-requires : tie.Need-put-answer-requires
-put-answer-requires c κs = search needs
+put-answer-requires c κs = λ e. made-accepted (c .before .before .before .before .before .before .before .before .before .args .sheet .now) (replicate workWords 0) (replicate answerWords 0) (sym (c .before .before .before .before .make-layout .ensures .0) ∙ e)
 
 same-length : tie.Need-same-length
 same-length c = search needs

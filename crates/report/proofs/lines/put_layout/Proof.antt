@@ -1,4 +1,4 @@
-use Rattle.report.specs.Lines.{layoutText}
+use Rattle.report.specs.Lines.{layoutTextBy}
 use Rattle.report.proofs.Written.{put-more}
 use borrow.Author.Needs.{needs}
 use Rattle.report.proofs.lines.put_layout.Statement.{statement}
@@ -17,7 +17,7 @@ same-length : tie.Need-same-length
 same-length c = search needs
 
 returns : tie.Need-returns
-unfolding layoutText
+unfolding layoutTextBy
 returns c =
     put-more _ _ _ _ (rw (c .before .before .before .before .before .before .before .get .ensures) at (c .before .before .before .before .before .before .put-layout-line .ensures)) (c .before .before .put-site-lines .ensures)
 
