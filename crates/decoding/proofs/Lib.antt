@@ -1,3 +1,4 @@
+pub mod Budgets
 pub mod Fields
 pub mod Fits
 pub mod Places

@@ -25,7 +25,7 @@ use words::tied::Head;
 ghost use Rattle.lists.specs.Arrays.{padded};
 
 // Side, aim, gap and width: after the refusals the head is taken apart nowhere else.
-pub fn head_of(sheet: &[u32]) -> Head
+fn head_of(sheet: &[u32]) -> Head
     ensures { λ r. ⌜ r ≡ headBy (sheetIn (now (sheet .entry))) ⌝ }
 {
     let w = words::get(sheet, 0);
@@ -107,7 +107,7 @@ fn count_sites(body: &[u32], out: &mut [u32])
 // ---- the arrays of an accepted sheet, whole: zeros past its numbers
 
 // All slots' heights.
-pub fn heights_of(sheet: &[u32]) -> [u32; MOST_SLOTS]
+fn heights_of(sheet: &[u32]) -> [u32; MOST_SLOTS]
     requires { ⌜ sheetFault (now sheet) ≡ 0 ⌝ }
     ensures { λ r. ⌜ r ≡ padded mostSlots (sheetIn (now (sheet .entry)) .slots) ⌝ }
 {
@@ -117,7 +117,7 @@ pub fn heights_of(sheet: &[u32]) -> [u32; MOST_SLOTS]
 }
 
 // All colours' bounds.
-pub fn bounds_of(sheet: &[u32]) -> [u32; MOST_COLOURS]
+fn bounds_of(sheet: &[u32]) -> [u32; MOST_COLOURS]
     requires { ⌜ sheetFault (now sheet) ≡ 0 ⌝ }
     ensures { λ r. ⌜ r ≡ padded mostColours (boundsOf (sheetIn (now (sheet .entry)) .colours)) ⌝ }
 {
@@ -137,7 +137,7 @@ fn site_counts_of(sheet: &[u32]) -> [u32; MOST_COLOURS]
 }
 
 // All sites' x, y and colours, in sheet order.
-pub fn xs_of(sheet: &[u32]) -> [u32; MOST_SITES]
+fn xs_of(sheet: &[u32]) -> [u32; MOST_SITES]
     requires { ⌜ sheetFault (now sheet) ≡ 0 ⌝ }
     ensures { λ r. ⌜ r ≡ padded mostSites (xsOf (sheetIn (now (sheet .entry)) .sites)) ⌝ }
 {
@@ -146,7 +146,7 @@ pub fn xs_of(sheet: &[u32]) -> [u32; MOST_SITES]
     out
 }
 
-pub fn ys_of(sheet: &[u32]) -> [u32; MOST_SITES]
+fn ys_of(sheet: &[u32]) -> [u32; MOST_SITES]
     requires { ⌜ sheetFault (now sheet) ≡ 0 ⌝ }
     ensures { λ r. ⌜ r ≡ padded mostSites (ysOf (sheetIn (now (sheet .entry)) .sites)) ⌝ }
 {
@@ -155,7 +155,7 @@ pub fn ys_of(sheet: &[u32]) -> [u32; MOST_SITES]
     out
 }
 
-pub fn colours_of(sheet: &[u32]) -> [u32; MOST_SITES]
+fn colours_of(sheet: &[u32]) -> [u32; MOST_SITES]
     requires { ⌜ sheetFault (now sheet) ≡ 0 ⌝ }
     ensures { λ r. ⌜ r ≡ padded mostSites (coloursOf (sheetIn (now (sheet .entry)) .sites)) ⌝ }
 {

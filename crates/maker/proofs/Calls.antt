@@ -25,7 +25,7 @@ use Rattle.reader.proofs.Reading.{reading, refusal-is}
 use Rattle.sizes.specs.Work.{workOf}
 use Rattle.onesided.specs.Laying.{TakesOneSided, Made}
 use Rattle.onesided.proofs.Parts.{bounds, bounds-fit}
-use Rattle.arrays.proofs.Ordered.{product-are}
+use Rattle.decoding.proofs.Budgets.{product-are}
 use Rattle.sizes.specs.Budgets.{productBy}
 use Rattle.decoding.specs.declared.Numbers.{Numbers}
 use Rattle.decoding.specs.Decoding.{numbersBy}

@@ -1,14 +1,11 @@
 -- The front parts of the arrays that are decoded from an accepted sheet are its lists, and as long as they are said to be. Assumes nothing.
 use mathlib.Core.Path.{_≡_, refl, sym, ap, ap₂, _∙_, subst, subst⁻¹}
-use mathlib.Core.List.{List, [], _∷_}
-use Prim.Native.Nat.{ℕ, zero, suc, _/_, _%_, _≤_, _<_}
+use mathlib.Core.List.{List}
+use Prim.Native.Nat.{ℕ, _≤_, _<_}
 use native.Mathlib.Omega.{arith}
-use lib.Dec.{eqb}
 use lib.ListN.{length, getD, take, length-take}
-use native.Mathlib.Nat.{mod-lt}
-use Rattle.lists.proofs.Tests.{by-test}
 use Rattle.sheet.specs.Limits.{mostSlots, mostColours, mostSites, mostBudgets, byteTop}
-use Rattle.sheet.specs.Sheet.{kindOf, Sheet, bodyOf, sheetIn}
+use Rattle.sheet.specs.Sheet.{Sheet, bodyOf, sheetIn}
 use Rattle.sheet.proofs.Accepted.{Sound, sound}
 use Rattle.optimum.specs.OneSided.{order}
 use Rattle.optimum.specs.Budgets.{radicesOf}
@@ -16,13 +13,14 @@ use Rattle.optimum.proofs.optimality.Order.{ordered}
 use Rattle.arrays.specs.Arrays.{measuresOf, boundsOf, drawsList, xsOf, ysOf, coloursOf, gathered, ranksBy, orderBy, radicesBy, drawsBy}
 use Rattle.sizes.specs.Budgets.{productBy}
 use Rattle.decoding.specs.declared.Numbers.{Numbers}
-use Rattle.decoding.specs.Decoding.{numbersBy, sheetBy, collected}
+use Rattle.decoding.specs.Decoding.{numbersBy, sheetBy}
 use Rattle.decoding.proofs.Places.{sheet-read}
 use Rattle.arrays.specs.declared.Measures.{Measures}
 use Rattle.onesided.specs.Laying.{TakesOneSided, RankedSites}
 use Rattle.lists.proofs.Arrays.{padded-front}
-use Rattle.decoding.proofs.Fields.{bounds-long, xs-long, ys-long, colours-long, bounds-are}
-use Rattle.arrays.proofs.Ordered.{ranks-long, order-is, gathered-long, radices-are, radices-long, draws-are, draws-long, product-are}
+use Rattle.decoding.proofs.Fields.{bounds-long, xs-long, ys-long, colours-long}
+use Rattle.decoding.proofs.Budgets.{product-are, bounds-low}
+use Rattle.arrays.proofs.Ordered.{ranks-long, order-is, gathered-long, radices-are, radices-long, draws-are, draws-long}
 use Rattle.lists.specs.Arrays.{padded}
 
 -- an array has the list at its front, in so many places
@@ -32,15 +30,6 @@ IsFront r k l = (take k r ≡ l) × (k ≡ length (take k r))
 -- of what is padded
 pub part : (n : ℕ) (l r : List ℕ) (k : ℕ) → r ≡ padded n l → k ≡ length l → IsFront r k l
 part n l r k e h = let f : take k r ≡ l = ap (take k) e ∙ padded-front n l k h in (f, h ∙ sym (ap length f))
-
-collected-low : (k d q : ℕ) → 0 < q → (ws : List ℕ) (i : ℕ) → getD (collected k d q ws) i 0 < q
-unfolding collected
-collected-low k d q h [] i = h
-collected-low k d q h (w ∷ ws) i = by-test (eqb (kindOf w) k) (λ e. rw e (first (λ j. collected-low k d q h ws j) i)) (λ e. rw e (collected-low k d q h ws i))
-  where
-    first : ((j : ℕ) → getD (collected k d q ws) j 0 < q) → (i : ℕ) → getD ((w / d % q) ∷ collected k d q ws) i 0 < q
-    first r zero = mod-lt (w / d) h
-    first r (suc i) = r i
 
 -- NUMBERS OF AN ACCEPTED SHEET
 module _ {d : Numbers} {p : ℕ} {k o : List ℕ} (t : TakesOneSided d p k o) where
@@ -71,13 +60,10 @@ module _ {d : Numbers} {p : ℕ} {k o : List ℕ} (t : TakesOneSided d p k o) wh
   pub bounds : IsFront (d .bounds) (d .kinds) (boundsOf (s .colours))
   bounds = part mostColours (boundsOf (s .colours)) (d .bounds) (d .kinds) (ap (λ (z : Numbers). z .bounds) (t .numbers)) (kinds-are ∙ sym (bounds-long (s .colours)))
 
-  bounds-low : (i : ℕ) → getD (boundsOf (s .colours)) i 0 < byteTop
-  bounds-low i = rw (← (bounds-are (bodyOf (t .words)))) (collected-low 3 1 byteTop (omega arith) (bodyOf (t .words)) i)
-
   -- what the budget arrays ask of the bounds
   pub bounds-fit : (length (take (d .kinds) (d .bounds)) ≤ mostColours) × ((i : ℕ) → getD (take (d .kinds) (d .bounds)) i 0 < byteTop) × (productBy (take (d .kinds) (d .bounds)) ≤ mostBudgets)
   bounds-fit =
-      rw (bounds .0) (omega (arith, bounds-long (s .colours), fine .few-colours), bounds-low, omega (arith, product-are (s .colours), fine .product))
+      rw (bounds .0) (omega (arith, bounds-long (s .colours), fine .few-colours), bounds-low (bodyOf (t .words)), omega (arith, product-are (s .colours), fine .product))
 
   pub radices : {r : List ℕ} → r ≡ padded mostColours (radicesBy (take (d .kinds) (d .bounds))) → IsFront r (d .kinds) (radicesOf (s .colours))
   radices {r} g =

@@ -1,5 +1,5 @@
-mod Filled
-mod WithinLimits
+mod Decoded
+mod Eight
 pub mod Reading
 mod Steps
 mod Wordwise

@@ -5,30 +5,20 @@ mod refusal_2;
 mod refusal_4;
 mod refusal_5;
 mod refusal_6;
-pub mod refusal_7;
+mod refusal_7;
 
 ghost use mathlib.Core.Path.{_≡_};
-ghost use Prim.Native.Nat.{_<_, _≤_};
-ghost use lib.ListN.{length};
-ghost use Rattle.sheet.specs.Limits.{mostColours, mostSites, byteTop};
-ghost use Rattle.sheet.specs.Sheet.{coloursIn, sheetIn, sheetFault};
-ghost use Rattle.sheet.specs.Words.{countKind};
+ghost use Prim.Native.Nat.{ℕ, _<_, _≤_};
+ghost use lib.ListN.{length, getD};
+ghost use Rattle.sheet.specs.Limits.{mostColours, byteTop};
+ghost use Rattle.sheet.specs.Sheet.{sheetIn, sheetFault};
+ghost use Rattle.decoding.specs.Decoding.{coloursBy};
 ghost use Rattle.reader.specs.Read.{absent, eightOf, readOf, refusedOf, readPost};
 use crate::faults::sheet_fault;
-use crate::refusal_7::product;
-use sizes::bound_of;
+use decoding::numbers_of;
+use sizes::product_of;
 use sizes::work_for;
-use words::COLOUR;
 use words::MOST_COLOURS;
-use words::SITE;
-use words::SLOT;
-use words::body::body_of;
-use words::body::count_kind;
-use words::body::sites_run;
-use words::get;
-use words::kind_of;
-use words::same;
-use words::side_bit;
 
 #[repr(C)]
 pub struct ColourSize {
@@ -53,26 +43,23 @@ fn no_colour() -> ColourSize
     ColourSize { bound: 0, sites: 0 }
 }
 
-fn colour_sizes(body: &[u32]) -> [ColourSize; MOST_COLOURS]
-    requires { ⌜ length (coloursIn (now body)) ≤ mostColours ⌝ }
-    requires { ⌜ countKind 4 (now body) ≤ mostSites ⌝ }
-    ensures { λ r. ⌜ r ≡ eightOf (coloursIn (now (body .entry))) ⌝ }
+fn colour_sizes(bounds: &[u32], counts: &[u32]) -> [ColourSize; MOST_COLOURS]
+    requires { ⌜ length (now bounds) ≤ mostColours ⌝ }
+    requires { ⌜ length (now counts) ≡ length (now bounds) ⌝ }
+    requires { ⌜ ((i : ℕ) → getD (now bounds) i 0 < byteTop) ⌝ }
+    requires { ⌜ ((i : ℕ) → getD (now counts) i 0 < byteTop) ⌝ }
+    ensures { λ r. ⌜ r ≡ eightOf (coloursBy (now (bounds .entry)) (now (counts .entry))) ⌝ }
 {
     let mut colours = [no_colour(); MOST_COLOURS];
     let mut c: usize = 0;
-    let mut i: usize = 0;
-    while i < body.len() {
-        let w = body[i];
-        if kind_of(w) == COLOUR {
-            let sites = sites_run(body, i + 1) as u8;
-            let bound = bound_of(w);
-            colours[c] = ColourSize {
-                bound: bound,
-                sites: sites,
-            };
-            c += 1;
-        }
-        i += 1;
+    while c < bounds.len() {
+        let bound = bounds[c] as u8;
+        let sites = counts[c] as u8;
+        colours[c] = ColourSize {
+            bound: bound,
+            sites: sites,
+        };
+        c += 1;
     }
     colours
 }
@@ -96,20 +83,22 @@ fn accepted(sheet: &[u32]) -> Sizes
     requires { ⌜ sheetFault (now sheet) ≡ 0 ⌝ }
     ensures { λ r. ⌜ r ≡ readOf (sheetIn (now (sheet .entry))) ⌝ }
 {
-    let body = body_of(sheet);
-    let n = count_kind(body, SITE) as u8;
-    let m = count_kind(body, SLOT) as u8;
-    let c = count_kind(body, COLOUR) as u8;
-    let p = product(body) as u8;
-    let two = same(side_bit(get(sheet, 0)), 1);
-    let work = work_for(two, m as u32, c as u32, n as u32, p as u32);
-    let colours = colour_sizes(body);
+    let numbers = numbers_of(sheet);
+    let n = numbers.sites;
+    let m = numbers.slots;
+    let c = numbers.kinds;
+    let bounds = numbers.bounds;
+    let bounds = &bounds[..c];
+    let counts = numbers.site_counts;
+    let p = product_of(bounds);
+    let work = work_for(numbers.head.twosided, m as u32, c as u32, n as u32, p);
+    let colours = colour_sizes(bounds, &counts[..c]);
     Sizes {
         refusal: 0,
-        n: n,
-        m: m,
-        c: c,
-        p: p,
+        n: n as u8,
+        m: m as u8,
+        c: c as u8,
+        p: p as u8,
         work: work,
         colours: colours,
     }

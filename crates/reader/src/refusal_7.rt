@@ -9,7 +9,7 @@ use refusals::refusal_7::is_too_many;
 use words::MOST_BUDGETS;
 
 // P, or one more than the most where it is above that: it stops there, so that no product is too large.
-pub fn product(body: &[u32]) -> u32
+fn product(body: &[u32]) -> u32
     ensures { λ r. ⌜ r ≡ capped (productOf (coloursIn (now (body .entry)))) ⌝ }
 {
     let mut p: u32 = 1;

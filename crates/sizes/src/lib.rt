@@ -1,23 +1,14 @@
-// Sizes of an accepted sheet, each from numbers alone: a colour's bound, whether it can bind, P, the work words.
+// Sizes of an accepted sheet, each from numbers alone: whether a bound can bind, P, the work words.
 ghost use mathlib.Core.Path.{_≡_};
 ghost use Prim.Native.Nat.{ℕ, _<_, _≤_};
 ghost use lib.ListN.{length, getD};
 ghost use Rattle.lists.specs.Arrays.{padded};
 ghost use Rattle.sheet.specs.Limits.{mostSlots, mostColours, mostSites, mostBudgets, byteTop};
-ghost use Rattle.sheet.specs.Sheet.{bits};
 ghost use Rattle.sheet.specs.Binding.{bindingBound};
 ghost use Rattle.sizes.specs.Work.{workOf};
 ghost use Rattle.sizes.specs.Budgets.{radixBy, productBy, bindingBounds};
-use words::BYTE_TOP;
 use words::MOST_COLOURS;
 use words::UNBOUNDED;
-
-// A colour's bound: bits 7 to 0.
-pub fn bound_of(w: u32) -> u8
-    ensures { λ r. ⌜ r ≡ bits w 0 8 ⌝ }
-{
-    (w % BYTE_TOP) as u8
-}
 
 // A bound over so many sites: none where it is at least as many.
 pub fn binding_bound(bound: u32, sites: u32) -> u32

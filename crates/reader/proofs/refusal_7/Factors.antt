@@ -7,7 +7,6 @@ use native.Mathlib.Nat.{one-mul, mul-assoc, mul-pos}
 use native.Mathlib.Omega.{arith}
 use lib.Dec.{eqb, ltb}
 use lib.ListN.{length, getD, drop}
-use borrow.Author.Tests.{le-ltb}
 use Rattle.lists.proofs.Places.{at}
 use Rattle.lists.proofs.Tests.{by-test}
 use Rattle.sheet.specs.Limits.{mostBudgets, unbounded, byteTop}
@@ -47,9 +46,6 @@ unfolding productOf
 product-pos [] = omega arith
 product-pos (c ∷ cs) = mul-pos (pos-by (eqb (c .bound) unbounded) (c .bound)) (product-pos cs)
 
--- P capped is above the most where P is, and is P elsewhere
+-- P capped is above the most where P is
 pub capped-over : (n : ℕ) → ltb mostBudgets (capped n) ≡ ltb mostBudgets n
 capped-over n = by-test (ltb mostBudgets n) (λ e. rw e refl) (λ e. rw (e, e) refl)
-
-pub capped-same : (n : ℕ) → n ≤ mostBudgets → capped n ≡ n
-capped-same n h = rw (le-ltb mostBudgets n h) refl
