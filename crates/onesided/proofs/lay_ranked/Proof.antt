@@ -11,6 +11,13 @@ use Rattle.onesided.proofs.lay_ranked.Tie as tie
 abbrev begin : tie.After-list-splits → tie.Start
 begin c = c .before .before .before .before .before .before .before .before .before .before .before .before .before .before
 
+-- where the budgets are listed, seen from where the table is filled; and that, seen from where a level's size is known
+abbrev listed : tie.After-fill-table → tie.After-list-splits
+listed c = c .before .before .before .before .before .before
+
+abbrev filled : tie.After-level-size → tie.After-fill-table
+filled c = c .before .before .before .before .before .before .before .before
+
 cast-list-splits : tie.Need-cast-list-splits
 cast-list-splits c = search needs
 
@@ -39,39 +46,39 @@ fill-table-requires c κs =
 lay-least-requires : tie.Need-lay-least-requires
 lay-least-requires c κs =
     let t = c .before .before .before .before .fill-table in
-    filled-is (begin (c .before .before .before .before .before .before .before .before .before .before) .pre) (t .kept .0) (c .before .before .before .before .before .before .before .before .before .before .list-splits .ensures) (t .ensures .0)
+    filled-is (begin (listed (c .before .before .before .before)) .pre) (t .kept .0) (listed (c .before .before .before .before) .list-splits .ensures) (t .ensures .0)
 
 level-size-requires : tie.Need-level-size-requires
 level-size-requires c κs =
-    let o = begin (c .before .before .before .before .before .before .before .before .before .before .before .before .before) .pre .sheet in
+    let o = begin (listed (c .before .before .before .before .before .before .before)) .pre .sheet in
     (o .fewSlots, o .fewColours, o .fewBudgets)
 
 add-zero-part : tie.Need-add-zero-part
 add-zero-part c =
-    let p = begin (c .before .before .before .before .before .before .before .before .before .before .before .before .before .before .before) .pre in
+    let p = begin (listed (filled (c .before))) .pre in
     omega (arith, p .ranked, p .sheet .fewSites)
 
 mul-zero-part : tie.Need-mul-zero-part
 mul-zero-part c =
-    omega (arith, zeros-are (begin (c .before .before .before .before .before .before .before .before .before .before .before .before .before .before .before) .pre) _ (c .before .level-size .ensures) .small)
+    omega (arith, zeros-are (begin (listed (filled (c .before))) .pre) _ (c .before .level-size .ensures) .small)
 
 zero-part-requires : tie.Need-zero-part-requires
 zero-part-requires c κs =
-    (omega arith, rw (c .before .before .before .before .before .before .before .before .before .fill-table .kept .0) (zeros-are (begin (c .before .before .before .before .before .before .before .before .before .before .before .before .before .before .before) .pre) _ (c .before .level-size .ensures) .within))
+    (omega arith, rw (filled (c .before) .fill-table .kept .0) (zeros-are (begin (listed (filled (c .before))) .pre) _ (c .before .level-size .ensures) .within))
 
 same-length : tie.Need-same-length
 same-length c =
-    c .before .before .zero-part .kept .0 ∙ c .before .before .before .before .before .before .before .before .before .before .before .before .fill-table .kept .0
+    c .before .before .zero-part .kept .0 ∙ filled (c .before .before .before .before) .fill-table .kept .0
 
 same-length-2 : tie.Need-same-length-2
 same-length-2 c = search needs
 
 returns : tie.Need-returns
 returns c =
-    let p = begin (c .before .before .before .before .before .before .before .before .before .before .before .before .before .before .before .before .before .before) .pre in
+    let p = begin (listed (filled (c .before .before .before .before))) .pre in
     let f = c .before .before .before .before .before .before .before .lay-least .ensures in
     let z = zeros-are p _ (c .before .before .before .before .level-size .ensures) in
-    (f .0, (c .before .before .zero-part .ensures ∙ z .zeros _ ∙ zeroed-same p _ _ (c .before .before .before .before .before .before .before .before .before .before .before .before .fill-table .ensures .1), f .1))
+    (f .0, (c .before .before .zero-part .ensures ∙ z .zeros _ ∙ zeroed-same p _ _ (filled (c .before .before .before .before) .fill-table .ensures .1), f .1))
 
 pub lay-ranked-spec : {M : Type 1} → statement M
 lay-ranked-spec =
