@@ -1,4 +1,5 @@
--- Lawful layouts and the answer as document 01 words them: statements, no tests. The tests of Layout come to these (proofs/Rules,
+-- Lawful layouts and the answer as document 01 words them: statements. Only what document 02 changes goes by a test of Layout, so that it
+-- is said once: two labels far apart, a label clear of a site, which sites count. The tests of Layout come to these (proofs/Rules,
 -- Earlier and Answer). Sites and colours go by their numbers, i, j and c; k is a slot. Assumes nothing: these are definitions.
 use mathlib.Core.Path.{_≡_}
 use mathlib.Core.Logic.{_⊎_}
