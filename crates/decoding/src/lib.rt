@@ -9,7 +9,7 @@ ghost use lib.ListN.{length, drop};
 ghost use Rattle.sheet.specs.Limits.{mostSlots, mostColours, mostSites, topWord};
 ghost use Rattle.sheet.specs.Sheet.{coloursIn, sheetIn, sheetFault};
 ghost use Rattle.sheet.specs.Words.{countKind};
-ghost use Rattle.decoding.specs.Decoding.{numbersBy, headBy, boundsOf, siteCountsOf, xsOf, ysOf, coloursOf, collected, siteColours};
+ghost use Rattle.decoding.specs.Decoding.{numbersBy, noNumbers, headBy, boundsOf, siteCountsOf, xsOf, ysOf, coloursOf, collected, siteColours};
 use words::BYTE_TOP;
 use words::COLOUR;
 use words::MOST_COLOURS;
@@ -178,6 +178,30 @@ pub struct Numbers {
     pub xs: [u32; MOST_SITES],
     pub ys: [u32; MOST_SITES],
     pub colours: [u32; MOST_SITES],
+}
+
+// What stands for the numbers of a sheet that is refused: zeros.
+pub fn no_numbers() -> Numbers
+    ensures { λ r. ⌜ r ≡ noNumbers ⌝ }
+{
+    let head = Head {
+        twosided: false,
+        shortest: false,
+        gap: 0,
+        width: 0,
+    };
+    Numbers {
+        head: head,
+        slots: 0,
+        kinds: 0,
+        sites: 0,
+        heights: [0u32; MOST_SLOTS],
+        bounds: [0u32; MOST_COLOURS],
+        site_counts: [0u32; MOST_COLOURS],
+        xs: [0u32; MOST_SITES],
+        ys: [0u32; MOST_SITES],
+        colours: [0u32; MOST_SITES],
+    }
 }
 
 pub fn numbers_of(sheet: &[u32]) -> Numbers

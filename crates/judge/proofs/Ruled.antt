@@ -2,20 +2,18 @@
 use mathlib.Core.Path.{_≡_, refl, sym, ap, _∙_}
 use mathlib.Core.Bool.{true}
 use mathlib.Core.List.{List}
-use Prim.Native.Nat.{ℕ, _≤_}
-use native.Mathlib.Omega.{arith}
+use Prim.Native.Nat.{ℕ}
 use lib.ListN.{length, getD, take}
-use Rattle.sheet.specs.Limits.{mostSlots, mostColours, mostSites}
+use Rattle.sheet.specs.Limits.{mostSlots, mostSites}
 use Rattle.sheet.specs.Sheet.{Sheet, sheetIn, sheetFault}
 use Rattle.sheet.proofs.Accepted.{sound}
 use Rattle.labelling.specs.Layout.{tiesIn, layoutBody, layoutTies, isLayout, brokenBy}
 use Rattle.labelling.proofs.Words.{formed, length-tiesIn, ties-low}
 use Rattle.decoding.specs.Decoding.{headBy, boundsOf, xsOf, ysOf, coloursOf, sheetBy, LayoutRead}
 use Rattle.decoding.specs.declared.Numbers.{Numbers}
-use Rattle.decoding.proofs.Fields.{bounds-long}
+use Rattle.decoding.proofs.Fronts.{bounds}
 use Rattle.decoding.proofs.Places.{decoded, sheet-read}
 use Rattle.lists.specs.Arrays.{padded}
-use Rattle.lists.proofs.Arrays.{padded-front, padded-long}
 use Rattle.words.specs.declared.tied.Head.{Head}
 use Rattle.layouts.specs.Model.{brokenOn}
 use Rattle.layouts.proofs.RulesKept.{broken-is}
@@ -36,28 +34,9 @@ module _ (ss ls : List ℕ) (ok : sheetFault ss ≡ 0) (form : isLayout (sheetIn
 
 -- BY NUMBERS that were read
 module _ {d : Numbers} {ls : List ℕ} (p : LayoutRead d ls) where
-  abbrev t : Sheet
-  t = sheetIn (p .words)
-
-  bounds-are : d .bounds ≡ padded mostColours (boundsOf (t .colours))
-  bounds-are = ap (λ (z : Numbers). z .bounds) (p .numbers)
-
-  kinds-are : d .kinds ≡ length (boundsOf (t .colours))
-  kinds-are = ap (λ (z : Numbers). z .kinds) (p .numbers) ∙ sym (bounds-long (t .colours))
-
-  -- the colours' bounds, without the zeros past them
-  front-is : take (d .kinds) (d .bounds) ≡ boundsOf (t .colours)
-  front-is = ap (take (d .kinds)) bounds-are ∙ padded-front mostColours (boundsOf (t .colours)) (d .kinds) kinds-are
-
-  pub front-long : d .kinds ≡ length (take (d .kinds) (d .bounds))
-  front-long = kinds-are ∙ sym (ap length front-is)
-
-  pub front-in : d .kinds ≤ length (d .bounds)
-  front-in = omega (arith, kinds-are, ap length bounds-are, padded-long mostColours (boundsOf (t .colours)))
-
   pub rule-found : (w r : ℕ) (ts : List ℕ) → w ≡ getD ls 0 0 → ts ≡ layoutBody ls →
       r ≡ brokenOn (d .head) w (d .heights) (take (d .kinds) (d .bounds)) (d .xs) (d .ys) (d .colours) (tiesIn ts) (length ts) → r ≡ brokenBy (sheetBy d) ls
   rule-found w r ts ew et e =
-      ruled (p .words) ls (p .accepted) (p .form) _ w r _ _ _ _ _ ts (ap (λ (z : Numbers). z .head) (p .numbers)) ew (ap (λ (z : Numbers). z .heights) (p .numbers)) front-is
-      (ap (λ (z : Numbers). z .xs) (p .numbers)) (ap (λ (z : Numbers). z .ys) (p .numbers)) (ap (λ (z : Numbers). z .colours) (p .numbers)) et e ∙
-      ap (λ (z : Sheet). brokenBy z ls) (sym (sheet-read (p .numbers)))
+      ruled (p .read .words) ls (p .read .accepted) (p .form) _ w r _ _ _ _ _ ts (ap (λ (z : Numbers). z .head) (p .read .numbers)) ew (ap (λ (z : Numbers). z .heights) (p .read .numbers)) (bounds (p .read) .0)
+      (ap (λ (z : Numbers). z .xs) (p .read .numbers)) (ap (λ (z : Numbers). z .ys) (p .read .numbers)) (ap (λ (z : Numbers). z .colours) (p .read .numbers)) et e ∙
+      ap (λ (z : Sheet). brokenBy z ls) (sym (sheet-read (p .read .numbers)))

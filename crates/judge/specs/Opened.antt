@@ -1,15 +1,13 @@
 -- What a stored sheet is opened to. Assumes nothing: these are definitions.
-use mathlib.Core.Bool.{Bool, false, _&&_, not, cond}
+use mathlib.Core.Bool.{Bool, _&&_, not, cond}
 use mathlib.Core.List.{List}
 use Prim.Native.Nat.{ℕ, _+_}
 use lib.Dec.{eqb}
-use lib.ListN.{length, getD, replicate}
-use Rattle.sheet.specs.Limits.{mostSlots, mostColours, mostSites}
+use lib.ListN.{length, getD}
 use Rattle.sheet.specs.Sheet.{all, kindOf, sheetIn, sheetFault}
 use Rattle.labelling.specs.Layout.{tiesAt, layoutBody, isLayout, sheetPart, judgeFault, storedFault}
 use Rattle.refusals.specs.Wordwise.{tieFits}
-use Rattle.decoding.specs.declared.Numbers.{Numbers}
-use Rattle.decoding.specs.Decoding.{numbersBy}
+use Rattle.decoding.specs.Decoding.{numbersBy, noNumbers}
 use Rattle.judge.specs.declared.opened.Opened.{Opened}
 
 -- `isLayout` by m and n alone
@@ -21,21 +19,6 @@ abbrev pub partsFault : (sheet layout : List ℕ) → ℕ
 partsFault ss ls = cond (not (eqb (sheetFault ss) 0)) (sheetFault ss) (cond (isLayout (sheetIn ss) ls) 0 11)
 
 -- beside a refusal all numbers are zero
-abbrev pub noNumbers : Numbers
-noNumbers =
-    record {
-      head = record { twosided = false; shortest = false; gap = 0; width = 0 };
-      slots = 0;
-      kinds = 0;
-      sites = 0;
-      heights = replicate mostSlots 0;
-      bounds = replicate mostColours 0;
-      «site_counts» = replicate mostColours 0;
-      xs = replicate mostSites 0;
-      ys = replicate mostSites 0;
-      colours = replicate mostSites 0;
-    }
-
 abbrev pub refusedAt : (refusal at : ℕ) → Opened
 refusedAt f i = record { refusal = f; at = i; numbers = noNumbers }
 

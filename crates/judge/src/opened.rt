@@ -1,46 +1,19 @@
 // A stored sheet opened: its refusal, where its layout begins, and the sheet's numbers. Every tool over stored sheets begins here.
 ghost use mathlib.Core.Path.{_≡_};
 ghost use Rattle.labelling.specs.Layout.{judgeFault, judged};
-ghost use Rattle.judge.specs.Opened.{noNumbers, refusedAt, partsFault, openedBy, layoutOpened, storedOpened};
+ghost use Rattle.judge.specs.Opened.{refusedAt, partsFault, openedBy, layoutOpened, storedOpened};
 use crate::refusal_11::is_layout;
 use crate::refusal_11::layout_start;
 use crate::ruling::rule_on;
 use decoding::Numbers;
-use decoding::numbers_of;
-use reader::faults::sheet_fault;
-use words::MOST_COLOURS;
-use words::MOST_SITES;
-use words::MOST_SLOTS;
-use words::tied::Head;
+use decoding::no_numbers;
+use reader::opened::open_sheet;
 
 // refusal: 1 to 7, 11 or 13, 0 for none. at: where the layout begins. numbers: the sheet's, all zeros beside a refusal.
 pub struct Opened {
     pub refusal: u8,
     pub at: usize,
     pub numbers: Numbers,
-}
-
-fn no_numbers() -> Numbers
-    ensures { λ r. ⌜ r ≡ noNumbers ⌝ }
-{
-    let head = Head {
-        twosided: false,
-        shortest: false,
-        gap: 0,
-        width: 0,
-    };
-    Numbers {
-        head: head,
-        slots: 0,
-        kinds: 0,
-        sites: 0,
-        heights: [0u32; MOST_SLOTS],
-        bounds: [0u32; MOST_COLOURS],
-        site_counts: [0u32; MOST_COLOURS],
-        xs: [0u32; MOST_SITES],
-        ys: [0u32; MOST_SITES],
-        colours: [0u32; MOST_SITES],
-    }
 }
 
 fn refused(refusal: u8, at: usize) -> Opened
@@ -59,12 +32,11 @@ fn open_parts(sheet: &[u32], layout: &[u32]) -> Opened
     ensures { λ r. ⌜ r ≡ openedBy (partsFault (now (sheet .entry)) (now (layout .entry))) (now (sheet .entry)) ⌝ }
 {
     let at = sheet.len();
-    let fault = sheet_fault(sheet);
-    if fault != 0 {
-        let refusal = fault as u8;
-        return refused(refusal, at);
+    let opened = open_sheet(sheet);
+    if opened.refusal != 0 {
+        return refused(opened.refusal, at);
     }
-    let numbers = numbers_of(sheet);
+    let numbers = opened.numbers;
     if !is_layout(numbers.slots, numbers.sites, layout) {
         return refused(11, at);
     }

@@ -60,15 +60,15 @@ module _ (ss ls : List ℕ) (ok : sheetFault ss ≡ 0) (form : isLayout (sheetIn
 -- THE SAME for numbers that were read
 module _ {d : Numbers} {ls : List ℕ} (r : LayoutRead d ls) where
   abbrev ws : List ℕ
-  ws = r .words
+  ws = r .read .words
 
   pub some-read : 0 < length ls
-  some-read = some ws ls (r .accepted) (r .form)
+  some-read = some ws ls (r .read .accepted) (r .form)
 
   pub fits-read : (ts : List ℕ) → ts ≡ layoutBody ls → Fits (d .xs) (d .ys) (d .colours) ts
   fits-read ts e =
-      fits ws ls (r .accepted) (r .form) _ _ _ _ (ap (λ (z : Numbers). z .xs) (r .numbers)) (ap (λ (z : Numbers). z .ys) (r .numbers)) (ap (λ (z : Numbers). z .colours) (r .numbers)) e
+      fits ws ls (r .read .accepted) (r .form) _ _ _ _ (ap (λ (z : Numbers). z .xs) (r .read .numbers)) (ap (λ (z : Numbers). z .ys) (r .read .numbers)) (ap (λ (z : Numbers). z .colours) (r .read .numbers)) e
 
   pub low-read : Low (d .head) (d .heights) (d .ys)
   low-read =
-      low ws ls (r .accepted) (r .form) _ _ _ (ap (λ (z : Numbers). z .head) (r .numbers)) (ap (λ (z : Numbers). z .heights) (r .numbers)) (ap (λ (z : Numbers). z .ys) (r .numbers))
+      low ws ls (r .read .accepted) (r .form) _ _ _ (ap (λ (z : Numbers). z .head) (r .read .numbers)) (ap (λ (z : Numbers). z .heights) (r .read .numbers)) (ap (λ (z : Numbers). z .ys) (r .read .numbers))

@@ -5,13 +5,11 @@ use mathlib.Core.List.{List, [], _∷_}
 use Prim.Native.Nat.{ℕ, suc, _+_, _≤_, _<_}
 use native.Mathlib.Omega.{arith}
 use lib.ListN.{length, getD, take}
-use borrow.Author.Tests.{lt-ltb, eq-eqb}
+use borrow.Author.Tests.{lt-ltb}
 use Rattle.lists.proofs.Tests.{and-of}
-use Rattle.sheet.specs.Limits.{mostSlots, mostColours, mostSites, mostBudgets, byteTop, wordTop}
-use Rattle.sheet.specs.Sheet.{Sheet, sheetIn, sheetFault, productOf, workFor}
-use Rattle.sheet.specs.Binding.{bindingOnly, bindingColours, withColours}
-use Rattle.sheet.proofs.Accepted.{Sound, sound, unrefused}
-use Rattle.sheet.proofs.Binding.{sheet-binding, length-binding}
+use Rattle.sheet.specs.Limits.{mostBudgets, wordTop}
+use Rattle.sheet.specs.Sheet.{sheetIn, sheetFault, productOf, workFor}
+use Rattle.sheet.specs.Binding.{bindingOnly}
 use Rattle.labelling.specs.Entry.{makeFault, makeWork, makeAnswer, zeroed}
 use Rattle.labelling.specs.Promise.{areWords, takesSheet}
 use Rattle.labelling.proofs.Maker.{Result, Serves, refused-sheet, refused-side, refused-work, refused-out}
@@ -20,15 +18,15 @@ use Rattle.labelling.proofs.Binding.{work-less, fault-binding, area-binding, wo
 use Rattle.areas.specs.Faults.{makerFault}
 use Rattle.areas.proofs.faults.Faults.{fault-sheet, fault-side, fault-work, fault-out, fault-none, by-fault, no-fault}
 use Rattle.reader.specs.declared.Sizes.{Sizes}
-use Rattle.reader.specs.Read.{readOf, readPost}
+use Rattle.reader.specs.Read.{readPost}
 use Rattle.reader.proofs.Reading.{reading, refusal-is}
 use Rattle.sizes.specs.Work.{workOf}
-use Rattle.onesided.specs.Laying.{TakesOneSided, Made}
-use Rattle.onesided.proofs.Parts.{bounds, bounds-fit}
-use Rattle.decoding.proofs.Budgets.{product-are}
+use Rattle.onesided.specs.Laying.{TakesOneSided, MadeBy}
+use Rattle.decoding.proofs.Fronts.{bounds-fit, product-is, same-sheet}
 use Rattle.sizes.specs.Budgets.{productBy}
 use Rattle.decoding.specs.declared.Numbers.{Numbers}
-use Rattle.decoding.specs.Decoding.{numbersBy}
+use Rattle.decoding.specs.Decoding.{numbersBy, SheetRead}
+use Rattle.maker.specs.Taken.{Taken, BindingAlone}
 
 -- a list of 32-bit numbers
 pub are-words : (ws : List ℕ) → ((i : ℕ) → getD ws i 0 < wordTop) → areWords ws ≡ true
@@ -69,87 +67,59 @@ module _ (ws k o : List ℕ) (r : Sizes) (e : r ≡ readPost ws) where
           (λ z s w h. call ws k o 9 f (q ∙ fault-out (r .refusal) two (r .work) (r .n) (length k) (length o) z s w h) (narrow z s w h))
           (λ z s w h. absurd (n (q ∙ fault-none (r .refusal) two (r .work) (r .n) (length k) (length o) z s w h)))
 
-      -- or taken, as it was read
-      pub taken : ((i : ℕ) → getD ws i 0 < wordTop) → f ≡ 0 → takesSheet ws k o × (r ≡ readOf (sheetIn ws))
+      -- or taken, the work words as they were read
+      pub taken : ((i : ℕ) → getD ws i 0 < wordTop) → f ≡ 0 → takesSheet ws k o × (r .work ≡ workFor (sheetIn ws))
       taken u v =
           let t = no-fault (r .refusal) two (r .work) (r .n) (length k) (length o) (sym q ∙ v) in
-          let g = reading ws r e (t .0) in (
-            (are-words ws u, g .accepted, omega (arith, g .work, t .2), omega (arith, g .sites, t .3), sym side ∙ t .1),
-            rw (eq-eqb (sheetFault ws) 0 (g .accepted)) at e,
-          )
+          let g = reading ws r e (t .0) in
+          ((are-words ws u, g .accepted, omega (arith, g .work, t .2), omega (arith, g .sites, t .3), sym side ∙ t .1), g .work)
 
--- THE SHEET WITHOUT THE BOUNDS THAT CAN'T BIND in place of the sheet, whose sizes are r; d: its numbers
-module _ (ws k o : List ℕ) (t : takesSheet ws k o) (r : Sizes) (q : r ≡ readOf (sheetIn ws)) {d : Numbers} (e : d ≡ numbersBy (sheetIn (bindingOnly ws))) where
+-- THE SHEET WITHOUT THE BOUNDS THAT CAN'T BIND in place of the sheet; b: its numbers
+module _ {d b : Numbers} {a : ℕ} {k o : List ℕ} (t : Taken d a k o) (e : BindingAlone d b) where
   abbrev ls : List ℕ
-  ls = bindingOnly ws
+  ls = bindingOnly (t .read .words)
 
-  kept-is : sheetIn ls ≡ withColours (sheetIn ws) (bindingColours (sheetIn ws .colours))
-  kept-is = sheet-binding ws (unrefused ws (t .1) .head)
+  pub kept-is : b ≡ numbersBy (sheetIn ls)
+  kept-is = e (t .read .words) (t .read .accepted) (t .read .numbers)
 
   pub takes-kept : takesSheet ls k o
-  takes-kept = takes-binding ws k o t
+  takes-kept = takes-binding (t .read .words) k o (t .takes)
 
-  abbrev whole : TakesOneSided d (productOf (sheetIn ls .colours)) k o
-  whole = record { words = ls; takes = takes-kept; numbers = e; product = refl }
+  abbrev pub read-kept : SheetRead b
+  read-kept = record { words = ls; accepted = takes-kept .1; numbers = kept-is }
 
-  -- the sizes fit
-  pub small : (r .m ≤ mostSlots) × (r .c ≤ mostColours) × (r .n ≤ mostSites)
-  small =
-      let s : Sound (sheetIn ws) = sound ws (t .1) in (
-        omega (arith, s .few-slots, ap (λ (z : Sizes). z .m) q),
-        omega (arith, s .few-colours, ap (λ (z : Sizes). z .c) q),
-        omega (arith, s .few-sites, ap (λ (z : Sizes). z .n) q),
-      )
-
-  -- the bounds, and what P asks of them
-  pub bounds-long : d .kinds ≡ length (take (d .kinds) (d .bounds))
-  bounds-long = bounds whole .1
-
-  pub bounds-low : ((i : ℕ) → getD (take (d .kinds) (d .bounds)) i 0 < byteTop) × (productBy (take (d .kinds) (d .bounds)) ≤ mostBudgets)
-  bounds-low = (bounds-fit whole .1, bounds-fit whole .2)
-
-  module _ (p : ℕ) (c : p ≡ productBy (take (d .kinds) (d .bounds))) where
-    product-kept : p ≡ productOf (sheetIn ls .colours)
-    product-kept = c ∙ ap productBy (bounds whole .0) ∙ product-are (sheetIn ls .colours)
-
-    pub few : p ≤ mostBudgets
-    few = omega (arith, c, bounds-low .1)
+  module _ {p : ℕ} (c : p ≡ productBy (take (b .kinds) (b .bounds))) where
+    pub few-budgets : p ≤ mostBudgets
+    few-budgets = omega (arith, c, bounds-fit read-kept .2)
 
     -- p is P
-    pub takes-numbers : TakesOneSided d p k o
-    takes-numbers = record { words = ls; takes = takes-kept; numbers = e; product = product-kept }
+    product-kept : p ≡ productOf (sheetIn ls .colours)
+    product-kept = c ∙ product-is read-kept
 
-    -- n, m and C stay
-    sizes-kept : (r .m ≡ length (sheetIn ls .slots)) × (r .c ≡ length (sheetIn ls .colours)) × (r .n ≡ length (sheetIn ls .sites))
-    sizes-kept = (
-      ap (λ (z : Sizes). z .m) q ∙ sym (ap (λ (s : Sheet). length (s .slots)) kept-is),
-      ap (λ (z : Sizes). z .c) q ∙ sym (ap (λ (s : Sheet). length (s .colours)) kept-is ∙ length-binding (sheetIn ws .colours)),
-      ap (λ (z : Sizes). z .n) q ∙ sym (ap (λ (s : Sheet). length (s .sites)) kept-is),
-    )
+    pub takes-numbers : TakesOneSided b p k o
+    takes-numbers = record { read = read-kept; takes = takes-kept; product = product-kept }
 
-    module _ (n : ℕ) (w : n ≡ workOf false (r .m) (r .c) (r .n) p) where
-      words-kept : n ≡ workFor (sheetIn (bindingOnly ws))
-      words-kept =
-          let z = sizes-kept in
-          w ∙ (λ i. workOf (sym (takes-kept .4) i) (z .0 i) (z .1 i) (z .2 i) (product-kept i))
+    -- n: the words of its table; of any words that have its numbers
+    module _ {n : ℕ} (w : n ≡ workOf false (b .slots) (b .kinds) (b .sites) p) where
+      words-kept : n ≡ workFor (sheetIn ls)
+      words-kept = w ∙ (λ i. workOf (sym (takes-kept .4) i) (kept-is i .slots) (kept-is i .kinds) (kept-is i .sites) (product-kept i))
 
-      words-given : r .work ≡ workFor (sheetIn ws)
-      words-given = ap (λ (z : Sizes). z .work) q
-
-      pub needs-less : (l : List ℕ) → l ≡ makeWork ls k o → (n ≤ r .work) × (r .work ≤ length l)
-      needs-less l y = (omega (arith, words-kept, words-given, work-less ws (t .1)), omega (arith, words-given, t .2, ap length y, areas-kept .1 ls k o .3))
+      pub needs-less : {f : ℕ} {l m : List ℕ} → MadeBy b k o f l m → (n ≤ a) × (a ≤ length l)
+      needs-less x =
+          let y = x ls takes-kept kept-is in
+          let z = t .words-needed in
+          (omega (arith, words-kept, z, work-less (t .read .words) (t .read .accepted)), omega (arith, z, t .takes .2, ap length (y .work-is), areas-kept .1 ls k o .3))
 
       -- the call, from the call on the sheet without them
-      pub laid : (f : ℕ) (l m a : List ℕ) → f ≡ makeFault ls k o → l ≡ makeWork ls k o → a ≡ makeAnswer ls k o → m ≡ zeroed n (r .work) l → Made ws k o f m a
-      laid f l m a x y z g =
+      pub laid : {f : ℕ} {l m c : List ℕ} → MadeBy b k o f l c → m ≡ zeroed n a l → MadeBy d k o f m c
+      laid x z ws u v =
+          let y = x (bindingOnly ws) (takes-binding ws k o u) (e ws (u .1) v) in
+          let serves : Serves ws k o = (u .1, u .2, u .3, u .4) in
           record {
-            fault-is = x ∙ fault-binding ws k o serves;
-            work-is = g ∙ ap₃ words-kept words-given y ∙ work-zeroed ws k o serves;
-            out-is = z ∙ area-binding ws k o serves;
+            fault-is = y .fault-is ∙ fault-binding ws k o serves;
+            work-is = z ∙ ap₃ (words-kept ∙ ap workFor (same-sheet read-kept (bindingOnly ws) (e ws (u .1) v))) (t .words-needed ∙ ap workFor (same-sheet (t .read) ws v)) (y .work-is) ∙ work-zeroed ws k o serves;
+            out-is = y .out-is ∙ area-binding ws k o serves;
           }
         where
-          serves : Serves ws k o
-          serves = (t .1, t .2, t .3, t .4)
-
           ap₃ : {a b c d : ℕ} {u v : List ℕ} → a ≡ b → c ≡ d → u ≡ v → zeroed a c u ≡ zeroed b d v
           ap₃ x y z = rw (x, y, z) refl

@@ -3,40 +3,39 @@
 mod binding;
 
 ghost use mathlib.Core.Path.{_≡_};
-ghost use Rattle.sheet.specs.Sheet.{sheetIn};
 ghost use Rattle.labelling.specs.Entry.{makeFault, makeAnswer, makeWork};
-ghost use Rattle.labelling.specs.Promise.{takesSheet};
-ghost use Rattle.reader.specs.Read.{readOf};
-ghost use Rattle.onesided.specs.Laying.{Made};
+ghost use Rattle.onesided.specs.Laying.{MadeBy};
+ghost use Rattle.maker.specs.Taken.{Taken};
 use crate::binding::binding_numbers;
 use areas::faults::maker_fault;
 use areas::zero_part;
+use decoding::Numbers;
 use onesided::lay_one_sided;
-use reader::Sizes;
+use reader::opened::open_sheet;
+use reader::sizes_of;
 use refusals::refusal_18::is_two_sided;
 use sizes::product_of;
 use sizes::work_for;
 
-// An accepted one-sided sheet as it was read, its areas long enough: laid out without the bounds that can't bind. These change P alone of
-// the sizes; where P falls, fewer work words are needed, so the rest is zeroed.
-fn lay_binding(sheet: &[u32], sizes: Sizes, work: &mut [u32], out: &mut [u32]) -> u8
-    requires { ⌜ takesSheet (now sheet) (now work) (now out) ⌝ }
-    requires { ⌜ sizes ≡ readOf (sheetIn (now sheet)) ⌝ }
-    ensures { λ r. ⌜ Made (now (sheet .entry)) (now (work .entry)) (now (out .entry)) r (now (work .exit)) (now (out .exit)) ⌝ }
+// The numbers of an accepted one-sided sheet, its areas long enough: laid out without the bounds that can't bind. Where P falls, fewer
+// work words are needed, so the rest is zeroed.
+fn lay_binding(numbers: Numbers, needed: usize, work: &mut [u32], out: &mut [u32]) -> u8
+    requires { ⌜ Taken numbers needed (now work) (now out) ⌝ }
+    ensures { λ r. ⌜ MadeBy numbers (now (work .entry)) (now (out .entry)) r (now (work .exit)) (now (out .exit)) ⌝ }
 {
-    let numbers = binding_numbers(sheet);
-    let kinds = numbers.kinds;
-    let bounds = numbers.bounds;
+    let kept = binding_numbers(numbers);
+    let kinds = kept.kinds;
+    let bounds = kept.bounds;
     let budgets = product_of(&bounds[..kinds]);
     let table = work_for(
         false,
-        sizes.m as u32,
-        sizes.c as u32,
-        sizes.n as u32,
+        kept.slots as u32,
+        kinds as u32,
+        kept.sites as u32,
         budgets,
     );
-    let refusal = lay_one_sided(numbers, budgets, work, out);
-    zero_part(work, table as usize, sizes.work as usize);
+    let refusal = lay_one_sided(kept, budgets, work, out);
+    zero_part(work, table as usize, needed);
     refusal
 }
 
@@ -46,7 +45,8 @@ pub fn make_layout(sheet: &[u32], work: &mut [u32], out: &mut [u32]) -> u8
     ensures { λ _. ⌜ now (work .exit) ≡ makeWork (now (sheet .entry)) (now (work .entry)) (now (out .entry)) ⌝ }
     ensures { λ _. ⌜ now (out .exit) ≡ makeAnswer (now (sheet .entry)) (now (work .entry)) (now (out .entry)) ⌝ }
 {
-    let sizes = reader::read_sheet(sheet);
+    let opened = open_sheet(sheet);
+    let sizes = sizes_of(opened);
     let needed = sizes.work as usize;
     let fault = maker_fault(
         sizes.refusal,
@@ -59,5 +59,5 @@ pub fn make_layout(sheet: &[u32], work: &mut [u32], out: &mut [u32]) -> u8
     if fault != 0 {
         return fault;
     }
-    lay_binding(sheet, sizes, work, out)
+    lay_binding(opened.numbers, needed, work, out)
 }

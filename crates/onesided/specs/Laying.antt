@@ -10,16 +10,15 @@ use Rattle.optimum.specs.OneSided.{order}
 use Rattle.optimum.specs.Budgets.{radicesOf}
 use Rattle.arrays.specs.Arrays.{measuresOf, boundsOf, drawsList, xsOf, ysOf, coloursOf, gathered}
 use Rattle.decoding.specs.declared.Numbers.{Numbers}
-use Rattle.decoding.specs.Decoding.{numbersBy}
+use Rattle.decoding.specs.Decoding.{numbersBy, SheetRead}
 use Rattle.arrays.specs.Given.{Given, given, OfSheet, Bounded, Ranked}
 use Rattle.table.specs.Marks.{TableFits}
 
 -- an accepted one-sided sheet by its numbers and P, its areas long enough; the words are there for the contract alone
 pub record TakesOneSided (d : Numbers) (budgets : ℕ) (work out : List ℕ) : Type 0 where
-  pub words : List ℕ
-  pub takes : takesSheet words work out
-  pub numbers : d ≡ numbersBy (sheetIn words)
-  pub product : budgets ≡ productOf (sheetIn words .colours)
+  pub read : SheetRead d
+  pub takes : takesSheet (read .words) work out
+  pub product : budgets ≡ productOf (sheetIn (read .words) .colours)
 
 -- THE CALL: what it returns, and both areas after it, by what they were before
 pub record Made (ws work out : List ℕ) (fault : ℕ) (workAfter outAfter : List ℕ) : Type 0 where

@@ -1,5 +1,6 @@
 // The reader: the refusal of any list of words, or the sizes of the sheet in it.
 pub mod faults;
+pub mod opened;
 mod refusal_1;
 mod refusal_2;
 mod refusal_4;
@@ -11,11 +12,12 @@ ghost use mathlib.Core.Path.{_≡_};
 ghost use Prim.Native.Nat.{ℕ, _<_, _≤_};
 ghost use lib.ListN.{length, getD};
 ghost use Rattle.sheet.specs.Limits.{mostColours, byteTop};
-ghost use Rattle.sheet.specs.Sheet.{sheetIn, sheetFault};
-ghost use Rattle.decoding.specs.Decoding.{coloursBy};
+ghost use Rattle.decoding.specs.Decoding.{coloursBy, sheetBy, SheetRead};
 ghost use Rattle.reader.specs.Read.{absent, eightOf, readOf, refusedOf, readPost};
-use crate::faults::sheet_fault;
-use decoding::numbers_of;
+ghost use Rattle.reader.specs.Opened.{IsOpened, sizesIn};
+use crate::opened::OpenedSheet;
+use crate::opened::open_sheet;
+use decoding::Numbers;
 use sizes::product_of;
 use sizes::work_for;
 use words::MOST_COLOURS;
@@ -64,12 +66,11 @@ fn colour_sizes(bounds: &[u32], counts: &[u32]) -> [ColourSize; MOST_COLOURS]
     colours
 }
 
-fn refused(number: u32) -> Sizes
-    requires { ⌜ number < byteTop ⌝ }
-    ensures { λ r. ⌜ r ≡ refusedOf number ⌝ }
+fn refused(refusal: u8) -> Sizes
+    ensures { λ r. ⌜ r ≡ refusedOf refusal ⌝ }
 {
     Sizes {
-        refusal: number as u8,
+        refusal: refusal,
         n: 0,
         m: 0,
         c: 0,
@@ -79,11 +80,10 @@ fn refused(number: u32) -> Sizes
     }
 }
 
-fn accepted(sheet: &[u32]) -> Sizes
-    requires { ⌜ sheetFault (now sheet) ≡ 0 ⌝ }
-    ensures { λ r. ⌜ r ≡ readOf (sheetIn (now (sheet .entry))) ⌝ }
+fn accepted(numbers: Numbers) -> Sizes
+    requires { ⌜ SheetRead numbers ⌝ }
+    ensures { λ r. ⌜ r ≡ readOf (sheetBy numbers) ⌝ }
 {
-    let numbers = numbers_of(sheet);
     let n = numbers.sites;
     let m = numbers.slots;
     let c = numbers.kinds;
@@ -104,13 +104,21 @@ fn accepted(sheet: &[u32]) -> Sizes
     }
 }
 
+// The reader's answer for a sheet that was opened.
+pub fn sizes_of(opened: OpenedSheet) -> Sizes
+    requires { ⌜ IsOpened opened ⌝ }
+    ensures { λ r. ⌜ r ≡ sizesIn opened ⌝ }
+{
+    let refusal = opened.refusal;
+    if refusal != 0 {
+        return refused(refusal);
+    }
+    accepted(opened.numbers)
+}
+
 // The refusal's number, or n, m, C, P, the number of work words and the eight colours.
 pub fn read_sheet(sheet: &[u32]) -> Sizes
     ensures { λ r. ⌜ r ≡ readPost (now (sheet .entry)) ⌝ }
 {
-    let number = sheet_fault(sheet);
-    if number == 0 {
-        return accepted(sheet);
-    }
-    refused(number)
+    sizes_of(open_sheet(sheet))
 }

@@ -6,7 +6,6 @@ ghost use Rattle.sheet.specs.Sheet.{sitesIn, ranksDiffer};
 ghost use Rattle.refusals.specs.Wordwise.{someRanked, rankNew};
 use refusals::refusal_6::is_ranked;
 use words::SITE;
-use words::either;
 use words::kind_of;
 use words::rank_of;
 
@@ -29,9 +28,10 @@ fn rank_new(words: &[u32], i: usize) -> bool
     ensures { λ r. ⌜ r ≡ rankNew (getD (now (words .entry)) i 0) (drop (i + 1) (now (words .entry))) ⌝ }
 {
     let w = words[i];
-    let other = kind_of(w) != SITE;
-    let new = !some_ranked(words, i + 1, rank_of(w));
-    either(other, new)
+    if kind_of(w) != SITE {
+        return true;
+    }
+    !some_ranked(words, i + 1, rank_of(w))
 }
 
 pub fn ranks_differ(body: &[u32]) -> bool

@@ -38,7 +38,7 @@ two-set (w ∷ a) (v ∷ b) d x y p q =
 -- BY NUMBERS that were read
 module _ {d : Numbers} {ls : List ℕ} (p : LayoutRead d ls) where
   abbrev s : Sheet
-  s = sheetIn (p .words)
+  s = sheetIn (p .read .words)
 
   -- THE LENGTH: the numbers are low by the one-sided head too
   pub low-one : {h : Head} → h ≡ headOneSided (d .head) → Low h (d .heights) (d .ys)
@@ -46,7 +46,7 @@ module _ {d : Numbers} {ls : List ℕ} (p : LayoutRead d ls) where
 
   -- the sheet is that of the words
   same-length : lengthOf (asOneSided (sheetBy d)) (layoutTies ls) ≡ lengthOf (asOneSided s) (layoutTies ls)
-  same-length = ap (λ (z : Sheet). lengthOf (asOneSided z) (layoutTies ls)) (sheet-read (p .numbers))
+  same-length = ap (λ (z : Sheet). lengthOf (asOneSided z) (layoutTies ls)) (sheet-read (p .read .numbers))
 
   -- what is found with that head is the length on the one-sided sheet
   pub length-found : (h : Head) (r : ℕ) (ts : List ℕ) → h ≡ headOneSided (d .head) → ts ≡ layoutBody ls →
@@ -54,14 +54,14 @@ module _ {d : Numbers} {ls : List ℕ} (p : LayoutRead d ls) where
   length-found h r ts eh et e =
       let n : Numbers = numbersBy s in
       let q : r ≡ lengthOn (headBy (asOneSided s)) (n .heights) (n .xs) (n .ys) (n .colours) (layoutTies ls) (length (layoutBody ls)) =
-      e ∙ rw (eh, et, p .numbers) refl in
-      q ∙ ap (lengthOn (headBy (asOneSided s)) (n .heights) (n .xs) (n .ys) (n .colours) (layoutTies ls)) (long (p .words) ls (p .accepted) (p .form)) ∙
-      length-is (asOneSided s) _ _ _ _ (decoded (asOneSided s) mostSlots mostSites) (layoutTies ls) (length-tiesIn (layoutBody ls) ∙ long (p .words) ls (p .accepted) (p .form)) (ties-low s (layoutBody ls) (formed s ls (p .form) .ties)) ∙
+      e ∙ rw (eh, et, p .read .numbers) refl in
+      q ∙ ap (lengthOn (headBy (asOneSided s)) (n .heights) (n .xs) (n .ys) (n .colours) (layoutTies ls)) (long (p .read .words) ls (p .read .accepted) (p .form)) ∙
+      length-is (asOneSided s) _ _ _ _ (decoded (asOneSided s) mostSlots mostSites) (layoutTies ls) (length-tiesIn (layoutBody ls) ∙ long (p .read .words) ls (p .read .accepted) (p .form)) (ties-low s (layoutBody ls) (formed s ls (p .form) .ties)) ∙
       sym same-length
 
   -- THE FIRST WORD with another length: it is a word, and the twin's
   pub first-fits : (w n r : ℕ) → w ≡ getD ls 0 0 → n ≡ bits w 0 21 → r ≡ lengthOf (asOneSided (sheetBy d)) (layoutTies ls) → w - n + r ≤ topWord
-  first-fits w n r ew en er = fits w n r en (ap (λ (z : ℕ). z / kindTop) ew ∙ formed s ls (p .form) .kind) (omega (arith, er, same-length, length-fits (p .words) ls (p .accepted) (p .form)))
+  first-fits w n r ew en er = fits w n r en (ap (λ (z : ℕ). z / kindTop) ew ∙ formed s ls (p .form) .kind) (omega (arith, er, same-length, length-fits (p .read .words) ls (p .read .accepted) (p .form)))
     where
       fits : (w n r : ℕ) → n ≡ bits w 0 21 → kindOf w ≡ 8 → r < lengthTop → w - n + r ≤ topWord
       fits w n r e k l = omega arith

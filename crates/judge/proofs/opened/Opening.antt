@@ -64,7 +64,7 @@ module _ (ws : List ℕ) {o : Opened} (e : o ≡ layoutOpened ws) where
     judge-numbers = numbers-are (judgeFault ws) (sheetPart ws) e h
 
     pub judge-read : LayoutRead (o .numbers) (layoutPart ws)
-    judge-read = record { words = sheetPart ws; accepted = judged-so .1 ws .3 .0 h .0; numbers = judge-numbers; form = judged-so .1 ws .3 .0 h .1 }
+    judge-read = record { read = record { words = sheetPart ws; accepted = judged-so .1 ws .3 .0 h .0; numbers = judge-numbers }; form = judged-so .1 ws .3 .0 h .1 }
 
     pub rule-is : brokenBy (sheetBy (o .numbers)) (layoutPart ws) ≡ judged ws
     rule-is = ap (λ (s : Sheet). brokenBy s (layoutPart ws)) (sheet-read judge-numbers)
@@ -96,4 +96,4 @@ module _ (ws : List ℕ) {o : Opened} (e : o ≡ storedOpened ws) where
     stored-numbers = numbers-are (storedFault ws) (sheetPart ws) e h
 
     pub stored-read : LayoutRead (o .numbers) (layoutPart ws)
-    stored-read = record { words = sheetPart ws; accepted = stored-accepted ws h; numbers = stored-numbers; form = stored-layout ws h }
+    stored-read = record { read = record { words = sheetPart ws; accepted = stored-accepted ws h; numbers = stored-numbers }; form = stored-layout ws h }

@@ -2,7 +2,8 @@ use Rattle.sheet.specs.Limits.{mostSites}
 use Rattle.sheet.specs.Sheet.{sheetIn}
 use Rattle.arrays.specs.Arrays.{xsOf, ysOf, coloursOf, gathered, ranksBy}
 use Rattle.optimum.specs.OneSided.{order}
-use Rattle.onesided.proofs.Parts.{IsFront, few-sites, xs, ys, colours, ranks, orders, ranked, by-numbers, stands}
+use Rattle.decoding.proofs.Fronts.{IsFront, few, xs, ys, colours, stands}
+use Rattle.onesided.proofs.Parts.{ranks, orders, ranked, by-numbers}
 use mathlib.Core.Path.{sym, _∙_}
 use Prim.Native.Nat.{_≤_}
 use native.Mathlib.Omega.{arith}
@@ -16,38 +17,38 @@ abbrev begin : tie.After-order-of → tie.Start
 begin c = c .before .before .before .before .before .before .before .before .before .before
 
 -- the arrays are those of the sheet's sites
-ranks-are : (c : tie.After-ranks-of) → (let a = c .before .before .before .before .before .before .before .before .args in let s = sheetIn (c .before .before .before .before .before .before .before .before .pre .words) in IsFront (c .ranks-of .result) (a .numbers .sites) (ranksBy (xsOf (s .sites)) (ysOf (s .sites))))
-ranks-are c = ranks (c .before .before .before .before .before .before .before .before .pre) (c .ranks-of .ensures)
+ranks-are : (c : tie.After-ranks-of) → (let a = c .before .before .before .before .before .before .before .before .args in let s = sheetIn (c .before .before .before .before .before .before .before .before .pre .read .words) in IsFront (c .ranks-of .result) (a .numbers .sites) (ranksBy (xsOf (s .sites)) (ysOf (s .sites))))
+ranks-are c = ranks (c .before .before .before .before .before .before .before .before .pre .read) (c .ranks-of .ensures)
 
-order-is : (c : tie.After-order-of) → IsFront (c .order-of .result) (begin c .args .numbers .sites) (order (sheetIn (begin c .pre .words)))
-order-is c = orders (begin c .pre) (c .before .before .ranks-of .result) (c .order-of .result) (ranks-are (c .before .before) .0) (c .order-of .ensures)
+order-is : (c : tie.After-order-of) → IsFront (c .order-of .result) (begin c .args .numbers .sites) (order (sheetIn (begin c .pre .read .words)))
+order-is c = orders (begin c .pre .read) (c .before .before .ranks-of .result) (c .order-of .result) (ranks-are (c .before .before) .0) (c .order-of .ensures)
 
-few : (c : tie.After-order-of) → length (take (begin c .args .numbers .sites) (c .order-of .result)) ≤ mostSites
-few c = omega (arith, order-is c .1, few-sites (begin c .pre))
+order-few : (c : tie.After-order-of) → length (take (begin c .args .numbers .sites) (c .order-of .result)) ≤ mostSites
+order-few c = omega (arith, order-is c .1, few (begin c .pre .read) .2)
 
-ranked-xs-are : (c : tie.After-gathered-of) → IsFront (c .gathered-of .result) (begin (c .before .before) .args .numbers .sites) (gathered (xsOf (sheetIn (begin (c .before .before) .pre .words) .sites)) (order (sheetIn (begin (c .before .before) .pre .words))))
-ranked-xs-are c = ranked (begin (c .before .before) .pre) _ _ _ _ (xs (begin (c .before .before) .pre) .0) (order-is (c .before .before) .0) (c .gathered-of .ensures)
+ranked-xs-are : (c : tie.After-gathered-of) → IsFront (c .gathered-of .result) (begin (c .before .before) .args .numbers .sites) (gathered (xsOf (sheetIn (begin (c .before .before) .pre .read .words) .sites)) (order (sheetIn (begin (c .before .before) .pre .read .words))))
+ranked-xs-are c = ranked (begin (c .before .before) .pre .read) _ _ _ _ (xs (begin (c .before .before) .pre .read) .0) (order-is (c .before .before) .0) (c .gathered-of .ensures)
 
-ranked-ys-are : (c : tie.After-gathered-of2) → IsFront (c .gathered-of2 .result) (begin (c .before .before .before) .args .numbers .sites) (gathered (ysOf (sheetIn (begin (c .before .before .before) .pre .words) .sites)) (order (sheetIn (begin (c .before .before .before) .pre .words))))
-ranked-ys-are c = ranked (begin (c .before .before .before) .pre) _ _ _ _ (ys (begin (c .before .before .before) .pre) .0) (order-is (c .before .before .before) .0) (c .gathered-of2 .ensures)
+ranked-ys-are : (c : tie.After-gathered-of2) → IsFront (c .gathered-of2 .result) (begin (c .before .before .before) .args .numbers .sites) (gathered (ysOf (sheetIn (begin (c .before .before .before) .pre .read .words) .sites)) (order (sheetIn (begin (c .before .before .before) .pre .read .words))))
+ranked-ys-are c = ranked (begin (c .before .before .before) .pre .read) _ _ _ _ (ys (begin (c .before .before .before) .pre .read) .0) (order-is (c .before .before .before) .0) (c .gathered-of2 .ensures)
 
-ranked-colours-are : (c : tie.After-gathered-of3) → IsFront (c .gathered-of3 .result) (begin (c .before .before .before .before .before) .args .numbers .sites) (gathered (coloursOf (sheetIn (begin (c .before .before .before .before .before) .pre .words) .sites)) (order (sheetIn (begin (c .before .before .before .before .before) .pre .words))))
-ranked-colours-are c = ranked (begin (c .before .before .before .before .before) .pre) _ _ _ _ (colours (begin (c .before .before .before .before .before) .pre) .0) (order-is (c .before .before .before .before .before) .0) (c .gathered-of3 .ensures)
+ranked-colours-are : (c : tie.After-gathered-of3) → IsFront (c .gathered-of3 .result) (begin (c .before .before .before .before .before) .args .numbers .sites) (gathered (coloursOf (sheetIn (begin (c .before .before .before .before .before) .pre .read .words) .sites)) (order (sheetIn (begin (c .before .before .before .before .before) .pre .read .words))))
+ranked-colours-are c = ranked (begin (c .before .before .before .before .before) .pre .read) _ _ _ _ (colours (begin (c .before .before .before .before .before) .pre .read) .0) (order-is (c .before .before .before .before .before) .0) (c .gathered-of3 .ensures)
 
 array-share-prefix-xs : tie.Need-array-share-prefix-xs
-array-share-prefix-xs c = stands _ _ (xs (c .before .before .before .before .before .pre) .1)
+array-share-prefix-xs c = stands _ _ (xs (c .before .before .before .before .before .pre .read) .1)
 
 slice-aggregate-xs : tie.Need-slice-aggregate-xs
-slice-aggregate-xs c = xs (c .before .before .before .before .before .before .pre) .1
+slice-aggregate-xs c = xs (c .before .before .before .before .before .before .pre .read) .1
 
 array-share-prefix-ys : tie.Need-array-share-prefix-ys
-array-share-prefix-ys c = stands _ _ (ys (c .before .before .before .before .before .before .pre) .1)
+array-share-prefix-ys c = stands _ _ (ys (c .before .before .before .before .before .before .pre .read) .1)
 
 slice-aggregate-ys : tie.Need-slice-aggregate-ys
-slice-aggregate-ys c = ys (c .before .before .before .before .before .before .before .pre) .1
+slice-aggregate-ys c = ys (c .before .before .before .before .before .before .before .pre .read) .1
 
 ranks-of-requires : tie.Need-ranks-of-requires
-ranks-of-requires c κs = let p = c .before .before .before .before .before .before .before .pre in (omega (arith, xs p .1, few-sites p), sym (ys p .1) ∙ xs p .1)
+ranks-of-requires c κs = let p = c .before .before .before .before .before .before .before .pre .read in (omega (arith, xs p .1, few p .2), sym (ys p .1) ∙ xs p .1)
 
 array-share-prefix-ranks : tie.Need-array-share-prefix-ranks
 array-share-prefix-ranks c = stands _ _ (ranks-are c .1)
@@ -56,7 +57,7 @@ slice-aggregate-order-of : tie.Need-slice-aggregate-order-of
 slice-aggregate-order-of c = ranks-are (c .before) .1
 
 order-of-requires : tie.Need-order-of-requires
-order-of-requires c κs = omega (arith, ranks-are (c .before) .1, few-sites (c .before .before .before .before .before .before .before .before .before .pre))
+order-of-requires c κs = omega (arith, ranks-are (c .before) .1, few (c .before .before .before .before .before .before .before .before .before .pre .read) .2)
 
 array-share-prefix-order : tie.Need-array-share-prefix-order
 array-share-prefix-order c = stands _ _ (order-is c .1)
@@ -65,19 +66,19 @@ slice-aggregate-order : tie.Need-slice-aggregate-order
 slice-aggregate-order c = order-is (c .before) .1
 
 gathered-of-requires : tie.Need-gathered-of-requires
-gathered-of-requires c κs = few (c .before)
+gathered-of-requires c κs = order-few (c .before)
 
 gathered-of-requires-2 : tie.Need-gathered-of-requires-2
-gathered-of-requires-2 c κs = few (c .before .before)
+gathered-of-requires-2 c κs = order-few (c .before .before)
 
 array-share-prefix-site-colours : tie.Need-array-share-prefix-site-colours
-array-share-prefix-site-colours c = stands _ _ (colours (begin (c .before .before .before) .pre) .1)
+array-share-prefix-site-colours c = stands _ _ (colours (begin (c .before .before .before) .pre .read) .1)
 
 slice-aggregate-gathered-of : tie.Need-slice-aggregate-gathered-of
-slice-aggregate-gathered-of c = colours (begin (c .before .before .before .before) .pre) .1
+slice-aggregate-gathered-of c = colours (begin (c .before .before .before .before) .pre .read) .1
 
 gathered-of-requires-3 : tie.Need-gathered-of-requires-3
-gathered-of-requires-3 c κs = few (c .before .before .before .before)
+gathered-of-requires-3 c κs = order-few (c .before .before .before .before)
 
 array-share-prefix-ranked-xs : tie.Need-array-share-prefix-ranked-xs
 array-share-prefix-ranked-xs c = stands _ _ (ranked-xs-are (c .before .before .before) .1)
@@ -101,7 +102,7 @@ lay-sites-requires : tie.Need-lay-sites-requires
 lay-sites-requires c κs =
     let p = begin (c .before .before .before .before .before .before .before .before .before .before) .pre in (
       p,
-      by-numbers p
+      by-numbers (p .read)
           (record {
             xsIs = ranked-xs-are (c .before .before .before .before .before .before .before .before) .0;
             ysIs = ranked-ys-are (c .before .before .before .before .before .before .before) .0;

@@ -4,9 +4,6 @@ use borrow.Author.Needs.{needs}
 use Rattle.reader.proofs.refused.Statement.{statement}
 use Rattle.reader.proofs.refused.Tie as tie
 
-cast-t2 : tie.Need-cast-t2
-cast-t2 c = search needs
-
 no-colour-requires : tie.Need-no-colour-requires
 no-colour-requires c κs = search needs
 
@@ -15,4 +12,4 @@ returns c =
     rw (c .no-colour .ensures) refl
 
 pub refused-spec : {M : Type 1} → statement M
-refused-spec = tie.close (tie.spec cast-t2 no-colour-requires returns)
+refused-spec = tie.close (tie.spec no-colour-requires returns)

@@ -1,7 +1,8 @@
 use Rattle.labelling.specs.Layout.{tiesAt}
 use Rattle.lists.proofs.Places.{part-from}
 use Rattle.layouts.proofs.Fitting.{some-read, fits-read, low-read}
-use Rattle.judge.proofs.Ruled.{front-long, front-in, rule-found}
+use Rattle.decoding.proofs.Fronts.{bounds, stands}
+use Rattle.judge.proofs.Ruled.{rule-found}
 use mathlib.Core.Path.{refl}
 use native.Mathlib.Omega.{arith}
 use borrow.Author.Needs.{needs}
@@ -18,11 +19,11 @@ shared-slice-read-stated c =
 
 array-share-prefix-bounds : tie.Need-array-share-prefix-bounds
 array-share-prefix-bounds c =
-    front-in (c .before .before .before .before .before .before .before .pre)
+    stands _ _ (bounds (c .before .before .before .before .before .before .before .pre .read) .1)
 
 slice-aggregate-broken-by : tie.Need-slice-aggregate-broken-by
 slice-aggregate-broken-by c =
-    front-long (c .before .before .before .before .before .before .before .before .pre)
+    bounds (c .before .before .before .before .before .before .before .before .pre .read) .1
 
 sub-broken-by : tie.Need-sub-broken-by
 sub-broken-by c =
