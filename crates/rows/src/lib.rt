@@ -17,6 +17,8 @@ use arrays::Measures;
 // How many marks a strip may have: optimum/specs/OneSided has the number for definitions.
 const MARK_COUNT: usize = 1;
 
+pub const LAST_MARK: u32 = 0;
+
 // A strip: the labels above and below it (0: the top edge, k + 1: slot k, m + 1: the bottom edge) and their colours (0: none, c + 1: colour c);
 // d is the mark that the last site tied in it left.
 pub struct Strip {

@@ -1,4 +1,5 @@
 pub mod Asked
+pub mod Cleared
 pub mod Followed
 pub mod Levels
 pub mod Points

@@ -68,9 +68,9 @@ HasEnd l e p = endPlace (coloursIn l) (p .a) (p .ca) ≡ endPlace (coloursIn l) 
 
 -- ---- marking
 
--- the first word of each of so many rows of n words is 0, and what lies past them is as before
-abbrev pub MarksCleared : (rows n : ℕ) → (old new : List ℕ) → Type 0
-MarksCleared rows n old new = ((r : ℕ) → r < rows → getD new (r * n) 0 ≡ 0) × ((i : ℕ) → rows * n ≤ i → getD new i 0 ≡ getD old i 0)
+-- from a word on all is as before. Of clearing marks no more is asked: a mark that is left costs time and nothing else
+pub record KeptFrom (place : ℕ) (old new : List ℕ) : Type 0 where
+  pub kept : (i : ℕ) → place ≤ i → getD new i 0 ≡ getD old i 0
 
 -- in the level at the word `low`, of m slots, some words became 1 and nothing else changed: among them the mark of the strip's row, if it is to
 -- stay; those of the strip as a site leaves it that joins the label above, and the label below, where that is lawful; those of both parts, at

@@ -1,11 +1,12 @@
 // Marks, in the first word of its row, each strip that the whole sheet leads to, level by level from the first down.
 ghost use mathlib.Core.Path.{_≡_};
 ghost use mathlib.Core.List.{[]};
-ghost use Prim.Native.Nat.{_*_, _<_, _≤_};
+ghost use Prim.Native.Nat.{_+_, _*_, _<_, _≤_};
 ghost use lib.ListN.{length};
+ghost use Rattle.sheet.specs.Limits.{mostSites, mostBudgets};
 ghost use Rattle.arrays.specs.Given.{Given, onSlots, onStrip, OfSheet, SiteIn, Bounded};
-ghost use Rattle.rows.specs.Rows.{stripOf, pointOf, rowsOf};
-ghost use Rattle.table.specs.Marks.{Level, level, wordsIn, Ready, EndIn, MarksCleared, StripMarked, JoinsMarked, WindowMarked, StripFits, MarkReady, RowLed, EndLed, LevelLed};
+ghost use Rattle.rows.specs.Rows.{stripOf, pointOf, rowsOf, LevelFits};
+ghost use Rattle.table.specs.Marks.{Level, level, wordsIn, Ready, EndIn, KeptFrom, StripMarked, JoinsMarked, WindowMarked, StripFits, MarkReady, RowLed, EndLed, LevelLed};
 ghost use Rattle.table.specs.Marks.{onSites, TableFits, LevelAt, SiteLed, SheetMarked};
 use arrays::Measures;
 use rows::End;
@@ -160,17 +161,69 @@ fn follow_level(
     }
 }
 
-// Clears the first word of each of so many rows.
-fn clear_marks(work: &mut [u32], rows: usize, n: usize)
-    requires { ⌜ (rows * n ≤ length (now work)) × (0 < n) ⌝ }
-    ensures { λ _. ⌜ MarksCleared rows n (now (work .entry)) (now (work .exit)) ⌝ }
+// Clears the first word of each row of n words, from a word up to another.
+fn clear_rows(work: &mut [u32], from: usize, to: usize, n: usize)
+    requires { ⌜ (to ≤ length (now work)) × (0 < n) × (n ≤ mostBudgets) ⌝ }
+    ensures { λ _. ⌜ KeptFrom to (now (work .entry)) (now (work .exit)) ⌝ }
 {
-    let mut at: usize = 0;
-    let mut r: usize = 0;
-    while r < rows {
+    let mut at = from;
+    while at < to {
         work[at] = 0;
         at += n;
-        r += 1;
+    }
+}
+
+// Clears the marks below one upper end, if a strip may have it: those that are looked at, half of all.
+fn clear_below(work: &mut [u32], q: Measures, m: usize, above: End, base: usize)
+    requires { ⌜ LevelFits q m base (length (now work)) × (above .slot ≤ m) × (above .colour ≤ q .colours) ⌝ }
+    ensures { λ _. ⌜ KeptFrom (base + rowsOf m (q .colours) * q .budgets) (now (work .entry)) (now (work .exit)) ⌝ }
+{
+    if !rows::is_upper_end(above) {
+        return;
+    }
+    let first = Strip {
+        a: above.slot,
+        ca: above.colour,
+        b: above.slot + 1,
+        cb: 0,
+        d: 0,
+    };
+    let last = Strip {
+        a: above.slot,
+        ca: above.colour,
+        b: (m as u32) + 1,
+        cb: q.colours,
+        d: rows::LAST_MARK,
+    };
+    let n = q.budgets as usize;
+    let from = base + rows::row_place(q, m, first);
+    let to = base + rows::row_place(q, m, last) + n;
+    clear_rows(work, from, to, n);
+}
+
+// Clears the marks of a level.
+fn clear_level(work: &mut [u32], q: Measures, m: usize, base: usize)
+    requires { ⌜ LevelFits q m base (length (now work)) ⌝ }
+    ensures { λ _. ⌜ KeptFrom (base + rowsOf m (q .colours) * q .budgets) (now (work .entry)) (now (work .exit)) ⌝ }
+{
+    let ends = (m as u32) + 1;
+    let mut above = End { slot: 0, colour: 0 };
+    while above.slot < ends {
+        clear_below(work, q, m, above, base);
+        above = rows::next_end(q.colours, above);
+    }
+}
+
+// Clears the marks of so many levels, each of `size` words.
+fn clear_marks(work: &mut [u32], q: Measures, m: usize, size: usize, levels: usize)
+    requires { ⌜ (levels ≤ mostSites + 1) × (levels * size ≤ length (now work)) × (size ≡ rowsOf m (q .colours) * q .budgets) ⌝ }
+    requires { ⌜ LevelFits q m 0 size ⌝ }
+    ensures { λ _. ⌜ KeptFrom (levels * size) (now (work .entry)) (now (work .exit)) ⌝ }
+{
+    let mut j: usize = 0;
+    while j < levels {
+        clear_level(work, q, m, j * size);
+        j += 1;
     }
 }
 
@@ -213,7 +266,7 @@ pub fn mark_table(
 {
     let n = q.budgets as usize;
     let size = rows * n;
-    clear_marks(work, (xs.len() + 1) * rows, n);
+    clear_marks(work, q, heights.len(), size, xs.len() + 1);
     let whole = Strip {
         a: 0,
         ca: 0,

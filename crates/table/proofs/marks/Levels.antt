@@ -37,9 +37,6 @@ row-within r rows n h =
     let e : rows ≡ suc r + (rows - suc r) = omega arith in
     omega (arith, ap (λ (z : ℕ). z * n) e)
 
-pub count-words : (k rows n level area : ℕ) → rows * n ≡ level → k * level ≤ area → k * rows * n ≤ area
-count-words k rows n level area e h = omega (arith, h, ap (λ (z : ℕ). k * z) e)
-
 -- the first level stands in an area that has some
 pub first-within : (n level area : ℕ) → (n + 1) * level ≤ area → 0 + level ≤ area
 first-within n level area h = omega (arith, h)
@@ -53,9 +50,6 @@ enough n size level area now e h l = rw (e, l) h
 
 pub few : (n : ℕ) → n ≤ mostSites → n + 1 ≤ mostSites + 1
 few n h = omega arith
-
-pub few-rows : (rows r most : ℕ) → rows ≡ r → r ≤ most → rows ≤ most
-few-rows rows r most e h = rw e h
 
 -- the last level stands in an area that has n + 1 of them
 pub last-within : (n size level area now : ℕ) → size ≡ level → (n + 1) * level ≤ area → now ≡ area → n * size + size ≤ now

@@ -1,13 +1,10 @@
-use native.Mathlib.Nat.{mul-le-mul}
 use Rattle.arrays.specs.Arrays.{pointsBy}
 use Rattle.strips.specs.Strips.{instanceOn}
 use Rattle.arrays.specs.Given.{OfSheet}
 use Rattle.optimum.proofs.Marks.{some-mark}
 use Rattle.rows.specs.Rows.{levelOf}
-use Rattle.rows.proofs.Places.{rows-few}
 use Rattle.table.specs.Marks.{onSites, ReachMarked}
-use Rattle.sheet.specs.Limits.{mostSites, mostRows}
-use Rattle.table.proofs.marks.Levels.{level-small, count-words, first-within, past-level, few, few-rows, level-fits}
+use Rattle.table.proofs.marks.Levels.{level-small, first-within, past-level, few, level-fits}
 use Rattle.table.proofs.marks.Reach.{reach-first, reach-more, whole-marked, to-level}
 use mathlib.Core.Path.{_≡_, refl, ap, _∙_}
 use Prim.Native.Nat.{ℕ, _+_, _-_, _*_, _≤_}
@@ -44,17 +41,12 @@ mul-size c =
 add-clear-marks : tie.Need-add-clear-marks Inv-loop μ-loop
 add-clear-marks c = search needs
 
-mul-clear-marks : tie.Need-mul-clear-marks Inv-loop μ-loop
-mul-clear-marks c =
-    let p = c .before .before .before .before .before .before .before .before .pre in
-    let a = c .before .before .before .before .before .before .before .before .args in
-    omega (arith, mul-le-mul {n₂ = mostSites + 1} {m₂ = mostRows} (few _ (p .0 .fewSites)) (few-rows _ _ _ (p .3) (rows-few _ _ (p .0 .fewSlots) (p .0 .fewColours))))
-
 clear-marks-requires : tie.Need-clear-marks-requires Inv-loop μ-loop
 clear-marks-requires c κs =
     let p = c .before .before .before .before .before .before .before .before .pre in
     let a = c .before .before .before .before .before .before .before .before .args in
-    (count-words (length (a .xs .now) + 1) (a .rows) (a .q .budgets) _ _ (ap (λ (z : ℕ). z * a .q .budgets) (p .3)) (p .2), p .0 .someBudget)
+    let e = ap (λ (z : ℕ). z * a .q .budgets) (p .3) in
+    ((few _ (p .0 .fewSites), rw e (p .2), e), level-fits (p .0) (omega (arith, e)))
 
 cast-t19 : tie.Need-cast-t19 Inv-loop μ-loop
 cast-t19 c = search needs
@@ -116,7 +108,7 @@ returns c =
       to-level (instanceOn (a .q) (a .heights .now) (a .bounds .now)) (a .q) (pointsBy (a .q) (a .heights .now) (a .xs .now) (a .ys .now) (a .cs .now)) (l .work) _ _ (l .j) (l .inv .0) z (l .inv .3 (p .0)),
       λ i h.
           let e = ap (λ (z : ℕ). z * a .q .budgets) (p .3) in
-          l .inv .4 i (rw (l .inv .0) h) ∙ c .before .before .before .before .mark-own .ensures .0 .others .after i (first-within _ _ _ h) ∙ c .before .before .before .before .before .before .before .before .clear-marks .ensures .1 i (count-words (length (a .xs .now) + 1) (a .rows) (a .q .budgets) _ _ e h),
+          l .inv .4 i (rw (l .inv .0) h) ∙ c .before .before .before .before .mark-own .ensures .0 .others .after i (first-within _ _ _ h) ∙ c .before .before .before .before .before .before .before .before .clear-marks .ensures .kept i (rw e h),
     )
 
 pub mark-table-spec : {M : Type 1} → statement M
@@ -128,7 +120,6 @@ mark-table-spec =
     cast-n
     mul-size
     add-clear-marks
-    mul-clear-marks
     clear-marks-requires
     cast-t19
     add-t20
