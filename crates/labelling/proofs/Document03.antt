@@ -15,7 +15,7 @@ use Rattle.sheet.specs.Refusals.{unless, given}
 use Rattle.sheet.specs.Sheet.{all, inOrder, Site, Sheet, sheetIn, productOf, rising, hasRank, ranksDiffer, isHead, countsFit, insideBy, sheetFault, workFor, rankBy}
 use Rattle.labelling.specs.Layout.{tiesIn, Tied, tieAt, tied, apart, farBy, countsBy, clearBy, shareBy, heightOf, isUsed, usedOf, leftEnd, colourKept, coloursOf, coloursKept, boundsKept, gapKept, gapsOf, gapsKept, verticalHas, missesAll, clearsAll, countOf, backbones, drops, lengthOf, brokenIn, layoutWords, statedCount, statedLength, isLayout, isLawful, brokenBy, nextRank, slotAt, byRank, comesFirst, isBetter, betterOf, bestOver, bestFrom, best, answer, answerBy, sheetPart, layoutPart, judgeFault, judged, layoutBody, layoutTies}
 use Rattle.labelling.specs.Entry.{isNone, makeFault, makeAnswer, makeWork}
-use Rattle.lists.proofs.Tests.{eqb-self, same-test, by-test, by-equal, and-l, and-r, and-i, or-e, tests, by-order}
+use Rattle.lists.proofs.Tests.{eqb-self, eqb-sym, same-test, by-test, by-equal, and-l, and-r, and-i, or-e, tests, by-order}
 use Rattle.labelling.proofs.Distances.{far-e, far-i}
 use Rattle.sheet.proofs.Refusals.{turned}
 use Rattle.labelling.proofs.Refusals.{make-chain, judge-chain}
@@ -234,9 +234,6 @@ all-both f g (x ∷ xs) = ap (λ (b : Bool). (f x && g x) && b) (all-both f g xs
     swap true true false t = refl
     swap true false false t = refl
     swap false q r t = refl
-
-eqb-sym : (m n : ℕ) → eqb m n ≡ eqb n m
-eqb-sym m n = by-equal m n (λ e. rw (eq-eqb m n e, eq-eqb n m (sym e))) λ e. rw (ne-eqb m n e, ne-eqb n m (λ q. e (sym q)))
 
 kept-sym : (t u : Tied) → colourKept t u ≡ colourKept u t
 kept-sym t u = ap₂ (λ (p q : Bool). not p || q) (eqb-sym (t .slot) (u .slot)) (eqb-sym (t .site .colour) (u .site .colour))

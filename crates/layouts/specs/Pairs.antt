@@ -13,9 +13,12 @@ passes Gaps h t u = gapsPass h t u
 passes Misses h t u = missesPass h t u
 passes Clears h t u = clearsPass h t u
 
--- every test of t beside u; 1 if one of the two fails one beside the other, else 0
-abbrev pub everyTest : Head → (t u : TiedSite) → Bool
-everyTest h t u = (coloursPass t u && gapsPass h t u) && (missesPass h t u && clearsPass h t u)
+-- the tests that ask the same of t beside u and of u beside t; those that do not; 1 if one of the two fails one beside the other, else 0
+abbrev pub passesBoth : Head → (t u : TiedSite) → Bool
+passesBoth h t u = coloursPass t u && gapsPass h t u
+
+abbrev pub passesOne : Head → (t u : TiedSite) → Bool
+passesOne h t u = missesPass h t u && clearsPass h t u
 
 unfoldable pub flawOf : Head → (t u : TiedSite) → ℕ
-flawOf h t u = cond (everyTest h t u && everyTest h u t) 0 1
+flawOf h t u = cond (passesBoth h t u && (passesOne h t u && passesOne h u t)) 0 1

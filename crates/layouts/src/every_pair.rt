@@ -6,7 +6,7 @@ ghost use Prim.Native.Nat.{_<_, _≤_};
 ghost use lib.ListN.{length};
 ghost use Rattle.sheet.specs.Limits.{mostSites};
 ghost use Rattle.labelling.specs.Layout.{tiesIn};
-ghost use Rattle.layouts.specs.Pairs.{everyTest, flawOf};
+ghost use Rattle.layouts.specs.Pairs.{passesBoth, passesOne, flawOf};
 ghost use Rattle.layouts.specs.Model.{Fits, LevelsOf, tiedAt, tiedOn, flawsAt, pairsPass};
 ghost use Rattle.layouts.specs.declared.pairs.Test as test;
 use crate::ties::slot_at;
@@ -19,20 +19,25 @@ use words::get;
 use words::tied::Head;
 use words::tied::TiedSite;
 
-// Every test of t beside u.
-fn every_test(h: Head, t: TiedSite, u: TiedSite) -> bool
-    ensures { λ r. ⌜ r ≡ everyTest h t u ⌝ }
+// The tests that ask the same of t beside u and of u beside t: they are made once.
+fn passes_both(h: Head, t: TiedSite, u: TiedSite) -> bool
+    ensures { λ r. ⌜ r ≡ passesBoth h t u ⌝ }
 {
-    let apart = colours_pass(t, u) & gaps_pass(h, t, u);
-    let clear = misses_pass(h, t, u) & clears_pass(h, t, u);
-    apart & clear
+    colours_pass(t, u) & gaps_pass(h, t, u)
+}
+
+// Those that do not.
+fn passes_one(h: Head, t: TiedSite, u: TiedSite) -> bool
+    ensures { λ r. ⌜ r ≡ passesOne h t u ⌝ }
+{
+    misses_pass(h, t, u) & clears_pass(h, t, u)
 }
 
 // 1 if one of two fails a test beside the other, else 0.
 fn flaw(h: Head, t: TiedSite, u: TiedSite) -> u32
     ensures { λ r. ⌜ r ≡ flawOf h t u ⌝ }
 {
-    if every_test(h, t, u) & every_test(h, u, t) {
+    if passes_both(h, t, u) & (passes_one(h, t, u) & passes_one(h, u, t)) {
         return 0;
     }
     1

@@ -88,3 +88,6 @@ pub ruleset tests = (ltb-true, ltb-false, leb-true, leb-false, eqb-true, eqb-fal
 
 pub eqb-self : (n : ℕ) → eqb n n ≡ true
 eqb-self n = eq-eqb n n refl
+
+pub eqb-sym : (m n : ℕ) → eqb m n ≡ eqb n m
+eqb-sym m n = by-equal m n (λ e. rw (eq-eqb m n e, eq-eqb n m (sym e))) λ e. rw (ne-eqb m n e, ne-eqb n m (λ q. e (sym q)))
