@@ -1,7 +1,7 @@
 -- Document 03's text where the definitions have another, and that the two are one: rule 1 there tests each site against the later
 -- ones, rule 3 neighbours among the used slots; the order goes by x, here by rank; a site's share is written out. Equal: refusals and
 -- calls on every list, and on every accepted sheet the least broken rule, which of two is better and the answer. Assumes nothing.
-use mathlib.Core.Path.{_≡_, refl, sym, _∙_, ap, ap₂, subst, fun-ext}
+use mathlib.Core.Path.{_≡_, refl, _∙_, ap, ap₂, subst, fun-ext}
 use mathlib.Core.Logic.{_⊎_, inl, inr}
 use mathlib.Core.Bool.{Bool, true, false, _&&_, _||_, not, false≢true, cond}
 use mathlib.Core.List.{List, [], _∷_, _++_}
@@ -10,12 +10,12 @@ use Prim.Native.Nat.{ℕ, zero, suc, _+_, _-_, _≤_, _<_}
 use native.Mathlib.Omega.{arith}
 use lib.Dec.{ltb, leb, eqb}
 use lib.ListN.{length, getD, drop, replicate, length-append}
-use borrow.Author.Tests.{ltb-true, ltb-false, leb-true, eqb-true, eqb-false, lt-ltb, le-leb, eq-eqb, ne-eqb, le-ltb, lt-leb}
+use borrow.Author.Tests.{ltb-true, ltb-false, leb-true, eqb-true, eqb-false, lt-ltb, le-leb, ne-eqb}
 use Rattle.sheet.specs.Refusals.{unless, given}
 use Rattle.sheet.specs.Sheet.{all, inOrder, Site, Sheet, sheetIn, productOf, rising, hasRank, ranksDiffer, isHead, countsFit, insideBy, sheetFault, workFor, rankBy}
 use Rattle.labelling.specs.Layout.{tiesIn, Tied, tieAt, tied, apart, farBy, countsBy, clearBy, shareBy, heightOf, isUsed, usedOf, leftEnd, colourKept, coloursOf, coloursKept, boundsKept, gapKept, gapsOf, gapsKept, verticalHas, missesAll, clearsAll, countOf, backbones, drops, lengthOf, brokenIn, layoutWords, statedCount, statedLength, isLayout, isLawful, brokenBy, nextRank, slotAt, byRank, comesFirst, isBetter, betterOf, bestOver, bestFrom, best, answer, answerBy, sheetPart, layoutPart, judgeFault, judged, layoutBody, layoutTies}
 use Rattle.labelling.specs.Entry.{isNone, makeFault, makeAnswer, makeWork}
-use Rattle.lists.proofs.Tests.{eqb-self, eqb-sym, same-test, by-test, by-equal, and-l, and-r, and-i, or-e, tests, by-order}
+use Rattle.lists.proofs.Tests.{eqb-self, eqb-sym, same-test, by-test, by-equal, and-l, and-r, and-i, or-e, tests}
 use Rattle.labelling.proofs.Distances.{far-e, far-i}
 use Rattle.sheet.proofs.Refusals.{turned}
 use Rattle.labelling.proofs.Refusals.{make-chain, judge-chain}

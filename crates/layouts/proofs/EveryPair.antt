@@ -11,12 +11,13 @@ use Rattle.labelling.specs.Counted.{sumBefore}
 use Rattle.labelling.specs.Layout.{farBy}
 use Rattle.labelling.proofs.Distances.{far-sym}
 use Rattle.labelling.proofs.Counted.{all-before, before-all}
+use Rattle.rules.specs.Flaws.{passesBoth, passesOne, flawOf}
 use Rattle.rules.specs.Rules.{coloursPass, gapsPass, missesPass, clearsPass}
 use Rattle.words.specs.declared.tied.TiedSite.{TiedSite}
 use Rattle.words.specs.declared.tied.Head.{Head}
 use Rattle.layouts.specs.declared.pairs.Test.{Test}
 use Rattle.layouts.specs.declared.pairs.Test.the-variants.{Colours, Gaps, Misses, Clears}
-use Rattle.layouts.specs.Pairs.{passes, passesBoth, passesOne, flawOf}
+use Rattle.layouts.specs.Pairs.{passes}
 use Rattle.layouts.specs.Model.{LevelsOf, tiedAt, tiedOn, flawsAt, pairsPass}
 
 -- LEVELS, one more

@@ -16,7 +16,8 @@ use Rattle.layouts.specs.declared.pairs.Test.{Test}
 use Rattle.layouts.specs.declared.pairs.Test.the-variants.{Colours, Gaps, Misses, Clears}
 use Rattle.layouts.specs.declared.labels.Among.{Among}
 use Rattle.layouts.specs.declared.labels.Among.the-variants.{All, Of}
-use Rattle.layouts.specs.Pairs.{passes, flawOf}
+use Rattle.layouts.specs.Pairs.{passes}
+use Rattle.rules.specs.Flaws.{flawOf}
 
 abbrev pub oneIf : Bool → ℕ
 oneIf b = cond b 1 0

@@ -6,42 +6,14 @@ ghost use Prim.Native.Nat.{_<_, _≤_};
 ghost use lib.ListN.{length};
 ghost use Rattle.sheet.specs.Limits.{mostSites};
 ghost use Rattle.labelling.specs.Layout.{tiesIn};
-ghost use Rattle.layouts.specs.Pairs.{passesBoth, passesOne, flawOf};
 ghost use Rattle.layouts.specs.Model.{Fits, LevelsOf, tiedAt, tiedOn, flawsAt, pairsPass};
 ghost use Rattle.layouts.specs.declared.pairs.Test as test;
 use crate::ties::slot_at;
-use rules::rule_1::colours_pass;
-use rules::rule_3::gaps_pass;
-use rules::rule_4::misses_pass;
-use rules::rule_5::clears_pass;
+use rules::flaws::flaw;
 use words::MOST_SITES;
 use words::get;
 use words::tied::Head;
 use words::tied::TiedSite;
-
-// The tests that ask the same of t beside u and of u beside t: they are made once.
-fn passes_both(h: Head, t: TiedSite, u: TiedSite) -> bool
-    ensures { λ r. ⌜ r ≡ passesBoth h t u ⌝ }
-{
-    colours_pass(t, u) & gaps_pass(h, t, u)
-}
-
-// Those that do not.
-fn passes_one(h: Head, t: TiedSite, u: TiedSite) -> bool
-    ensures { λ r. ⌜ r ≡ passesOne h t u ⌝ }
-{
-    misses_pass(h, t, u) & clears_pass(h, t, u)
-}
-
-// 1 if one of two fails a test beside the other, else 0.
-fn flaw(h: Head, t: TiedSite, u: TiedSite) -> u32
-    ensures { λ r. ⌜ r ≡ flawOf h t u ⌝ }
-{
-    if passes_both(h, t, u) & (passes_one(h, t, u) & passes_one(h, u, t)) {
-        return 0;
-    }
-    1
-}
 
 // The height of each site's slot: looked up once, not for each pair.
 fn levels_of(heights: &[u32], ties: &[u32]) -> [u32; MOST_SITES]

@@ -5,7 +5,7 @@ use Prim.Native.Nat.{ℕ, _≤_}
 use native.Mathlib.Omega.{arith}
 use lib.ListN.{take}
 use Rattle.sheet.specs.Limits.{mostBudgets}
-use Rattle.sheet.specs.Sheet.{Sheet, productOf, sheetIn, workFor}
+use Rattle.sheet.specs.Sheet.{Sheet, sheetIn, workFor}
 use Rattle.sizes.specs.Budgets.{productBy}
 use Rattle.sizes.specs.Work.{workOf}
 use Rattle.decoding.specs.declared.Numbers.{Numbers}

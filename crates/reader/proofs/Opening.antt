@@ -4,17 +4,25 @@ use mathlib.Core.Bool.{true, false}
 use mathlib.Core.List.{List}
 use Prim.Native.Nat.{ℕ}
 use lib.Dec.{eqb}
-use borrow.Author.Tests.{eqb-true, eq-eqb}
+use borrow.Author.Tests.{eqb-true, eq-eqb, ne-eqb}
 use Rattle.lists.proofs.Tests.{by-test}
-use Rattle.sheet.specs.Sheet.{Sheet, sheetIn, sheetFault}
+use Rattle.sheet.specs.Sheet.{sheetIn, sheetFault}
 use Rattle.decoding.specs.declared.Numbers.{Numbers}
-use Rattle.decoding.specs.Decoding.{numbersBy, noNumbers, sheetBy, SheetRead}
+use Rattle.decoding.specs.Decoding.{numbersBy, noNumbers, SheetRead}
 use Rattle.decoding.proofs.Places.{sheet-read}
-use Rattle.reader.specs.declared.Sizes.{Sizes}
 use Rattle.reader.specs.declared.opened.OpenedSheet.{OpenedSheet}
 use Rattle.reader.specs.Read.{readOf, refusedOf, readPost}
 use Rattle.reader.specs.Opened.{sheetOpened, IsOpened, sizesIn}
 
+-- FROM A REFUSAL, and from the numbers
+module _ (ws : List ℕ) {f : ℕ} {d : Numbers} (e : f ≡ sheetFault ws) where
+  pub sheet-refused : (sheetFault ws ≡ 0 → ⊥) → d ≡ noNumbers → _≡_ {A = OpenedSheet} (record { refusal = f; numbers = d }) (sheetOpened ws)
+  sheet-refused n k = rw (e, k, ne-eqb (sheetFault ws) 0 n) refl
+
+  pub sheet-accepted : sheetFault ws ≡ 0 → d ≡ numbersBy (sheetIn ws) → _≡_ {A = OpenedSheet} (record { refusal = f; numbers = d }) (sheetOpened ws)
+  sheet-accepted h k = rw (e, k, eq-eqb (sheetFault ws) 0 h) refl
+
+-- ITS PARTS
 module _ (ws : List ℕ) {o : OpenedSheet} (e : o ≡ sheetOpened ws) where
   pub refusal-is : o .refusal ≡ sheetFault ws
   refusal-is = ap (λ (z : OpenedSheet). z .refusal) e

@@ -14,7 +14,7 @@ ghost use Rattle.arrays.specs.declared.Measures as measured;
 ghost use Rattle.rows.specs.Rows.{stripOf, pointOf, rowOf, rowsOf, mostPlace, Lies, markedBy, upperPart, lowerPart, endPlace, lowPlace, upperEnd, LevelFits};
 use arrays::Measures;
 
-// How many marks a strip may have: optimum/specs/OneSided has the number for definitions.
+// How many marks a strip may have, optimum/specs/OneSided has the number for definitions; and the last of them.
 const MARK_COUNT: usize = 1;
 
 pub const LAST_MARK: u32 = 0;

@@ -1,6 +1,5 @@
 -- `reader::accepted` meets its contract.
 use native.Mathlib.Omega.{arith}
-use borrow.Author.Needs.{needs}
 use Rattle.decoding.proofs.Fronts.{few, bounds, counts, bounds-fit, counts-fit, stands}
 use Rattle.reader.proofs.Decoded.{few-budgets, sizes-are}
 use Rattle.reader.proofs.accepted.Statement.{statement}

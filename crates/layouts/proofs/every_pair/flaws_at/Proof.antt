@@ -1,12 +1,11 @@
 use mathlib.Core.Path.{ap₂}
 use Rattle.labelling.specs.Layout.{tiesIn}
 use Rattle.labelling.specs.Counted.{sumBefore}
-use Rattle.layouts.specs.Pairs.{flawOf}
+use Rattle.rules.specs.Flaws.{flawOf}
 use Rattle.layouts.specs.Model.{tiedOn}
 use Rattle.layouts.proofs.Loops.{sum-none, sum-more, sum-end}
 use Rattle.layouts.proofs.EveryPair.{flaw-low}
 use mathlib.Core.Path.{_≡_, _∙_}
-use mathlib.Core.List.{[], _∷_}
 use Prim.Native.Nat.{_-_, _≤_}
 use native.Mathlib.Omega.{arith}
 use borrow.Author.Needs.{needs}

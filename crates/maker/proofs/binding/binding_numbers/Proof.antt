@@ -1,6 +1,5 @@
 use Rattle.decoding.proofs.Fronts.{bounds, counts, bounds-fit, counts-fit, stands}
 use Rattle.maker.proofs.Kept.{numbers-kept}
-use borrow.Author.Needs.{needs}
 use Rattle.maker.proofs.binding.binding_numbers.Statement.{statement}
 use Rattle.maker.proofs.binding.binding_numbers.Tie as tie
 

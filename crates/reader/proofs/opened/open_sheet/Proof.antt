@@ -1,12 +1,10 @@
 -- `opened::open_sheet` meets its contract.
-use mathlib.Core.Path.{_≡_, refl}
-use mathlib.Core.Bool.{false}
+use mathlib.Core.Path.{_≡_}
 use native.Mathlib.Omega.{arith}
-use lib.Dec.{eqb}
-use borrow.Author.Tests.{ne-eqb}
 use borrow.Author.Needs.{needs}
 use Rattle.sheet.specs.Sheet.{sheetFault}
 use Rattle.sheet.proofs.Accepted.{fault-seven}
+use Rattle.reader.proofs.Opening.{sheet-refused, sheet-accepted}
 use Rattle.reader.proofs.opened.open_sheet.Statement.{statement}
 use Rattle.reader.proofs.opened.open_sheet.Tie as tie
 
@@ -24,8 +22,7 @@ returns : tie.Need-returns
 returns c =
     let s = c .before .before .before .before .args .sheet .now in
     let f = c .before .before .sheet-fault .ensures in
-    let some : eqb (sheetFault s) 0 ≡ false = ne-eqb (sheetFault s) 0 (λ e. omega (arith, e, f, c .before .if1 .taken)) in
-    rw (f, c .no-numbers .ensures, some) refl
+    sheet-refused s (omega (arith, f)) (λ e. omega (arith, e, f, c .before .if1 .taken)) (c .no-numbers .ensures)
 
 numbers-of-requires : tie.Need-numbers-of-requires
 numbers-of-requires c κs =
@@ -35,7 +32,7 @@ returns-2 : tie.Need-returns-2
 returns-2 c =
     let s = c .before .before .before .before .args .sheet .now in
     let none : sheetFault s ≡ 0 = omega (arith, c .before .before .sheet-fault .ensures, c .before .if1 .left) in
-    rw (none, c .numbers-of .ensures) refl
+    sheet-accepted s (omega (arith, none)) none (c .numbers-of .ensures)
 
 pub open-sheet-spec : {M : Type 1} → statement M
 open-sheet-spec =

@@ -7,7 +7,6 @@ use Prim.Native.Nat.{_+_, _*_, _-_, _≤_}
 use native.Mathlib.Nat.{le-refl}
 use native.Mathlib.Omega.{arith}
 use lib.ListN.{length}
-use borrow.Author.Needs.{needs}
 use Rattle.table.proofs.marks.clear_level.Statement.{statement}
 use Rattle.table.proofs.marks.clear_level.Tie as tie
 

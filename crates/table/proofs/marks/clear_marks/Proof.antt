@@ -1,4 +1,3 @@
-use Rattle.rows.specs.Rows.{LevelFits}
 use Rattle.table.specs.Marks.{KeptFrom}
 use Rattle.table.proofs.marks.Cleared.{kept-none, kept-more}
 use Rattle.table.proofs.marks.Levels.{row-within}
@@ -6,7 +5,6 @@ use mathlib.Core.Path.{_≡_, refl, _∙_}
 use Prim.Native.Nat.{_*_, _-_, _≤_}
 use native.Mathlib.Omega.{arith}
 use lib.ListN.{length}
-use borrow.Author.Needs.{needs}
 use Rattle.table.proofs.marks.clear_marks.Statement.{statement}
 use Rattle.table.proofs.marks.clear_marks.Tie as tie
 

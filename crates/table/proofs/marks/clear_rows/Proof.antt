@@ -4,7 +4,6 @@ use mathlib.Core.Path.{_≡_, refl}
 use Prim.Native.Nat.{_-_}
 use native.Mathlib.Omega.{arith}
 use lib.ListN.{length, length-set}
-use borrow.Author.Needs.{needs}
 use Rattle.table.proofs.marks.clear_rows.Statement.{statement}
 use Rattle.table.proofs.marks.clear_rows.Tie as tie
 

@@ -1,9 +1,9 @@
 use mathlib.Core.Bool.{_&&_}
 use mathlib.Core.Path.{refl, sym, ap₂, _∙_}
-use Rattle.layouts.specs.Pairs.{flawOf}
+use Rattle.rules.specs.Flaws.{flawOf}
 use borrow.Author.Needs.{needs}
-use Rattle.layouts.proofs.every_pair.flaw.Statement.{statement}
-use Rattle.layouts.proofs.every_pair.flaw.Tie as tie
+use Rattle.rules.proofs.flaws.flaw.Statement.{statement}
+use Rattle.rules.proofs.flaws.flaw.Tie as tie
 
 passes-both-requires : tie.Need-passes-both-requires
 passes-both-requires c κs = search needs
