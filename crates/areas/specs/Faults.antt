@@ -1,8 +1,12 @@
--- The maker's refusals before a sheet is laid out, by numbers alone. Assumes nothing: this is a definition.
+-- Refusals by the sizes of areas, from numbers alone. Assumes nothing: these are definitions.
 use mathlib.Core.Bool.{Bool, not, cond}
 use Prim.Native.Nat.{ℕ, _+_}
-use lib.Dec.{eqb, ltb}
+use lib.Dec.{eqb, ltb, leb}
 
--- the reader's; 18, a two-sided sheet; 8, fewer work words than needed; 9, fewer answer words than n + 1; or 0
+-- THE MAKER'S before a sheet is laid out: the reader's; 18, a two-sided sheet; 8, fewer work words than needed; 9, fewer answer words than n + 1; or 0
 abbrev pub makerFault : (refusal : ℕ) → (twoSided : Bool) → (needed sites work out : ℕ) → ℕ
 makerFault f t w n k o = cond (not (eqb f 0)) f (cond t 18 (cond (ltb k w) 8 (cond (ltb o (n + 1)) 9 0)))
+
+-- OF A TOOL that writes so many words into an area: that of what it is given; 9, fewer words are lent; or 0
+abbrev pub writtenFault : (refusal words lent : ℕ) → ℕ
+writtenFault f n l = cond (not (eqb f 0)) f (cond (leb n l) 0 9)

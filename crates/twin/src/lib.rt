@@ -4,8 +4,9 @@ mod writing;
 
 ghost use mathlib.Core.Path.{_≡_};
 ghost use Rattle.labelling.specs.Twin.{twinArea};
-ghost use Rattle.twin.specs.Twin.{refusalIn, twinPost};
+ghost use Rattle.twin.specs.Twin.{twinPost};
 use crate::writing::write_twin;
+use areas::written::written_fault;
 use judge::opened::open_stored;
 
 // refusal: 1 to 7, 11, 13 or 9, 0 for none. written: the words of the twin, 0 beside a refusal.
@@ -15,25 +16,12 @@ pub struct Written {
     pub written: u32,
 }
 
-// The refusal: the stored sheet's own; then 9, an area of fewer words than it has.
-fn refusal_of(refusal: u8, words: usize, lent: usize) -> u8
-    ensures { λ r. ⌜ r ≡ refusalIn refusal words lent ⌝ }
-{
-    if refusal != 0 {
-        return refusal;
-    }
-    if lent < words {
-        return 9;
-    }
-    0
-}
-
 pub fn make_twin(stored: &[u32], out: &mut [u32]) -> Written
     ensures { λ r. ⌜ r ≡ twinPost (now (stored .entry)) (now (out .entry)) ⌝ }
     ensures { λ r. ⌜ now (out .exit) ≡ twinArea (now (stored .entry)) (now (out .entry)) ⌝ }
 {
     let opened = open_stored(stored);
-    let refusal = refusal_of(opened.refusal, stored.len(), out.len());
+    let refusal = written_fault(opened.refusal, stored.len(), out.len());
     if refusal != 0 {
         return Written {
             refusal: refusal,

@@ -3,7 +3,7 @@ use Rattle.twin.proofs.Stored.{few}
 use Rattle.labelling.specs.Twin.{twinFaultIn}
 use Rattle.labelling.proofs.Refusals.{twin-chain}
 use Rattle.judge.proofs.opened.Opening.{stored-refusal}
-use Rattle.twin.specs.Twin.{refusalIn}
+use Rattle.areas.specs.Faults.{writtenFault}
 use mathlib.Core.Path.{_≡_, refl, ap, sym, _∙_}
 use Prim.Native.Nat.{ℕ}
 use native.Mathlib.Omega.{arith}
@@ -13,17 +13,17 @@ use Rattle.twin.proofs.make_twin.Statement.{statement}
 use Rattle.twin.proofs.make_twin.Tie as tie
 
 -- the refusal with the area that is lent
-fault-is : (c : tie.After-refusal-of) → c .refusal-of .result ≡ twinFaultIn (c .before .before .before .before .args .stored .now) (length (c .before .before .before .before .args .out .now))
+fault-is : (c : tie.After-written-fault) → c .written-fault .result ≡ twinFaultIn (c .before .before .before .before .args .stored .now) (length (c .before .before .before .before .args .out .now))
 fault-is c =
     let a = c .before .before .before .before .args in
-    c .refusal-of .ensures ∙ ap (λ (f : ℕ). refusalIn f (length (a .stored .now)) (length (a .out .now))) (stored-refusal (a .stored .now) (c .before .open-stored .ensures)) ∙
+    c .written-fault .ensures ∙ ap (λ (f : ℕ). writtenFault f (length (a .stored .now)) (length (a .out .now))) (stored-refusal (a .stored .now) (c .before .open-stored .ensures)) ∙
     sym (twin-chain (a .stored .now) (length (a .out .now)))
 
 open-stored-requires : tie.Need-open-stored-requires
 open-stored-requires c κs = search needs
 
-refusal-of-requires : tie.Need-refusal-of-requires
-refusal-of-requires c κs = search needs
+written-fault-requires : tie.Need-written-fault-requires
+written-fault-requires c κs = search needs
 
 returns : tie.Need-returns
 returns c =
@@ -54,7 +54,7 @@ make-twin-spec =
     tie.close
     (tie.spec
     open-stored-requires
-    refusal-of-requires
+    written-fault-requires
     returns
     write-twin-requires
     cast-written

@@ -1,8 +1,9 @@
+-- `written::written_fault` meets its contract.
 use mathlib.Core.Path.{refl}
 use native.Mathlib.Omega.{arith}
 use borrow.Author.Tests.{eq-eqb, ne-eqb, lt-leb, le-leb}
-use Rattle.twin.proofs.refusal_of.Statement.{statement}
-use Rattle.twin.proofs.refusal_of.Tie as tie
+use Rattle.areas.proofs.written.written_fault.Statement.{statement}
+use Rattle.areas.proofs.written.written_fault.Tie as tie
 
 returns : tie.Need-returns
 returns c =
@@ -18,5 +19,5 @@ returns-3 c =
     let a = c .before .before .args in
     rw (eq-eqb (a .refusal) 0 (omega (arith, c .before .if1 .left)), le-leb (a .words) (a .lent) (c .if2 .left)) refl
 
-pub refusal-of-spec : {M : Type 1} → statement M
-refusal-of-spec = tie.close (tie.spec returns returns-2 returns-3)
+pub written-fault-spec : {M : Type 1} → statement M
+written-fault-spec = tie.close (tie.spec returns returns-2 returns-3)
