@@ -1,4 +1,4 @@
--- Refusals by the sizes of areas, from numbers alone. Assumes nothing: these are definitions.
+-- Refusals in their order, from numbers and tests alone. Assumes nothing: these are definitions.
 use mathlib.Core.Bool.{Bool, not, cond}
 use Prim.Native.Nat.{ℕ, _+_}
 use lib.Dec.{eqb, ltb, leb}
@@ -10,3 +10,10 @@ makerFault f t w n k o = cond (not (eqb f 0)) f (cond t 18 (cond (ltb k w) 8 (co
 -- OF A TOOL that writes so many words into an area: that of what it is given; 9, fewer words are lent; or 0
 abbrev pub writtenFault : (refusal words lent : ℕ) → ℕ
 writtenFault f n l = cond (not (eqb f 0)) f (cond (leb n l) 0 9)
+
+-- OF A STORED SHEET: the sheet's; 11, what follows is not a layout of it; or 0. Then 13, a rule is broken; or 0
+abbrev pub layoutFault : (refusal : ℕ) → (fits : Bool) → ℕ
+layoutFault f b = cond (not (eqb f 0)) f (cond b 0 11)
+
+abbrev pub ruleFault : (rule : ℕ) → ℕ
+ruleFault r = cond (eqb r 0) 0 13

@@ -1,5 +1,6 @@
 // The areas of a call: what is refused before they are used, and a part of one zeroed.
 pub mod faults;
+pub mod stored;
 pub mod written;
 
 ghost use mathlib.Core.Path.{_≡_};

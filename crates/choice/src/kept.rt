@@ -3,6 +3,7 @@ ghost use mathlib.Core.Path.{_≡_};
 ghost use lib.ListN.{set};
 ghost use Rattle.choice.specs.Choice.{MarksIn, TriedIn, markedAt, comesTo};
 use arrays::Measures;
+use costs::comes_to;
 use rows::rest::rest_of;
 
 // Writes the marks after a step that ties a site in the strip below the place a to slot k, where it leaves the mark d.
@@ -56,5 +57,5 @@ pub fn keeps_cost(
     labels[at] = old;
     marks[above] = old_above;
     marks[below] = old_below;
-    words::same(words::plus_of(price, after), cost)
+    comes_to(price, after, cost)
 }

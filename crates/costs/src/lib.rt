@@ -3,9 +3,14 @@ pub mod masks;
 
 ghost use mathlib.Core.Path.{_≡_};
 ghost use Prim.Native.Nat.{_<_};
+ghost use lib.Dec.{eqb};
+ghost use Rattle.sheet.specs.Limits.{topWord};
+ghost use Rattle.search.specs.Cost.{plus};
 ghost use Rattle.costs.specs.Costs.{wordBy, firstWordBy, stepTop};
 use arrays::Measures;
 use words::LENGTH_TOP;
+use words::NONE;
+use words::plus_of;
 
 // Above every count of labels, and above every length: optimum/specs/CostWord has both for definitions.
 const COUNT_LIMIT: u32 = 64;
@@ -14,6 +19,20 @@ const LENGTH_LIMIT: u32 = 33554432;
 
 // Kind 8 in a word's top four bits.
 const LAYOUT_KIND: u32 = 2147483648;
+
+// There is no cost: what has it can't be had.
+pub fn is_none(cost: u32) -> bool
+    ensures { λ r. ⌜ r ≡ eqb cost topWord ⌝ }
+{
+    cost == NONE
+}
+
+// A price and the cost of the rest come to a cost.
+pub fn comes_to(price: u32, rest: u32, cost: u32) -> bool
+    ensures { λ r. ⌜ r ≡ eqb (plus topWord price rest) cost ⌝ }
+{
+    plus_of(price, rest) == cost
+}
 
 // Count and length in one word, by the aim.
 pub fn cost_word(q: Measures, count: u32, length: u32) -> u32

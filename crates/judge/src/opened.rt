@@ -5,6 +5,8 @@ ghost use Rattle.judge.specs.Opened.{refusedAt, partsFault, openedBy, la
 use crate::refusal_11::is_layout;
 use crate::refusal_11::layout_start;
 use crate::ruling::rule_on;
+use areas::stored::layout_fault;
+use areas::stored::rule_fault;
 use decoding::Numbers;
 use decoding::no_numbers;
 use reader::opened::open_sheet;
@@ -33,12 +35,11 @@ fn open_parts(sheet: &[u32], layout: &[u32]) -> Opened
 {
     let at = sheet.len();
     let opened = open_sheet(sheet);
-    if opened.refusal != 0 {
-        return refused(opened.refusal, at);
-    }
     let numbers = opened.numbers;
-    if !is_layout(numbers.slots, numbers.sites, layout) {
-        return refused(11, at);
+    let fits = is_layout(numbers.slots, numbers.sites, layout);
+    let refusal = layout_fault(opened.refusal, fits);
+    if refusal != 0 {
+        return refused(refusal, at);
     }
     Opened {
         refusal: 0,
@@ -74,8 +75,9 @@ pub fn open_stored(stored: &[u32]) -> Opened
     if opened.refusal != 0 {
         return opened;
     }
-    if rule_in(stored, opened) != 0 {
-        return refused(13, opened.at);
+    let refusal = rule_fault(rule_in(stored, opened));
+    if refusal != 0 {
+        return refused(refusal, opened.at);
     }
     opened
 }

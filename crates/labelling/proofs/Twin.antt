@@ -14,9 +14,9 @@ use borrow.Author.Tests.{lt-ltb, le-ltb, eq-eqb, ne-eqb, lt-leb, le-leb}
 use Rattle.lists.proofs.Tests.{by-test, by-order, by-equal}
 use Rattle.sheet.specs.Limits.{lengthTop, countTop}
 use Rattle.sheet.specs.Refusals.{given}
-use Rattle.sheet.specs.Sheet.{kindOf, bits, Sheet, headIn, sheetIn, sheetFault}
+use Rattle.sheet.specs.Sheet.{kindOf, bits, Sheet, headIn, bodyAt, sheetIn, sheetFault}
 use Rattle.sheet.proofs.Accepted.{Sound, sound, some-words}
-use Rattle.labelling.specs.Layout.{Tied, siteAt, heightOf, leftEnd, counts, siteShare, backbones, drops, lengthOf, usedOf, tied, firstNumber, secondNumber, best, firstWord, statedCount, statedLength, layoutTies, isLayout, sheetPart, layoutPart, judgeFault, judged, storedFault, shareBy}
+use Rattle.labelling.specs.Layout.{Tied, siteAt, heightOf, leftEnd, counts, siteShare, backbones, drops, lengthOf, usedOf, tied, firstNumber, secondNumber, best, firstWord, statedCount, statedLength, tiesAt, layoutTies, isLayout, sheetPart, layoutPart, judgeFault, judged, storedFault, shareBy}
 use Rattle.labelling.specs.Lawful.{Ties, Rules, Better, IsAnswer, Lawful}
 use Rattle.labelling.specs.Twin.{asOneSided, twinHead, twinSheet, twinLayout, twinWords, twinFaultIn, TwinOf, TwinLawful, TwinOfTwin, NotWorse, BestNotWorse}
 use Rattle.labelling.proofs.Distances.{counts-all}
@@ -160,10 +160,10 @@ module _ (ss b : List ℕ) (h : sheetFault ss ≡ 0) (l : isLayout (sheetIn ss) 
   states-length = stated-length (statedCount b) (lengthOf (asOneSided s) js) js count-fits length-fits
 
   long-layout : length (twinLayout s b) ≡ length b
-  long-layout = omega (arith, length-drop 1 b, formed s b l .long)
+  long-layout = omega (arith, length-drop tiesAt b, formed s b l .long)
 
   long-sheet : length (twinSheet ss) ≡ length ss
-  long-sheet = omega (arith, length-drop 1 ss, some-words ss h)
+  long-sheet = omega (arith, length-drop (bodyAt ss) ss, some-words ss h)
 
   form-twin : isLayout (asOneSided s) (twinLayout s b) ≡ true
   form-twin =

@@ -11,7 +11,7 @@ use Rattle.labelling.specs.Counted.{sumBefore}
 use Rattle.labelling.specs.Layout.{farBy}
 use Rattle.labelling.proofs.Distances.{far-sym}
 use Rattle.labelling.proofs.Counted.{all-before, before-all}
-use Rattle.rules.specs.Flaws.{passesBoth, passesOne, flawOf}
+use Rattle.layouts.specs.Flaws.{passesBoth, passesOne, flawOf}
 use Rattle.rules.specs.Rules.{coloursPass, gapsPass, missesPass, clearsPass}
 use Rattle.words.specs.declared.tied.TiedSite.{TiedSite}
 use Rattle.words.specs.declared.tied.Head.{Head}

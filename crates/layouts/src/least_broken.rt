@@ -3,7 +3,7 @@ ghost use mathlib.Core.Path.{_≡_};
 ghost use mathlib.Core.Bool.{true};
 ghost use lib.ListN.{length};
 ghost use Rattle.labelling.specs.Layout.{tiesIn};
-ghost use Rattle.layouts.specs.Model.{Fits, Low, firstBroken, boundsOn, statedOn, brokenOn};
+ghost use Rattle.layouts.specs.Model.{Fits, Low, tiedAt, pairsPass, brokenOn};
 use crate::every_pair::every_pair_passes;
 use crate::pairs::Test;
 use crate::pairs::pairs_pass;
@@ -11,64 +11,25 @@ use crate::rule_2::bounds_pass;
 use crate::rule_6::totals_stated;
 use words::tied::Head;
 
-// Of rules 2 and 6 the least broken one, or 0: all that is left where every two sites pass.
-fn broken_beside_pairs(
+// Whether every two tied sites pass a test: known, or looked for.
+fn all_pairs_pass(
+    known: bool,
+    test: Test,
     h: Head,
-    stated: u32,
     heights: &[u32],
-    bounds: &[u32],
     xs: &[u32],
     ys: &[u32],
     colours: &[u32],
     ties: &[u32],
-) -> u8
+) -> bool
     requires { ⌜ Fits (now xs) (now ys) (now colours) (now ties) ⌝ }
-    requires { ⌜ Low h (now heights) (now ys) ⌝ }
-    ensures { λ r. ⌜ r ≡ firstBroken true (boundsOn (now (bounds .entry)) (now (colours .entry)) (tiesIn (now (ties .entry))) (length (now (ties .entry)))) true true true (statedOn h stated (now (heights .entry)) (now (xs .entry)) (now (ys .entry)) (now (colours .entry)) (tiesIn (now (ties .entry))) (length (now (ties .entry)))) ⌝ }
+    requires { ⌜ (known ≡ true → pairsPass test h (tiedAt (now heights) (now xs) (now ys) (now colours) (tiesIn (now ties))) (length (now ties)) ≡ true) ⌝ }
+    ensures { λ r. ⌜ r ≡ pairsPass test h (tiedAt (now (heights .entry)) (now (xs .entry)) (now (ys .entry)) (now (colours .entry)) (tiesIn (now (ties .entry)))) (length (now (ties .entry))) ⌝ }
 {
-    if !bounds_pass(bounds, colours, ties) {
-        return 2;
+    if known {
+        return true;
     }
-    if !totals_stated(h, stated, heights, xs, ys, colours, ties) {
-        return 6;
-    }
-    0
-}
-
-// The least broken rule, or 0, each looked for in its order: where some two sites fail a test.
-fn first_broken(
-    h: Head,
-    stated: u32,
-    heights: &[u32],
-    bounds: &[u32],
-    xs: &[u32],
-    ys: &[u32],
-    colours: &[u32],
-    ties: &[u32],
-) -> u8
-    requires { ⌜ Fits (now xs) (now ys) (now colours) (now ties) ⌝ }
-    requires { ⌜ Low h (now heights) (now ys) ⌝ }
-    ensures { λ r. ⌜ r ≡ brokenOn h stated (now (heights .entry)) (now (bounds .entry)) (now (xs .entry)) (now (ys .entry)) (now (colours .entry)) (tiesIn (now (ties .entry))) (length (now (ties .entry))) ⌝ }
-{
-    if !pairs_pass(Test::Colours, h, heights, xs, ys, colours, ties) {
-        return 1;
-    }
-    if !bounds_pass(bounds, colours, ties) {
-        return 2;
-    }
-    if !pairs_pass(Test::Gaps, h, heights, xs, ys, colours, ties) {
-        return 3;
-    }
-    if !pairs_pass(Test::Misses, h, heights, xs, ys, colours, ties) {
-        return 4;
-    }
-    if !pairs_pass(Test::Clears, h, heights, xs, ys, colours, ties) {
-        return 5;
-    }
-    if !totals_stated(h, stated, heights, xs, ys, colours, ties) {
-        return 6;
-    }
-    0
+    pairs_pass(test, h, heights, xs, ys, colours, ties)
 }
 
 // The least broken rule, or 0: sites that share a slot share a colour; no colour uses more slots than its bound; used slots are at
@@ -88,8 +49,24 @@ pub fn broken_by<'a>(
     requires { ⌜ Low h (now heights) (now ys) ⌝ }
     ensures { λ r. ⌜ r ≡ brokenOn h stated (now (heights .entry)) (now (bounds .entry)) (now (xs .entry)) (now (ys .entry)) (now (colours .entry)) (tiesIn (now (ties .entry))) (length (now (ties .entry))) ⌝ }
 {
-    if every_pair_passes(h, heights, xs, ys, colours, ties) {
-        return broken_beside_pairs(h, stated, heights, bounds, xs, ys, colours, ties);
+    let known = every_pair_passes(h, heights, xs, ys, colours, ties);
+    if !all_pairs_pass(known, Test::Colours, h, heights, xs, ys, colours, ties) {
+        return 1;
     }
-    first_broken(h, stated, heights, bounds, xs, ys, colours, ties)
+    if !bounds_pass(bounds, colours, ties) {
+        return 2;
+    }
+    if !all_pairs_pass(known, Test::Gaps, h, heights, xs, ys, colours, ties) {
+        return 3;
+    }
+    if !all_pairs_pass(known, Test::Misses, h, heights, xs, ys, colours, ties) {
+        return 4;
+    }
+    if !all_pairs_pass(known, Test::Clears, h, heights, xs, ys, colours, ties) {
+        return 5;
+    }
+    if !totals_stated(h, stated, heights, xs, ys, colours, ties) {
+        return 6;
+    }
+    0
 }

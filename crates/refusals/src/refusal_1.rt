@@ -2,7 +2,6 @@
 ghost use mathlib.Core.Path.{_≡_};
 ghost use Rattle.refusals.specs.Wordwise.{isHeadWord};
 use words::HEAD;
-use words::both;
 use words::gap_field;
 use words::kind_of;
 use words::low_field;
@@ -13,5 +12,5 @@ pub fn is_head_word(w: u32) -> bool
     let first = kind_of(w) == HEAD;
     let wide = low_field(w) != 0;
     let apart = gap_field(w) != 0;
-    both(both(first, wide), apart)
+    (first & wide) & apart
 }

@@ -2,19 +2,16 @@
 ghost use mathlib.Core.Path.{_≡_};
 ghost use Rattle.refusals.specs.Wordwise.{tieFits};
 use words::TIE;
-use words::both;
 use words::byte_field;
 use words::kind_of;
-use words::same;
 use words::spare_field;
 
 // A word of kind 9 without a spare bit, its slot below m.
 pub fn is_tie(m: usize, w: u32) -> bool
     ensures { λ r. ⌜ r ≡ tieFits m w ⌝ }
 {
+    let tie = kind_of(w) == TIE;
+    let whole = spare_field(w) == 0;
     let slot = byte_field(w) as usize;
-    both(
-        both(same(kind_of(w), TIE), same(spare_field(w), 0)),
-        slot < m,
-    )
+    (tie & whole) & (slot < m)
 }

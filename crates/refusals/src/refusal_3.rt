@@ -8,7 +8,6 @@ use words::MOST_SLOTS;
 use words::SITE;
 use words::SLOT;
 use words::body::count_kind;
-use words::both;
 
 pub fn counts_fit(body: &[u32]) -> bool
     ensures { λ r. ⌜ r ≡ countsFitIn (now (body .entry)) ⌝ }
@@ -16,5 +15,5 @@ pub fn counts_fit(body: &[u32]) -> bool
     let slots = count_kind(body, SLOT) <= MOST_SLOTS;
     let colours = count_kind(body, COLOUR) <= MOST_COLOURS;
     let sites = count_kind(body, SITE) <= MOST_SITES;
-    both(both(slots, colours), sites)
+    (slots & colours) & sites
 }

@@ -3,7 +3,6 @@ ghost use mathlib.Core.Path.{_≡_};
 ghost use Rattle.refusals.specs.Wordwise.{lowOk, lowNext};
 use words::SLOT;
 use words::choose;
-use words::either;
 use words::kind_of;
 use words::low_field;
 
@@ -13,7 +12,7 @@ pub fn low_ok(low: u32, w: u32) -> bool
 {
     let other = kind_of(w) != SLOT;
     let above = low <= low_field(w);
-    either(other, above)
+    other | above
 }
 
 // The least height that may come after a word.

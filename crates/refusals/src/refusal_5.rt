@@ -2,7 +2,6 @@
 ghost use mathlib.Core.Path.{_≡_};
 ghost use Rattle.refusals.specs.Wordwise.{widthOk};
 use words::SITE;
-use words::either;
 use words::high_field;
 use words::kind_of;
 
@@ -12,5 +11,5 @@ pub fn width_ok(width: u32, w: u32) -> bool
 {
     let other = kind_of(w) != SITE;
     let inside = high_field(w) <= width;
-    either(other, inside)
+    other | inside
 }

@@ -3,8 +3,6 @@ ghost use mathlib.Core.Path.{_≡_};
 ghost use Rattle.labelling.specs.Layout.{farBy};
 ghost use Rattle.rules.specs.Rules.{gapsPass};
 use words::drops::apart_of;
-use words::either;
-use words::same;
 use words::tied::Head;
 use words::tied::TiedSite;
 
@@ -18,6 +16,5 @@ pub fn is_far(gap: u32, height: u32, other: u32) -> bool
 pub fn gaps_pass(h: Head, t: TiedSite, u: TiedSite) -> bool
     ensures { λ r. ⌜ r ≡ gapsPass h t u ⌝ }
 {
-    let far = is_far(h.gap, t.height, u.height);
-    either(same(t.slot, u.slot), far)
+    (t.slot == u.slot) | is_far(h.gap, t.height, u.height)
 }

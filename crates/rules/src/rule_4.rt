@@ -2,11 +2,7 @@
 ghost use mathlib.Core.Path.{_≡_};
 ghost use Rattle.labelling.specs.Layout.{isBetween, verticalHas};
 ghost use Rattle.rules.specs.Rules.{missesPass};
-use words::both;
 use words::choose;
-use words::either;
-use words::is_not;
-use words::same;
 use words::tied::Head;
 use words::tied::TiedSite;
 use words::tied::start_of;
@@ -17,7 +13,7 @@ fn is_between(low: u32, high: u32, h: u32) -> bool
 {
     let below = low <= h;
     let above = h <= high;
-    both(below, above)
+    below & above
 }
 
 // Whether the vertical from y to its end has a point at a height.
@@ -33,6 +29,6 @@ pub fn misses_pass(h: Head, t: TiedSite, u: TiedSite) -> bool
     ensures { λ r. ⌜ r ≡ missesPass h t u ⌝ }
 {
     let reached = start_of(h, u) <= t.x;
-    let meets = both(reached, vertical_has(t.y, t.height, u.height));
-    either(same(t.slot, u.slot), is_not(meets))
+    let meets = reached & vertical_has(t.y, t.height, u.height);
+    (t.slot == u.slot) | !meets
 }

@@ -3,8 +3,6 @@ ghost use mathlib.Core.Path.{_≡_};
 ghost use Rattle.labelling.specs.Layout.{countsBy, clearBy};
 ghost use Rattle.rules.specs.Rules.{clearsPass};
 use words::drops::apart_of;
-use words::either;
-use words::is_not;
 use words::tied::Head;
 use words::tied::TiedSite;
 use words::tied::start_of;
@@ -30,5 +28,5 @@ pub fn clears_pass(h: Head, t: TiedSite, u: TiedSite) -> bool
     let own = t.slot == u.slot;
     let counted = is_counted(h.gap, start_of(h, u), t.x);
     let clear = is_clear(h.gap, u.height, t.y);
-    either(either(own, is_not(counted)), clear)
+    (own | !counted) | clear
 }

@@ -1,10 +1,8 @@
 // Rule 6: the count and the length that a layout's first word states are true.
 ghost use mathlib.Core.Path.{_≡_};
 ghost use Rattle.rules.specs.Rules.{isStated};
-use words::both;
 use words::count_field;
 use words::length_field;
-use words::same;
 
 // Whether the word states this count and this length.
 pub fn is_stated(w: u32, count: usize, length: u32) -> bool
@@ -12,5 +10,5 @@ pub fn is_stated(w: u32, count: usize, length: u32) -> bool
 {
     let stated = count_field(w) as usize;
     let counted = stated == count;
-    both(counted, same(length_field(w), length))
+    counted & (length_field(w) == length)
 }

@@ -11,7 +11,7 @@ use lib.ListN.{length, length-drop}
 use borrow.Author.Tests.{ltb-true, ltb-false, leb-true, eqb-true, eqb-false, lt-ltb, eq-eqb, ne-eqb}
 use Rattle.sheet.specs.Limits.{mostSlots, mostColours, mostSites, mostBudgets, mostWords, numberTop}
 use Rattle.sheet.specs.Refusals.{AllPass, numberedTo}
-use Rattle.sheet.specs.Sheet.{all, kindOf, bits, hasSpare, inOrder, Site, Sheet, slotsIn, sitesIn, coloursIn, headIn, bodyOf, sheetIn, productOf, rising, rankOf, rankTop, hasRank, ranksDiffer, isHead, countsFit, insideBy, sheetRefusals, sheetFault, rankBy}
+use Rattle.sheet.specs.Sheet.{all, kindOf, bits, hasSpare, inOrder, Site, Sheet, slotsIn, sitesIn, coloursIn, headIn, bodyAt, bodyOf, sheetIn, productOf, rising, rankOf, rankTop, hasRank, ranksDiffer, isHead, countsFit, insideBy, sheetRefusals, sheetFault, rankBy}
 use Rattle.sheet.proofs.Refusals.{all-pass, at-most}
 use Rattle.lists.proofs.Tests.{by-test, and-l, and-r, and-i, or-e, not-f}
 
@@ -188,7 +188,7 @@ some-words ss ok = ltb-true 0 (length ss) (and-l _ _ (and-l _ _ (and-l _ _ (unre
 pub few-words : (ss : List ℕ) → sheetFault ss ≡ 0 → length ss ≤ mostWords
 few-words ss ok =
     let o = sound ss ok in
-    omega (arith, parts-length 0 0 (bodyOf ss) (unrefused ss ok .order), length-drop 1 ss, o .few-slots, o .few-colours, o .few-sites)
+    omega (arith, parts-length 0 0 (bodyOf ss) (unrefused ss ok .order), length-drop (bodyAt ss) ss, o .few-slots, o .few-colours, o .few-sites)
 
 pub rank-low : (s : Site) → s .x < numberTop → s .y < numberTop → rankOf s < rankTop
 unfolding rankBy

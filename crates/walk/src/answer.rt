@@ -5,6 +5,7 @@ ghost use Rattle.walk.specs.Laid.{laidFault, laidOut, FilledIn};
 use arrays::Measures;
 use choice::Left;
 use costs::first_word;
+use costs::is_none;
 use rows::rest::rest_of;
 
 // An array with a mark for each place above a strip: the top edge and each slot.
@@ -38,7 +39,7 @@ pub fn lay_least(
     let places = m + 1;
     let mut marks = [0u32; MARKS_LENGTH];
     let least = rest_of(parts, counts, work, 0, q, &labels[..m], &marks[..places], v);
-    if least == words::NONE {
+    if is_none(least) {
         return 10;
     }
     out[0] = first_word(q, least);

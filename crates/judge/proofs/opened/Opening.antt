@@ -1,12 +1,15 @@
 -- What a stored sheet is opened to, by what was found of it. Assumes nothing.
 use mathlib.Core.Path.{_≡_, refl, sym, ap, ap₂, _∙_}
-use mathlib.Core.Bool.{true, false}
+use mathlib.Core.Bool.{false}
 use mathlib.Core.List.{List}
 use Prim.Native.Nat.{ℕ, _-_}
+use native.Mathlib.Omega.{arith}
 use lib.Dec.{eqb}
 use lib.ListN.{length, take, drop}
-use borrow.Author.Tests.{eq-eqb, ne-eqb}
+use borrow.Author.Tests.{eqb-true, eq-eqb, ne-eqb}
 use Rattle.lists.proofs.Places.{part-from}
+use Rattle.lists.proofs.Tests.{by-test}
+use Rattle.areas.specs.Faults.{layoutFault, ruleFault}
 use Rattle.sheet.specs.Sheet.{Sheet, sheetIn, sheetFault}
 use Rattle.labelling.specs.Layout.{isLayout, brokenBy, sheetPart, layoutPart, judgeFault, judged, storedFault}
 use Rattle.labelling.proofs.Judge.{judged-so}
@@ -15,6 +18,9 @@ use Rattle.labelling.proofs.Stored.{stored-judge, stored-unlawful, stored-none,
 use Rattle.decoding.specs.declared.Numbers.{Numbers}
 use Rattle.decoding.specs.Decoding.{numbersBy, sheetBy, LayoutRead}
 use Rattle.decoding.proofs.Places.{sheet-read}
+use Rattle.reader.specs.declared.opened.OpenedSheet.{OpenedSheet}
+use Rattle.reader.specs.Opened.{sheetOpened}
+use Rattle.reader.proofs.Opening as sheet
 use Rattle.judge.specs.declared.opened.Opened.{Opened}
 use Rattle.judge.specs.Opened.{layoutFits, refusedAt, partsFault, openedBy, layoutOpened, storedOpened}
 
@@ -30,26 +36,42 @@ module _ (f : ℕ) (ss : List ℕ) {o : Opened} (e : o ≡ openedBy f ss) where
   numbers-are h = ap (λ (z : Opened). z .numbers) e ∙ rw (eq-eqb f 0 h) refl
 
 -- FROM A SHEET AND THE WORDS BEHIND IT
-module _ (ss ls : List ℕ) where
-  pub layout-fits : {d : Numbers} → d ≡ numbersBy (sheetIn ss) → layoutFits (d .slots) (d .sites) ls ≡ isLayout (sheetIn ss) ls
-  layout-fits e = ap (λ (z : Numbers). layoutFits (z .slots) (z .sites) ls) e
+module _ (ss ls : List ℕ) {o : OpenedSheet} (e : o ≡ sheetOpened ss) where
+  pub fault-parts : layoutFault (o .refusal) (layoutFits (o .numbers .slots) (o .numbers .sites) ls) ≡ partsFault ss ls
+  fault-parts =
+      by-test (eqb (sheetFault ss) 0)
+      (λ t. ap₂ layoutFault (sheet.refusal-is ss e) (ap (λ (z : Numbers). layoutFits (z .slots) (z .sites) ls) (sheet.numbers-are ss e (eqb-true (sheetFault ss) 0 t))))
+      (λ t. ap (λ (f : ℕ). layoutFault f (layoutFits (o .numbers .slots) (o .numbers .sites) ls)) (sheet.refusal-is ss e) ∙ rw t refl)
 
-  pub sheet-refused : {o : Opened} {f : ℕ} → o ≡ refusedAt f (length ss) → f ≡ sheetFault ss → (f ≡ 0 → ⊥) → o ≡ openedBy (partsFault ss ls) ss
-  sheet-refused {o} {f} e q n =
-      let z : eqb (sheetFault ss) 0 ≡ false = ne-eqb (sheetFault ss) 0 (λ y. n (q ∙ y)) in
-      e ∙ rw (q, z, z) refl
+  module _ {f : ℕ} (q : f ≡ partsFault ss ls) where
+    pub parts-refused : {p : Opened} → p ≡ refusedAt f (length ss) → (f ≡ 0 → ⊥) → p ≡ openedBy (partsFault ss ls) ss
+    parts-refused k n = k ∙ rw (q, ne-eqb (partsFault ss ls) 0 (λ z. n (q ∙ z))) refl
 
-  module _ (h : sheetFault ss ≡ 0) {d : Numbers} (k : d ≡ numbersBy (sheetIn ss)) where
-    pub form-refused : {o : Opened} → o ≡ refusedAt 11 (length ss) → isLayout (sheetIn ss) ls ≡ false → o ≡ openedBy (partsFault ss ls) ss
-    form-refused e l = e ∙ rw (eq-eqb (sheetFault ss) 0 h, l) refl
-
-    pub parts-opened : isLayout (sheetIn ss) ls ≡ true → _≡_ {A = Opened} (record { refusal = 0; at = length ss; numbers = d }) (openedBy (partsFault ss ls) ss)
-    parts-opened l = rw (k, eq-eqb (sheetFault ss) 0 h, l) refl
+    pub parts-opened : f ≡ 0 → _≡_ {A = Opened} (record { refusal = 0; at = length ss; numbers = o .numbers }) (openedBy (partsFault ss ls) ss)
+    parts-opened z =
+        let w : partsFault ss ls ≡ 0 = sym q ∙ z in
+        rw (sheet.numbers-are ss e (accepted w), w) refl
+      where
+        accepted : partsFault ss ls ≡ 0 → sheetFault ss ≡ 0
+        accepted w = by-test (eqb (sheetFault ss) 0) (λ t. eqb-true (sheetFault ss) 0 t) (λ t. rw t at w)
 
 -- of a stored sheet
 pub opened-parts : (ws ss ls : List ℕ) {o : Opened} → o ≡ openedBy (partsFault ss ls) ss → ss ≡ sheetPart ws → ls ≡ layoutPart ws → o ≡ layoutOpened ws
 opened-parts ws ss ls e p q =
     e ∙ ap₂ (λ (s l : List ℕ). openedBy (partsFault s l) s) p q ∙ ap (λ (f : ℕ). openedBy f (sheetPart ws)) (sym (judge-chain ws))
+
+-- by the rule: none is broken, or 13
+module _ (r : ℕ) {f : ℕ} (q : f ≡ ruleFault r) where
+  pub rule-none : f ≡ 0 → r ≡ 0
+  rule-none z = by-test (eqb r 0) (λ t. eqb-true r 0 t) (λ t. absurd (omega (arith, z, thirteen t)))
+    where
+      thirteen : eqb r 0 ≡ false → f ≡ 13
+      thirteen t = q ∙ rw t refl
+
+  pub rule-some : (f ≡ 0 → ⊥) → (r ≡ 0 → ⊥) × (f ≡ 13)
+  rule-some n =
+      let k : r ≡ 0 → ⊥ = λ z. n (q ∙ rw (eq-eqb r 0 z) refl) in
+      (k, q ∙ rw (ne-eqb r 0 k) refl)
 
 -- OPENED FOR THE JUDGE
 module _ (ws : List ℕ) {o : Opened} (e : o ≡ layoutOpened ws) where
@@ -73,8 +95,8 @@ module _ (ws : List ℕ) {o : Opened} (e : o ≡ layoutOpened ws) where
     pub stored-whole : judged ws ≡ 0 → o ≡ storedOpened ws
     stored-whole v = e ∙ ap (λ (f : ℕ). openedBy f (sheetPart ws)) (h ∙ sym (stored-none ws h v))
 
-    pub stored-refused : {p : Opened} {i : ℕ} → (judged ws ≡ 0 → ⊥) → p ≡ refusedAt 13 i → i ≡ o .at → p ≡ storedOpened ws
-    stored-refused n q j = q ∙ ap (refusedAt 13) (j ∙ judge-start) ∙ sym (ap (λ (f : ℕ). openedBy f (sheetPart ws)) (stored-unlawful ws h n))
+    pub stored-refused : {p : Opened} {f i : ℕ} → (judged ws ≡ 0 → ⊥) → p ≡ refusedAt f i → f ≡ 13 → i ≡ o .at → p ≡ storedOpened ws
+    stored-refused n q k j = q ∙ ap₂ refusedAt k (j ∙ judge-start) ∙ sym (ap (λ (f : ℕ). openedBy f (sheetPart ws)) (stored-unlawful ws h n))
 
   pub stored-same : (o .refusal ≡ 0 → ⊥) → o ≡ storedOpened ws
   stored-same n = e ∙ ap (λ (f : ℕ). openedBy f (sheetPart ws)) (sym (stored-judge ws (λ q. n (judge-refusal ∙ q))))

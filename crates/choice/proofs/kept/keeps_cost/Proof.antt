@@ -75,11 +75,8 @@ slice-write-marks-2 : tie.Need-slice-write-marks-2
 slice-write-marks-2 c =
     let p = begin (c .before .before .before) .pre .places in omega (arith, p .slotLow, p .marksLong, long (c .before .before .before), length-set (c .before .before .before .before .before .write-marks .last .1 .0) (begin (c .before .before .before) .args .a) (getD (begin (c .before .before .before) .args .marks .now) (begin (c .before .before .before) .args .a) 0))
 
-plus-of-requires : tie.Need-plus-of-requires
-plus-of-requires c κs = search needs
-
-same-requires : tie.Need-same-requires
-same-requires c κs = search needs
+comes-to-requires : tie.Need-comes-to-requires
+comes-to-requires c κs = search needs
 
 -- the marks are taken back
 back : (c : tie.After-slice-known6) → (let a = begin c .args in set (set (c .before .before .write-marks .last .1 .0) (a .a) (getD (a .marks .now) (a .a) 0)) (a .k + 1) (getD (a .marks .now) (a .k + 1) 0) ≡ a .marks .now)
@@ -91,12 +88,12 @@ same-length : tie.Need-same-length
 same-length c = search needs
 
 same-length-2 : tie.Need-same-length-2
-same-length-2 c = ap length (back (c .before .before .before .before .before))
+same-length-2 c = ap length (back (c .before .before .before .before))
 
 returns-2 : tie.Need-returns-2
 returns-2 c =
-    let a = begin (c .before .before .before .before .before) .args in
-    (keeps-by _ _ _ _ _ _ (c .same .ensures) (c .before .plus-of .ensures) (rw (c .before .before .before .before .before .before .before .write-marks .ensures) at (c .before .before .rest-of .ensures)), (set-set (a .labels .now) (a .k) _ _ ∙ set-getD (a .labels .now) (a .k) 0, back (c .before .before .before .before .before)))
+    let a = begin (c .before .before .before .before) .args in
+    (keeps-by _ _ _ _ _ _ (c .comes-to .ensures) refl (rw (c .before .before .before .before .before .before .write-marks .ensures) at (c .before .rest-of .ensures)), (set-set (a .labels .now) (a .k) _ _ ∙ set-getD (a .labels .now) (a .k) 0, back (c .before .before .before .before)))
 
 pub keeps-cost-spec : {M : Type 1} → statement M
 keeps-cost-spec =
@@ -120,8 +117,7 @@ keeps-cost-spec =
     slice-write-marks
     mul-marks-2
     slice-write-marks-2
-    plus-of-requires
-    same-requires
+    comes-to-requires
     same-length
     same-length-2
     returns-2)

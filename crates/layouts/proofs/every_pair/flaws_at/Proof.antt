@@ -1,7 +1,7 @@
 use mathlib.Core.Path.{ap₂}
 use Rattle.labelling.specs.Layout.{tiesIn}
 use Rattle.labelling.specs.Counted.{sumBefore}
-use Rattle.rules.specs.Flaws.{flawOf}
+use Rattle.layouts.specs.Flaws.{flawOf}
 use Rattle.layouts.specs.Model.{tiedOn}
 use Rattle.layouts.proofs.Loops.{sum-none, sum-more, sum-end}
 use Rattle.layouts.proofs.EveryPair.{flaw-low}

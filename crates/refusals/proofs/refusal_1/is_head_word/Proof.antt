@@ -1,4 +1,3 @@
--- `refusal_1::is_head_word` meets its contract.
 use mathlib.Core.Path.{refl}
 use borrow.Author.Needs.{needs}
 use Rattle.refusals.proofs.refusal_1.is_head_word.Statement.{statement}
@@ -13,23 +12,9 @@ low-field-requires c κs = search needs
 gap-field-requires : tie.Need-gap-field-requires
 gap-field-requires c κs = search needs
 
-both-requires : tie.Need-both-requires
-both-requires c κs = search needs
-
-both-requires-2 : tie.Need-both-requires-2
-both-requires-2 c κs = search needs
-
 returns : tie.Need-returns
 returns c =
-    rw (c .both2 .ensures, c .before .both .ensures, c .before .before .gap-field .ensures, c .before .before .before .low-field .ensures, c .before .before .before .before .kind-of .ensures) refl
+    rw (c .gap-field .ensures, c .before .low-field .ensures, c .before .before .kind-of .ensures) refl
 
 pub is-head-word-spec : {M : Type 1} → statement M
-is-head-word-spec =
-    tie.close
-    (tie.spec
-    kind-of-requires
-    low-field-requires
-    gap-field-requires
-    both-requires
-    both-requires-2
-    returns)
+is-head-word-spec = tie.close (tie.spec kind-of-requires low-field-requires gap-field-requires returns)

@@ -1,4 +1,3 @@
--- `refusals::refusal_3::counts_fit` meets its contract.
 use mathlib.Core.Path.{refl}
 use Rattle.sheet.proofs.Counts.{slots-count, colours-count, sites-count}
 use borrow.Author.Needs.{needs}
@@ -14,24 +13,10 @@ count-kind-requires-2 c κs = search needs
 count-kind-requires-3 : tie.Need-count-kind-requires-3
 count-kind-requires-3 c κs = search needs
 
-both-requires : tie.Need-both-requires
-both-requires c κs = search needs
-
-both-requires-2 : tie.Need-both-requires-2
-both-requires-2 c κs = search needs
-
 returns : tie.Need-returns
 returns c =
-    let s = c .before .before .before .before .before .before .args .body .now in
-    rw (c .both2 .ensures, c .before .both .ensures, c .before .before .count-kind3 .ensures, c .before .before .before .count-kind2 .ensures, c .before .before .before .before .count-kind .ensures, slots-count s, colours-count s, sites-count 0 s) refl
+    let s = c .before .before .before .before .args .body .now in
+    rw (c .count-kind3 .ensures, c .before .count-kind2 .ensures, c .before .before .count-kind .ensures, slots-count s, colours-count s, sites-count 0 s) refl
 
 pub counts-fit-spec : {M : Type 1} → statement M
-counts-fit-spec =
-    tie.close
-    (tie.spec
-    count-kind-requires
-    count-kind-requires-2
-    count-kind-requires-3
-    both-requires
-    both-requires-2
-    returns)
+counts-fit-spec = tie.close (tie.spec count-kind-requires count-kind-requires-2 count-kind-requires-3 returns)

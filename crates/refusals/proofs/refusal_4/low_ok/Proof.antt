@@ -1,4 +1,3 @@
--- `refusals::refusal_4::low_ok` meets its contract.
 use mathlib.Core.Path.{refl}
 use borrow.Author.Needs.{needs}
 use Rattle.refusals.proofs.refusal_4.low_ok.Statement.{statement}
@@ -10,18 +9,9 @@ kind-of-requires c κs = search needs
 low-field-requires : tie.Need-low-field-requires
 low-field-requires c κs = search needs
 
-either-requires : tie.Need-either-requires
-either-requires c κs = search needs
-
 returns : tie.Need-returns
 returns c =
-    rw (c .either .ensures, c .before .low-field .ensures, c .before .before .kind-of .ensures) refl
+    rw (c .low-field .ensures, c .before .kind-of .ensures) refl
 
 pub low-ok-spec : {M : Type 1} → statement M
-low-ok-spec =
-    tie.close
-    (tie.spec
-    kind-of-requires
-    low-field-requires
-    either-requires
-    returns)
+low-ok-spec = tie.close (tie.spec kind-of-requires low-field-requires returns)

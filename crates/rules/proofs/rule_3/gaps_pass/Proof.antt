@@ -6,15 +6,9 @@ use Rattle.rules.proofs.rule_3.gaps_pass.Tie as tie
 is-far-requires : tie.Need-is-far-requires
 is-far-requires c κs = search needs
 
-same-requires : tie.Need-same-requires
-same-requires c κs = search needs
-
-either-requires : tie.Need-either-requires
-either-requires c κs = search needs
-
 returns : tie.Need-returns
 returns c =
-    rw (c .either .ensures, c .before .same .ensures, c .before .before .is-far .ensures) refl
+    rw (c .is-far .ensures) refl
 
 pub gaps-pass-spec : {M : Type 1} → statement M
-gaps-pass-spec = tie.close (tie.spec is-far-requires same-requires either-requires returns)
+gaps-pass-spec = tie.close (tie.spec is-far-requires returns)

@@ -12,16 +12,9 @@ cast-stated c = search needs
 length-field-requires : tie.Need-length-field-requires
 length-field-requires c κs = search needs
 
-same-requires : tie.Need-same-requires
-same-requires c κs = search needs
-
-both-requires : tie.Need-both-requires
-both-requires c κs = search needs
-
 returns : tie.Need-returns
 returns c =
-    rw (c .both .ensures, c .before .same .ensures, c .before .before .length-field .ensures, c .before .before .before .count-field .ensures) refl
+    rw (c .length-field .ensures, c .before .count-field .ensures) refl
 
 pub is-stated-spec : {M : Type 1} → statement M
-is-stated-spec =
-    tie.close (tie.spec count-field-requires cast-stated length-field-requires same-requires both-requires returns)
+is-stated-spec = tie.close (tie.spec count-field-requires cast-stated length-field-requires returns)

@@ -1,7 +1,7 @@
 use mathlib.Core.Path.{refl}
 use borrow.Author.Needs.{needs}
-use Rattle.rules.proofs.flaws.passes_one.Statement.{statement}
-use Rattle.rules.proofs.flaws.passes_one.Tie as tie
+use Rattle.layouts.proofs.flaws.passes_one.Statement.{statement}
+use Rattle.layouts.proofs.flaws.passes_one.Tie as tie
 
 misses-pass-requires : tie.Need-misses-pass-requires
 misses-pass-requires c κs = search needs

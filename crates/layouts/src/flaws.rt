@@ -1,10 +1,10 @@
 // Rules 1, 3, 4 and 5 of two tied sites at once, without a branch: whether one of them fails a test beside the other.
 ghost use mathlib.Core.Path.{_≡_};
-ghost use Rattle.rules.specs.Flaws.{passesBoth, passesOne, flawOf};
-use crate::rule_1::colours_pass;
-use crate::rule_3::gaps_pass;
-use crate::rule_4::misses_pass;
-use crate::rule_5::clears_pass;
+ghost use Rattle.layouts.specs.Flaws.{passesBoth, passesOne, flawOf};
+use rules::rule_1::colours_pass;
+use rules::rule_3::gaps_pass;
+use rules::rule_4::misses_pass;
+use rules::rule_5::clears_pass;
 use words::tied::Head;
 use words::tied::TiedSite;
 

@@ -1,7 +1,7 @@
 use mathlib.Core.Path.{refl}
 use borrow.Author.Needs.{needs}
-use Rattle.rules.proofs.flaws.passes_both.Statement.{statement}
-use Rattle.rules.proofs.flaws.passes_both.Tie as tie
+use Rattle.layouts.proofs.flaws.passes_both.Statement.{statement}
+use Rattle.layouts.proofs.flaws.passes_both.Tie as tie
 
 colours-pass-requires : tie.Need-colours-pass-requires
 colours-pass-requires c κs = search needs
