@@ -1,4 +1,4 @@
-// The areas of a call: what is refused before they are used, and a part of one zeroed.
+// What is refused after a sheet's own refusals, before an area is used, in order and from numbers alone; and a part of an area zeroed.
 pub mod faults;
 pub mod stored;
 pub mod written;
