@@ -1,6 +1,8 @@
-// What is refused after a sheet's own refusals, before an area is used, in order and from numbers alone; and a part of an area zeroed.
+// What is refused after a sheet's own refusals, before an area is used, in order and from numbers alone; a tie's word in the answer, and a part
+// of an area zeroed.
 pub mod faults;
 pub mod stored;
+pub mod ties;
 pub mod written;
 
 ghost use mathlib.Core.Path.{_≡_};

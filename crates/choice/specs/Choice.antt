@@ -8,7 +8,6 @@ use lib.ListN.{length, getD, set}
 use Rattle.sheet.specs.Limits.{mostSlots}
 use Rattle.search.specs.Cost.{plus, first}
 use Rattle.optimum.specs.Strips.{Point, Strip}
-use Rattle.labelling.specs.Layout.{tieWord}
 use Rattle.optimum.specs.OneSided.{topWord, markCount}
 use Rattle.arrays.specs.declared.Measures.{Measures}
 use Rattle.arrays.specs.Arrays.{turnBy}
@@ -73,13 +72,3 @@ pub record ChosenIn (g : Given) (work : List ℕ) (base : ℕ) (labels marks : L
   pub low : left .cost < topWord
 
 -- ---- the word of a tie
-
--- the answer area with the site of rank j, whose place in the sheet the order gives, tied to slot k
-abbrev pub withTie : (order out : List ℕ) → (j k : ℕ) → List ℕ
-withTie order out j k = set out (getD order j 0 + 1) (tieWord k)
-
--- there is such a site, its word is in the area, and slot k is a sheet's
-pub record TieIn (order out : List ℕ) (j k : ℕ) : Type 0 where
-  pub ranked : j < length order
-  pub within : getD order j 0 + 1 < length out
-  pub slotLow : k < mostSlots

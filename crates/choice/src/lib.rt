@@ -1,6 +1,5 @@
 // One step of the one-sided walk: the lowest slot that keeps the least cost.
 pub mod kept;
-pub mod ties;
 
 ghost use mathlib.Core.Path.{_≡_};
 ghost use mathlib.Core.List.{[]};

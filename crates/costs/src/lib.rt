@@ -20,7 +20,7 @@ const LENGTH_LIMIT: u32 = 33554432;
 // Kind 8 in a word's top four bits.
 const LAYOUT_KIND: u32 = 2147483648;
 
-// There is no cost: what has it can't be had.
+// Whether a cost is the one that stands for none.
 pub fn is_none(cost: u32) -> bool
     ensures { λ r. ⌜ r ≡ eqb cost topWord ⌝ }
 {

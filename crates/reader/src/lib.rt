@@ -104,7 +104,7 @@ fn accepted(numbers: Numbers) -> Sizes
     }
 }
 
-// The reader's answer for a sheet that was opened.
+// The reader's answer for a sheet that was opened: internal to reader and maker, which open it first.
 pub fn sizes_of(opened: OpenedSheet) -> Sizes
     requires { ⌜ IsOpened opened ⌝ }
     ensures { λ r. ⌜ r ≡ sizesIn opened ⌝ }

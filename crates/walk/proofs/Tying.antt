@@ -24,7 +24,8 @@ use Rattle.optimum.specs.OneSided.{topWord, markCount, writeTies}
 use Rattle.optimum.proofs.Loops.{first-under}
 use Rattle.optimum.specs.Reached.{noPoint}
 use Rattle.rows.specs.Rest.{LevelIn, restRows}
-use Rattle.choice.specs.Choice.{labelled, markedAt, keepsCost, MarksIn, withTie}
+use Rattle.areas.specs.Ties.{withTie}
+use Rattle.choice.specs.Choice.{labelled, markedAt, keepsCost, MarksIn}
 use Rattle.choice.proofs.kept.Keeping.{marked-long, marked-low}
 use Rattle.arrays.specs.Arrays.{turnBy}
 use Rattle.arrays.proofs.Marks.{turn-low}

@@ -60,7 +60,7 @@ fn tie_site(
         left,
     );
     let step = strips::step_of(q, heights, bounds, radices, draws, p, s, left.budget, k);
-    choice::ties::write_tie(order, out, j, k);
+    areas::ties::write_tie(order, out, j, k);
     write_marks(labels, marks, p.a, strips::turn_at(heights, s, k), k);
     let slot = k as usize;
     labels[slot] = s.c + 1;

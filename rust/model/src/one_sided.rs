@@ -12,6 +12,7 @@ use crate::budgets::{Budgets, Row, MOST};
 use crate::costs::{Aim, NONE};
 use crate::places::{heights, PLACES};
 use crate::sheet::{Sheet, Site, MOST_SITES};
+use std::ops::Range;
 
 /// In the first word of a strip: the root reaches it.
 const MARK: u32 = 1;
@@ -131,12 +132,21 @@ impl<'a> Maker<'a> {
         (Strip { below: place, below_colour: colour, ..strip }, Strip { above: place, above_colour: colour, ..strip })
     }
 
+    /// The colours that an upper end at this place may have.
+    #[inline]
+    fn above_colours(&self, above: usize) -> Range<usize> {
+        if above == 0 {
+            0..1
+        } else {
+            1..self.colours
+        }
+    }
+
     /// Every strip, one after the other.
     #[inline]
     fn for_each_strip(&self, mut act: impl FnMut(Strip)) {
         for above in 0..self.bottom {
-            let above_colours = if above == 0 { 0..1 } else { 1..self.colours };
-            for above_colour in above_colours {
+            for above_colour in self.above_colours(above) {
                 for below in above + 1..=self.bottom {
                     let below_colours = if below == self.bottom { 0..1 } else { 1..self.colours };
                     for below_colour in below_colours {
@@ -147,11 +157,23 @@ impl<'a> Maker<'a> {
         }
     }
 
+    /// Clears the marks of a level that are looked at: those below each upper end.
+    fn clear_marks(&self, level: &mut [u32]) {
+        let count = self.budgets.count;
+        for above in 0..self.bottom {
+            for above_colour in self.above_colours(above) {
+                let first = Strip { above, above_colour, below: above + 1, below_colour: 0 };
+                let last = Strip { below: self.bottom, ..first };
+                let rows = &mut level[self.entries(first)..self.entries(last) + count];
+                rows.chunks_exact_mut(count).for_each(|row| row[0] = 0);
+            }
+        }
+    }
+
     /// Marks, level by level, the strips that the root reaches: only those are filled.
     fn mark(&self, work: &mut [u32]) {
-        let words = self.level * (self.sites.len() + 1);
-        for first in work[..words].chunks_exact_mut(self.budgets.count) {
-            first[0] = 0;
+        for level in work.chunks_exact_mut(self.level).take(self.sites.len() + 1) {
+            self.clear_marks(level);
         }
         work[self.entries(self.root())] = MARK;
         for (rank, site) in self.sites.iter().enumerate() {

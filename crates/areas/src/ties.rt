@@ -1,6 +1,6 @@
 // The word of a tie, at its site's place in the answer.
 ghost use mathlib.Core.Path.{_≡_};
-ghost use Rattle.choice.specs.Choice.{TieIn, withTie};
+ghost use Rattle.areas.specs.Ties.{TieIn, withTie};
 
 // A word of kind 9 with slot 0.
 const FIRST_TIE: u32 = 9 * words::KIND_TOP;
