@@ -1,8 +1,8 @@
-//! The program that rt proved, run as a process: as the system starts it, or forked from one that is loaded.
+//! The program that rt proved, run as the system starts it, or again and again in one process.
 //!
 //! Nothing of it is prebuilt: `rt ci` or `rt check backbones` proves and links it. So its tests come after the proofs.
 
-pub mod forked;
+pub mod repeated;
 pub mod started;
 
 use std::path::{Path, PathBuf};

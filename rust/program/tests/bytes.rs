@@ -7,7 +7,7 @@ use common::vectors::cases;
 use common::SHEET_A;
 use model::program::{prints, MOST_BYTES};
 use model::random::{any_list, damage, small_sheet, Random};
-use program::forked::{self, ForkServer};
+use program::repeated::{self, Server};
 use program::started::{with_runner, with_runners, Runner};
 use std::path::Path;
 
@@ -53,7 +53,7 @@ fn any_input(random: &mut Random) -> Vec<u8> {
 
 /// Runs the program on some inputs beside the plain one, and counts refusals and, at 0, layouts.
 fn compare(server: &Path, runner: &Runner, inputs: usize, seed: u64) -> [usize; ANSWERS] {
-    let mut server = ForkServer::start(server).expect("the fork server starts");
+    let mut server = Server::start(server).expect("the server starts");
     let mut random = Random::new(seed);
     let mut met = [0; ANSWERS];
     for number in 0..inputs {
@@ -74,7 +74,7 @@ fn compare(server: &Path, runner: &Runner, inputs: usize, seed: u64) -> [usize; 
 
 #[test]
 fn random_bytes() {
-    let server = forked::build(Path::new(env!("CARGO_TARGET_TMPDIR")));
+    let server = repeated::build(Path::new(env!("CARGO_TARGET_TMPDIR")));
     let share = INPUTS.div_ceil(SEEDS.len());
     let met = with_runners(SEEDS.len(), |index, runner| compare(&server, runner, share, SEEDS[index]));
     let times = |refusal: usize| met.iter().map(|met| met[refusal]).sum::<usize>();

@@ -1,17 +1,16 @@
-//! The program in processes that are forked from one that is loaded: a run takes a quarter of the time.
+//! The program run again and again in one process: a run takes a tenth of the time that a process takes.
 
 use crate::{built, found};
 use std::io::{Read, Result, Write};
-use std::os::unix::process::ExitStatusExt;
 use std::path::{Path, PathBuf};
 use std::process::{Child, ChildStdin, ChildStdout, Command, ExitStatus, Stdio};
 
-/// Builds the fork server (fork_server.c) in a folder, over the object file that the program was linked from.
+/// Builds the server (server.c) in a folder, over the object file that the program was linked from.
 pub fn build(folder: &Path) -> PathBuf {
     let object = found(built("obj/backbones.o"));
-    let (renamed, server) = (folder.join("program.o"), folder.join("fork_server"));
+    let (renamed, server) = (folder.join("program.o"), folder.join("server"));
     succeed(Command::new("objcopy").arg("--redefine-sym=main=program").args([&object, &renamed]));
-    let source = Path::new(env!("CARGO_MANIFEST_DIR")).join("src/fork_server.c");
+    let source = Path::new(env!("CARGO_MANIFEST_DIR")).join("src/server.c");
     let warnings = ["-std=c11", "-D_POSIX_C_SOURCE=200809L", "-Wall", "-Wextra", "-Wpedantic", "-Werror"];
     succeed(Command::new("gcc").args(warnings).args(["-O2", "-static", "-o"]).args([&server, &source, &renamed]));
     server
@@ -22,37 +21,42 @@ fn succeed(command: &mut Command) {
     assert!(status.success(), "{command:?}: {status}");
 }
 
-/// A fork server that runs; it ends with its standard input.
-pub struct ForkServer {
+/// A server that runs; it ends with its standard input.
+pub struct Server {
     process: Child,
     requests: ChildStdin,
     replies: ChildStdout,
 }
 
-impl ForkServer {
-    pub fn start(server: &Path) -> Result<ForkServer> {
+impl Server {
+    pub fn start(server: &Path) -> Result<Server> {
         let mut process = Command::new(server).stdin(Stdio::piped()).stdout(Stdio::piped()).spawn()?;
         let requests = process.stdin.take().expect("stdin is piped");
         let replies = process.stdout.take().expect("stdout is piped");
-        Ok(ForkServer { process, requests, replies })
+        Ok(Server { process, requests, replies })
     }
 
     /// What the program prints, or how it failed.
     pub fn run(&mut self, input: &[u8]) -> std::result::Result<String, String> {
-        let (status, text) = self.exchange(input).map_err(|error| error.to_string())?;
-        if !status.success() {
-            return Err(status.to_string());
+        let (status, text) = self.exchange(input).map_err(|error| self.ended().unwrap_or(error.to_string()))?;
+        if status != 0 {
+            return Err(format!("returned {status}"));
         }
         String::from_utf8(text).map_err(|error| error.to_string())
     }
 
-    fn exchange(&mut self, input: &[u8]) -> Result<(ExitStatus, Vec<u8>)> {
+    /// How the process ended, if it has: on a crash, or by its alarm where a run hangs.
+    fn ended(&mut self) -> Option<String> {
+        self.process.wait().ok().map(|status| status.to_string())
+    }
+
+    fn exchange(&mut self, input: &[u8]) -> Result<(u32, Vec<u8>)> {
         let length = u32::try_from(input.len()).expect("an input is short");
         self.requests.write_all(&[&length.to_le_bytes(), input].concat())?;
         let status = self.number()?;
         let mut text = vec![0; self.number()? as usize];
         self.replies.read_exact(&mut text)?;
-        Ok((ExitStatus::from_raw(status as i32), text))
+        Ok((status, text))
     }
 
     fn number(&mut self) -> Result<u32> {
