@@ -1,9 +1,5 @@
-// What is refused after a sheet's own refusals, before an area is used, in order and from numbers alone; a tie's word in the answer, and a part
-// of an area zeroed.
-pub mod faults;
-pub mod stored;
+// What is written into an area: a tie's word in the answer, and a part zeroed.
 pub mod ties;
-pub mod written;
 
 ghost use mathlib.Core.Path.{_≡_};
 ghost use Prim.Native.Nat.{_≤_};

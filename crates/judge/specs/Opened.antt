@@ -6,7 +6,7 @@ use lib.Dec.{eqb}
 use lib.ListN.{length, getD}
 use Rattle.sheet.specs.Sheet.{all, kindOf, sheetIn, sheetFault}
 use Rattle.labelling.specs.Layout.{tiesAt, layoutBody, isLayout, sheetPart, judgeFault, storedFault}
-use Rattle.refusals.specs.Wordwise.{tieFits}
+use Rattle.forms.specs.Forms.{tieFits}
 use Rattle.decoding.specs.Decoding.{numbersBy, noNumbers}
 use Rattle.judge.specs.declared.opened.Opened.{Opened}
 

@@ -5,8 +5,8 @@ ghost use Rattle.judge.specs.Opened.{refusedAt, partsFault, openedBy, la
 use crate::refusal_11::is_layout;
 use crate::refusal_11::layout_start;
 use crate::ruling::rule_on;
-use areas::stored::layout_fault;
-use areas::stored::rule_fault;
+use faults::stored::layout_fault;
+use faults::stored::rule_fault;
 use decoding::Numbers;
 use decoding::no_numbers;
 use reader::opened::open_sheet;

@@ -15,8 +15,8 @@ use Rattle.labelling.specs.Promise.{areWords, takesSheet}
 use Rattle.labelling.proofs.Maker.{Result, Serves, refused-sheet, refused-side, refused-work, refused-out}
 use Rattle.labelling.proofs.Kept.{areas-kept}
 use Rattle.labelling.proofs.Binding.{work-less, fault-binding, area-binding, work-zeroed, takes-binding}
-use Rattle.areas.specs.Faults.{makerFault}
-use Rattle.areas.proofs.faults.Faults.{fault-sheet, fault-side, fault-work, fault-out, fault-none, by-fault, no-fault}
+use Rattle.faults.specs.Faults.{makerFault}
+use Rattle.faults.proofs.Faults.{fault-sheet, fault-side, fault-work, fault-out, fault-none, by-fault, no-fault}
 use Rattle.reader.specs.declared.Sizes.{Sizes}
 use Rattle.reader.specs.Read.{readPost}
 use Rattle.reader.proofs.Reading.{reading, refusal-is}

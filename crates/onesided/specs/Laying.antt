@@ -12,7 +12,7 @@ use Rattle.arrays.specs.Arrays.{measuresOf, boundsOf, drawsList, xsOf, ysOf, co
 use Rattle.decoding.specs.declared.Numbers.{Numbers}
 use Rattle.decoding.specs.Decoding.{numbersBy, SheetRead}
 use Rattle.arrays.specs.Given.{Given, given, OfSheet, Bounded, Ranked}
-use Rattle.table.specs.Marks.{TableFits}
+use Rattle.marks.specs.Marks.{TableFits}
 
 -- an accepted one-sided sheet by its numbers and P, its areas long enough; the words are there for the contract alone
 pub record TakesOneSided (d : Numbers) (budgets : ℕ) (work out : List ℕ) : Type 0 where

@@ -1,24 +1,13 @@
--- The tests of refusals 1 to 7 and 11 word by word, as the code makes them. Assumes nothing: these are definitions.
--- That they are the tests of `sheetFault` is shown in reader: proofs/Wordwise (4, 5, 6), refusal_2/Order and refusal_7/Factors.
+-- The tests of refusals 3 to 7 word by word, as the code makes them. Assumes nothing: these are definitions.
+-- That they are the tests of `sheetFault` is shown in reader: proofs/Wordwise (4, 5, 6) and refusal_7/Factors.
 use mathlib.Core.Bool.{Bool, true, false, _&&_, _||_, not, cond}
 use mathlib.Core.List.{List, [], _∷_}
 use Prim.Native.Nat.{ℕ, _+_}
 use lib.Dec.{eqb, leb, ltb}
 use lib.ListN.{length}
 use Rattle.sheet.specs.Limits.{mostSlots, mostColours, mostSites, mostBudgets, unbounded}
-use Rattle.sheet.specs.Sheet.{bits, kindOf, hasSpare, slotsIn, coloursIn, sitesIn}
+use Rattle.sheet.specs.Sheet.{bits, kindOf, slotsIn, coloursIn, sitesIn}
 use Rattle.sheet.specs.Words.{rankIn}
-
--- REFUSAL 1: a head's word: of kind 1, neither its W nor its D is 0
-abbrev pub isHeadWord : (word : ℕ) → Bool
-isHeadWord w = eqb (kindOf w) 1 && not (eqb (bits w 0 14) 0) && not (eqb (bits w 14 12) 0)
-
--- REFUSAL 2: the stage after a word, from the tests on it: a spare bit, kind 2, stage 0, kind 3, kind 4, stage 1. Stage 2: out of order
-abbrev pub stageBy : (spare slot first colour site second : Bool) → ℕ
-stageBy p a f b d s = cond p 2 (cond a (cond f 0 2) (cond b 1 (cond d (cond s 1 2) 2)))
-
-abbrev pub stageAfter : (stage word : ℕ) → ℕ
-stageAfter z w = stageBy (hasSpare w) (eqb (kindOf w) 2) (eqb z 0) (eqb (kindOf w) 3) (eqb (kindOf w) 4) (eqb z 1)
 
 -- REFUSAL 3: `countsFit` of the sheet with this body
 abbrev pub countsFitIn : (body : List ℕ) → Bool
@@ -65,7 +54,3 @@ factorOf w = cond (eqb (kindOf w) 3) (cond (eqb (bits w 0 8) unbounded) 1 (bits 
 -- P as far as it matters: one more than the most stands for all that is above it
 abbrev pub capped : ℕ → ℕ
 capped n = cond (ltb mostBudgets n) (mostBudgets + 1) n
-
--- REFUSAL 11: a word of kind 9 without a spare bit, its slot below m
-abbrev pub tieFits : (slots word : ℕ) → Bool
-tieFits m w = eqb (kindOf w) 9 && eqb (bits w 8 20) 0 && ltb (bits w 0 8) m

@@ -3,3 +3,4 @@ pub mod Places
 pub mod Splitting
 mod Lists
 pub mod Folding
+pub mod Levels

@@ -12,13 +12,13 @@ use Rattle.arrays.specs.declared.Measures.{Measures}
 use Rattle.rows.specs.Budgets.{Others}
 use Rattle.labelling.specs.Entry.{zeroed}
 use Rattle.areas.proofs.Zeroed.{zeroed-before, zeroed-inside, zeroed-after}
-use Rattle.table.specs.Entries.{RowIs, entryBy}
+use Rattle.entries.specs.Entries.{RowIs, entryBy}
 use Rattle.rows.specs.Rows.{rowOf, rowIn, levelOf, Lies, endPlace, lowPlace, endWords}
-use Rattle.table.proofs.entries.Places.{same-rows}
+use Rattle.entries.proofs.Places.{same-rows}
 use Rattle.rows.proofs.Places.{row-fits}
-use Rattle.table.specs.Marks.{Shaped}
-use Rattle.table.proofs.marks.Followed.{same-end, later-end, slot-low, row-ends, later-low, low-high, same-strip}
-use Rattle.table.proofs.marks.Levels.{row-within}
+use Rattle.marks.specs.Marks.{Shaped}
+use Rattle.marks.proofs.Followed.{same-end, later-end, slot-low, row-ends, later-low, low-high, same-strip}
+use Rattle.rows.proofs.Levels.{row-within}
 use Rattle.table.specs.Levels.{RowFilled}
 
 module _ (q : Measures) (hs bs parts counts left : List ℕ) (base low : ℕ) (s : Point) where

@@ -26,14 +26,14 @@ use Rattle.strips.specs.Strips.{instanceOn}
 use Rattle.rows.specs.Budgets.{Others, Splits, leftBy}
 use Rattle.rows.specs.Rows.{rowOf, rowsOf, rowIn, levelOf, upperPart, lowerPart}
 use Rattle.rows.proofs.Places.{row-low, row-fits}
-use Rattle.table.proofs.entries.Entries.{Falls, cell-row, entry-by}
-use Rattle.table.specs.Marks.{Shaped, ReachMarked}
+use Rattle.entries.proofs.Entries.{Falls, cell-row, entry-by}
+use Rattle.marks.specs.Marks.{Shaped, ReachMarked}
 use Rattle.parts.specs.Parts.{Marked}
-use Rattle.table.proofs.marks.Levels.{next-level, level-within, row-within}
+use Rattle.rows.proofs.Levels.{next-level, level-within, row-within}
 use Rattle.arrays.proofs.Points.{points-long, point-at}
-use Rattle.table.proofs.marks.Points.{drop-point}
-use Rattle.table.proofs.marks.Asked.{asks-parts}
-use Rattle.table.proofs.marks.Reach.{asks-by, reached-on, reached-shape}
+use Rattle.marks.proofs.Points.{drop-point}
+use Rattle.marks.proofs.Asked.{asks-parts}
+use Rattle.marks.proofs.Reach.{asks-by, reached-on, reached-shape}
 use Rattle.table.specs.Levels.{RowFilled, TableReady, LevelRight, LevelMarked}
 
 module _ {g : Given} (o : OfSheet g) where

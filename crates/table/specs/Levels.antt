@@ -12,8 +12,9 @@ use Rattle.rows.specs.declared.End.{End}
 use Rattle.rows.specs.Budgets.{Others, Splits}
 use Rattle.rows.specs.Rows.{rowOf, levelOf, rowIn, endPlace, endWords}
 use Rattle.parts.specs.Parts.{Marked}
-use Rattle.table.specs.Marks.{Shaped, Level, slotsIn, coloursIn, wordsIn, Ready, HasEnd, TableFits}
-use Rattle.table.specs.Entries.{BudgetsListed, entryBy}
+use Rattle.rows.specs.Level.{Level, slotsIn, coloursIn, wordsIn, Ready}
+use Rattle.marks.specs.Marks.{Shaped, HasEnd, TableFits}
+use Rattle.entries.specs.Entries.{BudgetsListed, entryBy}
 
 -- the level at the word `base` may be filled from the one at the word `low`
 pub record LevelReady (l : Level) (area : ℕ) : Type 0 where

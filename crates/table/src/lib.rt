@@ -1,15 +1,13 @@
 // The one-sided table in the lent work words: what the whole sheet leads to is marked, then filled level by level from the last up.
-pub mod entries;
-pub mod marks;
-
 ghost use mathlib.Core.Path.{_≡_};
 ghost use mathlib.Core.List.{[]};
 ghost use Prim.Native.Nat.{_+_, _≤_};
 ghost use lib.ListN.{length};
 ghost use Rattle.arrays.specs.Given.{Given, given};
 ghost use Rattle.rows.specs.Rows.{pointOf};
-ghost use Rattle.table.specs.Marks.{Level, level, EndIn, LevelAt};
-ghost use Rattle.table.specs.Entries.{onRows, RowIs};
+ghost use Rattle.rows.specs.Level.{Level, level};
+ghost use Rattle.marks.specs.Marks.{EndIn, LevelAt};
+ghost use Rattle.entries.specs.Entries.{onRows, RowIs};
 ghost use Rattle.table.specs.Levels.{LevelReady, EndFilled, LevelFilled, TableReady, SiteFilled, TableRight};
 use areas::zero_part;
 use arrays::Measures;
@@ -52,7 +50,7 @@ fn fill_below(
     };
     let mut at = base + rows::row_place(q, heights.len(), p);
     while p.b < ends {
-        crate::entries::fill_row(work, q, heights, bounds, parts, counts, left, p, s, at, low);
+        entries::fill_row(work, q, heights, bounds, parts, counts, left, p, s, at, low);
         at += n;
         p = rows::next_below(q.colours, p);
     }
@@ -164,7 +162,7 @@ pub fn fill_table(
 {
     let rows = rows::rows_of(q, heights.len());
     let size = rows * (q.budgets as usize);
-    crate::marks::mark_table(work, q, heights, bounds, xs, ys, cs, rows);
+    marks::mark_table(work, q, heights, bounds, xs, ys, cs, rows);
     let mut j = xs.len();
     zero_level(work, j * size, size);
     while 0 < j {

@@ -6,7 +6,7 @@ ghost use mathlib.Core.Path.{_≡_};
 ghost use Rattle.labelling.specs.Twin.{twinArea};
 ghost use Rattle.twin.specs.Twin.{twinPost};
 use crate::writing::write_twin;
-use areas::written::written_fault;
+use faults::written::written_fault;
 use judge::opened::open_stored;
 
 // refusal: 1 to 7, 11, 13 or 9, 0 for none. written: the words of the twin, 0 beside a refusal.

@@ -9,7 +9,7 @@ use lib.ListN.{length, take, drop}
 use borrow.Author.Tests.{eqb-true, eq-eqb, ne-eqb}
 use Rattle.lists.proofs.Places.{part-from}
 use Rattle.lists.proofs.Tests.{by-test}
-use Rattle.areas.specs.Faults.{layoutFault, ruleFault}
+use Rattle.faults.specs.Faults.{layoutFault, ruleFault}
 use Rattle.sheet.specs.Sheet.{Sheet, sheetIn, sheetFault}
 use Rattle.labelling.specs.Layout.{isLayout, brokenBy, sheetPart, layoutPart, judgeFault, judged, storedFault}
 use Rattle.labelling.proofs.Judge.{judged-so}

@@ -11,7 +11,7 @@ use Rattle.lists.proofs.Places.{at}
 use Rattle.lists.proofs.Tests.{by-test, by-equal}
 use Rattle.sheet.specs.Sheet.{all, kindOf}
 use Rattle.labelling.specs.Layout.{sheetPart}
-use Rattle.refusals.specs.Wordwise.{tieFits}
+use Rattle.forms.specs.Forms.{tieFits}
 
 -- THE SHEET'S PART ends at the first word of kind 8
 pub sheet-end : (s : List ℕ) (i : ℕ) → i < length s → kindOf (getD s i 0) ≡ 8 → sheetPart (drop i s) ≡ []

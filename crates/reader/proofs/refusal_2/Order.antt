@@ -7,7 +7,7 @@ use lib.Dec.{eqb}
 use lib.ListN.{length, getD, drop}
 use Rattle.lists.proofs.Places.{at}
 use Rattle.sheet.specs.Sheet.{kindOf, hasSpare, inOrder}
-use Rattle.refusals.specs.Wordwise.{stageBy, stageAfter}
+use Rattle.forms.specs.Forms.{stageBy, stageAfter}
 
 by : (X : ℕ → Bool) (p a f b d s : Bool) → (not p && cond a (f && X 0) (cond b (X 1) (cond d (s && X 1) false))) ≡ cond (eqb (stageBy p a f b d s) 2) false (X (stageBy p a f b d s))
 by X true a f b d s = refl

@@ -4,7 +4,7 @@ use Rattle.optimum.specs.OneSided.{markCount}
 use Rattle.optimum.proofs.Marks.{some-mark}
 use Rattle.rows.specs.Rows.{Lies, stripOf, pointOf, rowOf, endPlace, lowPlace}
 use Rattle.rows.proofs.Places.{row-fits}
-use Rattle.table.proofs.marks.Followed.{ended, next-row, later-low, start-lies, lies-at}
+use Rattle.marks.proofs.Followed.{ended, next-row, later-low, start-lies, lies-at}
 use Rattle.table.proofs.Filling.{Filled, filled-none, filled-more, filled-all, row-low, start-end, to-end}
 use Prim.Native.Nat.{ℕ, _+_, _-_, _*_, _<_, _≤_}
 use native.Mathlib.Omega.{arith}
@@ -16,7 +16,7 @@ use Rattle.table.proofs.fill_below.Reads as reads
 use Rattle.table.proofs.fill_below.Lts as lts
 use Rattle.rows.proofs.row_place.Reads as row-place-reads
 use Rattle.rows.proofs.next_below.Reads as next-below-reads
-use Rattle.table.proofs.entries.fill_row.Reads as fill-row-reads
+use Rattle.entries.proofs.fill_row.Reads as fill-row-reads
 
 abbrev Inv-loop : tie.InvT-loop
 Inv-loop work₀ q heights bounds parts counts left s base low n ends p₀ at₀ work p at = (p .a ≡ p₀ .a) × (p .ca ≡ p₀ .ca) × ((p .cb ≤ q .colours) × (p .d < markCount)) × (lowPlace (q .colours) (stripOf p) ≤ endPlace (q .colours) (length heights + 2) 0 * markCount) × (at ≡ base + rowOf (length heights) (q .colours) (stripOf p) * q .budgets) × (length work ≡ length work₀) × Filled q heights bounds parts counts left base low (pointOf s) work₀ work (endPlace (q .colours) (p .a) (p .ca)) (lowPlace (q .colours) (stripOf p))

@@ -1,5 +1,5 @@
 use Rattle.rows.specs.Rows.{pointOf, endPlace}
-use Rattle.table.proofs.marks.Followed.{later-end, slot-low}
+use Rattle.marks.proofs.Followed.{later-end, slot-low}
 use Rattle.table.proofs.Filling.{Passed, passed-none, passed-more, passed-all}
 use mathlib.Core.Path.{_≡_, refl, _∙_}
 use Prim.Native.Nat.{_+_, _-_, _≤_}

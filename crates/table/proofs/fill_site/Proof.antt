@@ -1,6 +1,6 @@
 use Rattle.arrays.proofs.Narrowed.{on-slots}
 use Rattle.table.proofs.Filling.{others-of}
-use Rattle.table.proofs.marks.Levels.{next-level, level-within, place-small}
+use Rattle.rows.proofs.Levels.{next-level, level-within, place-small}
 use Rattle.table.proofs.Right.{level-right, site-stands}
 use Prim.Native.Nat.{_+_, _-_}
 use native.Mathlib.Omega.{arith}

@@ -1,5 +1,5 @@
 use Rattle.rows.specs.Rows.{levelOf}
-use Rattle.table.proofs.marks.Levels.{level-small, place-small, last-within}
+use Rattle.rows.proofs.Levels.{level-small, place-small, last-within}
 use mathlib.Core.List.{[]}
 use Rattle.arrays.specs.Given.{given, OfSheet}
 use Rattle.arrays.proofs.Narrowed.{no-radices}
@@ -13,7 +13,7 @@ use Rattle.table.proofs.fill_table.Statement.{statement}
 use Rattle.table.proofs.fill_table.Tie as tie
 use Rattle.table.proofs.fill_table.Reads as reads
 use Rattle.table.proofs.fill_table.Lts as lts
-use Rattle.table.proofs.marks.mark_table.Reads as mark-table-reads
+use Rattle.marks.proofs.mark_table.Reads as mark-table-reads
 use Rattle.table.proofs.fill_site.Reads as fill-site-reads
 use Rattle.rows.proofs.rows_of.Reads as rows-of-reads
 use Rattle.table.proofs.zero_level.Reads as zero-level-reads

@@ -1,6 +1,6 @@
 -- `table::zero_level` meets its contract.
 use Rattle.table.proofs.Filling.{zero-row}
-use Rattle.table.specs.Entries.{RowIs}
+use Rattle.entries.specs.Entries.{RowIs}
 use mathlib.Core.Path.{subst⁻¹}
 use borrow.Author.Needs.{needs}
 use Rattle.table.proofs.zero_level.Statement.{statement}

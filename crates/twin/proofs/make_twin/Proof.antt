@@ -3,7 +3,7 @@ use Rattle.twin.proofs.Stored.{few}
 use Rattle.labelling.specs.Twin.{twinFaultIn}
 use Rattle.labelling.proofs.Refusals.{twin-chain}
 use Rattle.judge.proofs.opened.Opening.{stored-refusal}
-use Rattle.areas.specs.Faults.{writtenFault}
+use Rattle.faults.specs.Faults.{writtenFault}
 use mathlib.Core.Path.{_≡_, refl, ap, sym, _∙_}
 use Prim.Native.Nat.{ℕ}
 use native.Mathlib.Omega.{arith}

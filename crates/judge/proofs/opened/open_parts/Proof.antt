@@ -1,4 +1,4 @@
-use Rattle.areas.specs.Faults.{layoutFault}
+use Rattle.faults.specs.Faults.{layoutFault}
 use Rattle.judge.specs.Opened.{partsFault}
 use Rattle.judge.proofs.opened.Opening.{fault-parts, parts-refused, parts-opened}
 use mathlib.Core.Path.{_≡_, ap, _∙_}

@@ -1,4 +1,4 @@
-use Rattle.areas.specs.Faults.{ruleFault}
+use Rattle.faults.specs.Faults.{ruleFault}
 use Rattle.labelling.specs.Layout.{judgeFault, judged}
 use Rattle.judge.proofs.opened.Opening.{judge-refusal, stored-same, stored-refused, stored-whole, rule-none, rule-some}
 use mathlib.Core.Path.{_≡_, refl, ap, sym, _∙_}

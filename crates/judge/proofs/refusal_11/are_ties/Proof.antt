@@ -2,7 +2,7 @@ use borrow.Author.Tests.{not-true, not-false}
 use Rattle.sheet.specs.Sheet.{all}
 use Rattle.lists.proofs.Places.{stop, go}
 use Rattle.labelling.specs.Layout.{layoutBody}
-use Rattle.refusals.specs.Wordwise.{tieFits}
+use Rattle.forms.specs.Forms.{tieFits}
 use Rattle.judge.proofs.refusal_11.Parts.{ties-at, ties-end}
 use mathlib.Core.Path.{_≡_, sym, _∙_}
 use Prim.Native.Nat.{_-_}

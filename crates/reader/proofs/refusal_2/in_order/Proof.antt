@@ -5,7 +5,7 @@ use lib.ListN.{drop-of-length-le, length, getD, drop}
 use borrow.Author.Tests.{ne-eqb}
 use borrow.Author.Needs.{needs}
 use Rattle.sheet.specs.Sheet.{inOrder}
-use Rattle.refusals.specs.Wordwise.{stageAfter}
+use Rattle.forms.specs.Forms.{stageAfter}
 use Rattle.reader.proofs.refusal_2.Order.{order-at}
 use Rattle.reader.proofs.refusal_2.in_order.Statement.{statement}
 use Rattle.reader.proofs.refusal_2.in_order.Tie as tie

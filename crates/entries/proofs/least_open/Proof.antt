@@ -1,0 +1,92 @@
+use Prim.Native.Nat.{min}
+use Rattle.search.specs.Cost.{plus, least}
+use Rattle.optimum.specs.OneSided.{topWord}
+use Rattle.rows.specs.Rows.{stripOf, pointOf, rowIn}
+use Rattle.arrays.proofs.Marks.{turn-low}
+use Rattle.entries.specs.Entries.{singleTerm}
+use Rattle.entries.proofs.Single.{single-more, single-none}
+use mathlib.Core.Path.{ap₂}
+use mathlib.Core.Path.{_≡_, _∙_}
+use Prim.Native.Nat.{_+_, _-_, _≤_}
+use native.Mathlib.Omega.{arith}
+use lib.ListN.{length}
+use borrow.Author.Needs.{needs}
+use Rattle.entries.proofs.least_open.Statement.{statement}
+use Rattle.entries.proofs.least_open.Tie as tie
+use Rattle.entries.proofs.least_open.Reads as reads
+use Rattle.entries.proofs.least_open.Lts as lts
+use Rattle.parts.proofs.parts_cost.Reads as parts-cost-reads
+use Rattle.strips.proofs.open_cost.Reads as open-cost-reads
+use Rattle.words.proofs.lesser.Reads as lesser-reads
+use Rattle.words.proofs.plus_of.Reads as plus-of-reads
+
+abbrev Inv-loop : tie.InvT-loop
+Inv-loop work q heights p s low window old m best₀ k₀ best k = (window .from ≤ k) × (k ≤ window .to) × (best ≡ min old (least topWord (k - window .from) (λ i. singleTerm q heights (rowIn work low (length heights) (q .colours) (q .budgets)) (stripOf p) (pointOf s) (window .from + i))))
+
+abbrev μ-loop : tie.MeasureT-loop
+μ-loop work q heights p s low window old m best₀ k₀ best k = window .to - k
+
+loop-holds : tie.Need-loop-holds Inv-loop μ-loop
+loop-holds c =
+    let a = c .before .before .args in
+    let e : a .window .from - a .window .from ≡ 0 = omega arith in
+    (omega arith, omega (arith, c .before .before .pre .some), rw e (single-none (a .old) _ (omega (arith, c .before .before .fits .old))))
+
+open-cost-requires : tie.Need-open-cost-requires Inv-loop μ-loop
+open-cost-requires c κs =
+    let p = c .before .before .before .before .before .pre in (p .sheet, p .site, omega (arith, p .sheet .fewSlots, p .high, p .lies .bLow, c .if1 .taken))
+
+turn-at-requires : tie.Need-turn-at-requires Inv-loop μ-loop
+turn-at-requires c κs = search needs
+
+parts-cost-requires : tie.Need-parts-cost-requires Inv-loop μ-loop
+parts-cost-requires c κs =
+    let p = c .before .before .before .before .before .before .before .pre in
+    ((p .fits, p .lies), (p .site .colourLow, omega (arith, p .high, c .before .before .if1 .taken), rw (c .turn-at .ensures) (turn-low _ _ _)))
+
+plus-of-requires : tie.Need-plus-of-requires Inv-loop μ-loop
+plus-of-requires c κs = search needs
+
+lesser-requires : tie.Need-lesser-requires Inv-loop μ-loop
+lesser-requires c κs = search needs
+
+add-k : tie.Need-add-k Inv-loop μ-loop
+add-k c =
+    omega (arith, c .before .before .before .before .before .if1 .taken)
+
+loop-less : tie.Need-loop-less Inv-loop μ-loop
+loop-less c =
+    omega (arith, c .before .before .before .before .before .if1 .taken)
+
+loop-again : tie.Need-loop-again Inv-loop μ-loop
+loop-again c =
+    let a = c .before .before .before .before .before .before .before .before .before .before .args in
+    let l = c .before .before .before .before .before .before .before .loop in
+    let f : l .k + 1 - a .window .from ≡ l .k - a .window .from + 1 = omega (arith, l .inv .0) in
+    let g : a .window .from + (l .k - a .window .from) ≡ l .k = omega (arith, l .inv .0) in
+    let t = c .before .plus-of .ensures ∙ ap₂ (plus topWord) (c .before .before .before .before .open-cost .ensures) (rw (c .before .before .before .turn-at .ensures) at (c .before .before .parts-cost .ensures)) in
+    (omega (arith, l .inv .0), omega (arith, c .before .before .before .before .before .if1 .taken), rw f (c .lesser .ensures ∙ single-more (a .old) (l .best) _ (l .k - a .window .from) _ (l .inv .2) (rw g t)))
+
+returns : tie.Need-returns Inv-loop μ-loop
+returns c =
+    let l = c .before .before .loop in
+    let a = c .before .before .before .before .before .args in
+    let e : l .k ≡ a .window .to = omega (arith, l .inv .1, c .if1 .left) in
+    rw e at (l .inv .2)
+
+pub least-open-spec : {M : Type 1} → statement M
+least-open-spec =
+    tie.close
+    (tie.spec
+    Inv-loop
+    μ-loop
+    loop-holds
+    open-cost-requires
+    turn-at-requires
+    parts-cost-requires
+    plus-of-requires
+    lesser-requires
+    add-k
+    loop-less
+    loop-again
+    returns)

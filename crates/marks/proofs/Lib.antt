@@ -1,0 +1,5 @@
+pub mod Asked
+pub mod Cleared
+pub mod Followed
+pub mod Points
+pub mod Reach

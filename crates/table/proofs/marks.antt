@@ -1,6 +1,0 @@
-pub mod Asked
-pub mod Cleared
-pub mod Followed
-pub mod Levels
-pub mod Points
-pub mod Reach
