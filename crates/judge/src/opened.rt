@@ -5,10 +5,10 @@ ghost use Rattle.judge.specs.Opened.{refusedAt, partsFault, openedBy, la
 use crate::refusal_11::is_layout;
 use crate::refusal_11::layout_start;
 use crate::ruling::rule_on;
-use faults::stored::layout_fault;
-use faults::stored::rule_fault;
 use decoding::Numbers;
 use decoding::no_numbers;
+use faults::stored::layout_fault;
+use faults::stored::rule_fault;
 use reader::opened::open_sheet;
 
 // refusal: 1 to 7, 11 or 13, 0 for none. at: where the layout begins. numbers: the sheet's, all zeros beside a refusal.
