@@ -6,13 +6,12 @@ use native.Mathlib.Omega.{arith}
 use lib.ListN.{length, take, drop}
 use lib.Seq.{take-at, drop-at, length-front, length-take-le}
 use borrow.Author.Tests.{ne-eqb}
-use Rattle.labelling.specs.Layout.{layoutPart, judgeFault, judged}
-use Rattle.labelling.specs.Lawful.{Lawful}
+use Rattle.labelling.specs.Layout.{judgeFault, judged}
 use Rattle.labelling.specs.Twin.{twinFault, twinWords, TwinOf}
-use Rattle.labelling.proofs.Kept.{judged-so}
+use Rattle.labelling.proofs.Stored.{lawful-judged, unlawful-judged}
 use Rattle.labelling.proofs.Twin.{twin-lawful, twin-of-twin, best-not-worse, fault-judge, fault-unlawful, fault-short, fault-none, by-cause}
 use Rattle.twin.specs.declared.Written.{Written}
-use Rattle.demands.specs.Demands.{WasTwinned, storedSheet, ServedByTwin, TwinPromised}
+use Rattle.demands.specs.Demands.{WasTwinned, ServedByTwin, TwinPromised}
 
 -- ONE CALL
 module _ (ws o : List ℕ) (r : Written) (o' : List ℕ) (m : WasTwinned ws o r o') where
@@ -45,12 +44,6 @@ module _ (ws o : List ℕ) (r : Written) (o' : List ℕ) (m : WasTwinned ws o r 
     given-long : length o' ≡ length o
     given-long = ap length area-is ∙ length-front o (twinWords ws) (length ws) (twin-is .long ∙ sym (length-take-le (length ws) o l))
 
-  lawful-so : judgeFault ws ≡ 0 → Lawful (storedSheet ws) (layoutPart ws) → judged ws ≡ 0
-  lawful-so h = judged-so .1 ws .5 h .1 .1
-
-  unlawful-so : judgeFault ws ≡ 0 → (Lawful (storedSheet ws) (layoutPart ws) → ⊥) → judged ws ≡ 0 → ⊥
-  unlawful-so h n v = n (judged-so .1 ws .5 h .1 .0 v)
-
   judge-refuses : (judgeFault ws ≡ 0 → ⊥) → (r .refusal ≡ judgeFault ws) × (r .written ≡ 0) × (o' ≡ o)
   judge-refuses n = refused (judgeFault ws) (fault-judge ws (length o) n) (omega arith)
 
@@ -66,9 +59,9 @@ pub served-by-twin : (ws o : List ℕ) (r : Written) (o' : List ℕ) → WasTwin
 served-by-twin ws o r o' m =
     record {
       judge = λ l. judge-refuses ws o r o' m (λ e. omega arith);
-      unlawful = λ h n. refused ws o r o' m 13 (fault-unlawful ws (length o) h (unlawful-so ws o r o' m h n)) (omega arith);
-      short = λ h a l. refused ws o r o' m 9 (fault-short ws (length o) h (lawful-so ws o r o' m h a) l) (omega arith);
-      given = λ h a l. given ws o r o' m h (lawful-so ws o r o' m h a) l;
+      unlawful = λ h n. refused ws o r o' m 13 (fault-unlawful ws (length o) h (unlawful-judged ws h n)) (omega arith);
+      short = λ h a l. refused ws o r o' m 9 (fault-short ws (length o) h (lawful-judged ws h a) l) (omega arith);
+      given = λ h a l. given ws o r o' m h (lawful-judged ws h a) l;
       kept = kept-long ws o r o' m;
     }
 

@@ -56,7 +56,7 @@ at-taken p js k (suc n) i l h e =
     (by-equal i n (λ q. subst (λ (z : ℕ). p z && eqb (getD js z 0) k ≡ true) q (and-i h (eq-eqb (getD js i 0) k e)))
     (λ q. clash (at-taken p js k n i (omega arith) h e) t))
 
-used-taken : (js : List ℕ) (k : ℕ) → isUsed k js ≡ isTaken anySite js k (length js)
+pub used-taken : (js : List ℕ) (k : ℕ) → isUsed k js ≡ isTaken anySite js k (length js)
 used-taken js k =
     same-test (isUsed k js) (isTaken anySite js k (length js))
     (λ h. let (i, l, e) = at-used k js h in at-taken anySite js k (length js) i l refl e)
@@ -101,11 +101,11 @@ unfoldable pub sumOver : (share : ℕ → ℕ) → List ℕ → ℕ
 sumOver f [] = 0
 sumOver f (k ∷ ks) = f k + sumOver f ks
 
-unfoldable sumWhere : (test : ℕ → Bool) → (share : ℕ → ℕ) → (from count : ℕ) → ℕ
+unfoldable pub sumWhere : (test : ℕ → Bool) → (share : ℕ → ℕ) → (from count : ℕ) → ℕ
 sumWhere t f a zero = 0
 sumWhere t f a (suc n) = cond (t a) (f a) 0 + sumWhere t f (suc a) n
 
-over-used : (f : ℕ → ℕ) (a n : ℕ) (js : List ℕ) → sumOver f (usedFrom a n js) ≡ sumWhere (λ k. isUsed k js) f a n
+pub over-used : (f : ℕ → ℕ) (a n : ℕ) (js : List ℕ) → sumOver f (usedFrom a n js) ≡ sumWhere (λ k. isUsed k js) f a n
 unfolding usedFrom sumOver sumWhere
 over-used f a zero js = refl
 over-used f a (suc n) js = by-test (isUsed a js) (λ e. rw e (omega (arith, over-used f (suc a) n js))) λ e. rw e (omega (arith, over-used f (suc a) n js))

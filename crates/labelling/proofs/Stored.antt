@@ -1,9 +1,10 @@
 -- The refusal of a stored sheet, by its causes, and what a stored sheet has of which nothing is refused. Assumes nothing.
-use mathlib.Core.Path.{_≡_, refl, sym, _∙_}
+use mathlib.Core.Path.{_≡_, refl, sym, _∙_, ap}
 use mathlib.Core.Bool.{true}
 use mathlib.Core.List.{List}
-use Prim.Native.Nat.{ℕ}
+use Prim.Native.Nat.{ℕ, _<_}
 use native.Mathlib.Omega.{arith}
+use lib.ListN.{length, length-append}
 use borrow.Author.Tests.{eq-eqb, ne-eqb}
 use Rattle.lists.proofs.Tests.{by-equal}
 use Rattle.sheet.specs.Sheet.{sheetIn, sheetFault}
@@ -11,6 +12,7 @@ use Rattle.labelling.specs.Layout.{isLayout, sheetPart, layoutPart, judg
 use Rattle.labelling.specs.Lawful.{Lawful}
 use Rattle.labelling.proofs.Refusals.{stored-chain}
 use Rattle.labelling.proofs.Judge.{judged-so}
+use Rattle.labelling.proofs.Words.{formed}
 
 module _ (ws : List ℕ) where
   -- THE REFUSAL
@@ -22,6 +24,13 @@ module _ (ws : List ℕ) where
 
   pub stored-none : judgeFault ws ≡ 0 → judged ws ≡ 0 → storedFault ws ≡ 0
   stored-none h v = stored-chain ws ∙ rw (eq-eqb (judgeFault ws) 0 h, eq-eqb (judged ws) 0 v) refl
+
+  -- by the rules themselves
+  pub lawful-judged : judgeFault ws ≡ 0 → Lawful (sheetIn (sheetPart ws)) (layoutPart ws) → judged ws ≡ 0
+  lawful-judged h = judged-so .1 ws .5 h .1 .1
+
+  pub unlawful-judged : judgeFault ws ≡ 0 → (Lawful (sheetIn (sheetPart ws)) (layoutPart ws) → ⊥) → judged ws ≡ 0 → ⊥
+  unlawful-judged h n v = n (judged-so .1 ws .5 h .1 .0 v)
 
   -- NOTHING IS REFUSED
   module _ (z : storedFault ws ≡ 0) where
@@ -39,3 +48,8 @@ module _ (ws : List ℕ) where
 
     pub stored-lawful : Lawful (sheetIn (sheetPart ws)) (layoutPart ws)
     stored-lawful = judged-so .1 ws .5 stored-judged .1 .0 stored-verdict
+
+    -- the layout begins within
+    pub stored-within : length (sheetPart ws) < length ws
+    stored-within =
+        omega (arith, ap length (judged-so .1 ws .0 .0), length-append (sheetPart ws) (layoutPart ws), formed (sheetIn (sheetPart ws)) (layoutPart ws) stored-layout .long)

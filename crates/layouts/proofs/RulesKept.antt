@@ -117,7 +117,7 @@ module _ (s : Sheet) (hs xs ys cs : List ℕ) (d : Decoded s hs xs ys cs) (js : 
   rule-three : pairsPass Gaps (headBy s) ts n ≡ gapsKept s (tied s js)
   rule-three = pairs-are Gaps (gapKept s) (λ i j. refl)
 
-  left-is : (k : ℕ) → leftOn (headBy s) xs js n k ≡ leftEnd s js k
+  pub left-is : (k : ℕ) → leftOn (headBy s) xs js n k ≡ leftEnd s js k
   left-is k =
       ap (λ (z : ℕ). cond (s .isTwoSided) 0 z)
       (ap (λ (g : ℕ → ℕ). leastBefore k (s .width) (λ i. getD js i 0) g n) (fun-ext (d .xs)) ∙ least-is k (s .width) (s .sites) js long)

@@ -41,7 +41,7 @@ fn is_among(a: Among, colours: &[u32], i: usize) -> bool
 }
 
 // Whether a site before i, of those that are counted, has a slot. No branch: several sites are looked at at a time.
-fn is_taken(a: Among, colours: &[u32], ties: &[u32], slot: u32, i: usize) -> bool
+pub fn is_taken(a: Among, colours: &[u32], ties: &[u32], slot: u32, i: usize) -> bool
     requires { ⌜ (i ≤ length (now colours)) × (i ≤ length (now ties)) ⌝ }
     ensures { λ r. ⌜ r ≡ isTaken (amongBy a (now (colours .entry))) (tiesIn (now (ties .entry))) slot i ⌝ }
 {

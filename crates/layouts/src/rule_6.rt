@@ -19,7 +19,7 @@ use words::same;
 use words::tied::Head;
 
 // The left end of a slot's label.
-fn left_end(h: Head, slot: u32, xs: &[u32], ties: &[u32]) -> u32
+pub fn left_end(h: Head, slot: u32, xs: &[u32], ties: &[u32]) -> u32
     requires { ⌜ length (now ties) ≤ length (now xs) ⌝ }
     ensures { λ r. ⌜ r ≡ leftOn h (now (xs .entry)) (tiesIn (now (ties .entry))) (length (now (ties .entry))) slot ⌝ }
 {

@@ -94,10 +94,6 @@ module _ (ws : List ℕ) (h : storedFault ws ≡ 0) where
   both-long : length ws ≡ length ss + length b
   both-long = ap length (sym parts) ∙ length-append ss b
 
-  -- the layout begins within
-  pub start-in : length ss < length ws
-  start-in = omega (arith, both-long, some ss b accepted in-form)
-
   -- so few words that their number fits
   pub few : length ws ≤ topWord
   few = omega (arith, both-long, few-words ss accepted, formed (sheetIn ss) b in-form .long, sound ss accepted .few-sites)

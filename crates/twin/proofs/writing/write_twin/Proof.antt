@@ -1,13 +1,14 @@
 use borrow.Author.Tests.{not-true, not-false}
 use Rattle.labelling.specs.Layout.{lengthOf, firstWord, statedCount, layoutTies}
 use Rattle.labelling.specs.Twin.{asOneSided}
+use Rattle.labelling.proofs.Stored.{stored-within}
 use Rattle.labelling.proofs.Twin.{same-words}
 use Rattle.decoding.specs.Decoding.{LayoutRead}
 use Rattle.decoding.proofs.Places.{sheet-read}
 use mathlib.Core.Path.{ap₂, subst⁻¹}
 use Rattle.sheet.specs.Sheet.{Sheet}
 use Rattle.judge.proofs.opened.Opening.{stored-start, stored-part, stored-numbers, stored-read}
-use Rattle.twin.proofs.Stored.{start-in, side-is, two-words}
+use Rattle.twin.proofs.Stored.{side-is, two-words}
 use mathlib.Core.Path.{refl, ap, sym, _∙_}
 use mathlib.Core.List.{List, _++_}
 use Prim.Native.Nat.{ℕ, _≤_}
@@ -25,7 +26,7 @@ begin c = c .before .before .before .before .before .before .before .before
 starts : (c : tie.After-struct-known) → begin c .args .opened .at ≤ length (begin c .args .stored .now)
 starts c =
     let s = begin c .args .stored .now in
-    omega (arith, start-in s (begin c .pre .1 .0), stored-start s (begin c .pre .0))
+    omega (arith, stored-within s (begin c .pre .1 .0), stored-start s (begin c .pre .0))
 
 copy-requires : tie.Need-copy-requires
 copy-requires c κs = search needs
@@ -63,14 +64,14 @@ twin-first-requires c κs =
 
 shared-slice-read-twin-head : tie.Need-shared-slice-read-twin-head
 shared-slice-read-twin-head c =
-    omega (arith, start-in (begin (c .before .before .before .before) .args .stored .now) (begin (c .before .before .before .before) .pre .1 .0))
+    omega (arith, stored-within (begin (c .before .before .before .before) .args .stored .now) (begin (c .before .before .before .before) .pre .1 .0))
 
 twin-head-requires : tie.Need-twin-head-requires
 twin-head-requires c κs = search needs
 
 slice-write-out : tie.Need-slice-write-out
 slice-write-out c =
-    omega (arith, c .before .before .before .before .before .before .before .before .before .copy .kept .1 .0, begin (c .before .before .before .before .before) .pre .1 .1, start-in (begin (c .before .before .before .before .before) .args .stored .now) (begin (c .before .before .before .before .before) .pre .1 .0))
+    omega (arith, c .before .before .before .before .before .before .before .before .before .copy .kept .1 .0, begin (c .before .before .before .before .before) .pre .1 .1, stored-within (begin (c .before .before .before .before .before) .args .stored .now) (begin (c .before .before .before .before .before) .pre .1 .0))
 
 mul-out : tie.Need-mul-out
 mul-out c =
@@ -78,7 +79,7 @@ mul-out c =
 
 slice-write-out-2 : tie.Need-slice-write-out-2
 slice-write-out-2 c =
-    omega (arith, length-set (c .before .before .before .before .before .before .before .before .before .copy .last .1 .0) 0 (c .twin-head .result), c .before .before .before .before .before .before .before .before .before .copy .kept .1 .0, begin (c .before .before .before .before .before) .pre .1 .1, start-in (begin (c .before .before .before .before .before) .args .stored .now) (begin (c .before .before .before .before .before) .pre .1 .0), stored-start (begin (c .before .before .before .before .before) .args .stored .now) (begin (c .before .before .before .before .before) .pre .0))
+    omega (arith, length-set (c .before .before .before .before .before .before .before .before .before .copy .last .1 .0) 0 (c .twin-head .result), c .before .before .before .before .before .before .before .before .before .copy .kept .1 .0, begin (c .before .before .before .before .before) .pre .1 .1, stored-within (begin (c .before .before .before .before .before) .args .stored .now) (begin (c .before .before .before .before .before) .pre .1 .0), stored-start (begin (c .before .before .before .before .before) .args .stored .now) (begin (c .before .before .before .before .before) .pre .0))
 
 same-length-2 : tie.Need-same-length-2
 same-length-2 c = search needs
