@@ -1,5 +1,5 @@
-// The C interface: reader, judge, layout maker and twin tool. Their structs are laid out as C has them.
-// Each contract has the call's equations, and then what demands 1, 2 and 3, or the promises about the twin, conclude of it
+// The C interface: reader, judge, layout maker, twin tool and strokes. Their structs are laid out as C has them.
+// Each contract has the call's equations, and then what demands 1, 2 and 3, or the promises about the twin and the strokes, conclude of it
 // (demands/specs/Demands).
 ghost use mathlib.Core.Path.{_≡_};
 ghost use Rattle.reader.specs.Read.{readPost};
@@ -7,8 +7,12 @@ ghost use Rattle.judge.specs.Judge.{judgePost};
 ghost use Rattle.labelling.specs.Entry.{makeFault, makeAnswer, makeWork};
 ghost use Rattle.labelling.specs.Twin.{twinArea};
 ghost use Rattle.twin.specs.Twin.{twinPost};
-ghost use Rattle.demands.specs.Demands.{ServedByReader, ServedByJudge, TrueVerdict, Served, ContentsApart, BestOfLawful, ServedByTwin};
+ghost use Rattle.points.specs.Strokes.{flatOf};
+ghost use Rattle.strokes.specs.Strokes.{strokePost};
+ghost use Rattle.demands.specs.Demands.{ServedByReader, ServedByJudge, TrueVerdict, Served, ContentsApart, BestOfLawful, ServedByTwin, ServedByStrokes};
 use judge::Verdict;
+use points::flat::FlatStroke;
+use points::flat::flat_stroke;
 use reader::Sizes;
 use twin::Written;
 
@@ -50,4 +54,12 @@ pub extern "C" fn backbone_twin(stored: &[u32], out: &mut [u32]) -> Written
     ensures { λ r. ⌜ ServedByTwin (now (stored .entry)) (now (out .entry)) r (now (out .exit)) ⌝ }
 {
     twin::make_twin(stored, out)
+}
+
+#[no_mangle]
+pub extern "C" fn backbone_stroke_at(stored: &[u32], place: usize) -> FlatStroke
+    ensures { λ r. ⌜ r ≡ flatOf (strokePost (now (stored .entry)) place) ⌝ }
+    ensures { λ r. ⌜ ServedByStrokes (now (stored .entry)) place r (now (stored .exit)) ⌝ }
+{
+    flat_stroke(strokes::stroke_at(stored, place))
 }

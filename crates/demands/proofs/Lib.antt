@@ -1,3 +1,4 @@
 pub mod Layouts
 pub mod Demands
 pub mod Twin
+pub mod Strokes

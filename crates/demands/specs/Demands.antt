@@ -1,27 +1,32 @@
 -- THE THREE DEMANDS, each as one statement about any call that meets the contract of the reader, the layout maker or the judge; and
--- beside them what is promised of the twin tool's.
+-- beside them what is promised of the twin tool's and of a stroke's.
 -- What a demand concludes of one call is a record; the contracts of the C interface (crate cabi) state these records of their calls.
--- ws: the sheet's words (the stored sheet's, for the judge and the twin), ws' after the call; k, o: work and answer area, k', o' after it;
--- r: what it returns.
+-- ws: the sheet's words (the stored sheet's, for the judge, the twin and a stroke), ws' after the call; k, o: work and answer area, k', o'
+-- after it; i: a stroke's place; r: what it returns.
 -- Assumes nothing: these are definitions; the proofs stand in proofs/Demands.
 use mathlib.Core.Path.{_≡_}
 use mathlib.Core.Logic.{_⊎_, _↔_}
 use mathlib.Core.Bool.{true, false}
 use mathlib.Core.List.{List}
 use Prim.Native.Nat.{ℕ, _≤_, _<_}
-use lib.ListN.{length, take, drop}
+use lib.ListN.{length, getD, take, drop}
 use Rattle.sheet.specs.Sheet.{Sheet, sheetIn, sheetFault, productOf, workFor}
 use Rattle.labelling.specs.Layout.{wordsFor, isLawful, sheetPart, layoutPart, layoutTies, judgeFault}
 use Rattle.labelling.specs.Lawful.{Ties, Rules, LayoutOf, Lawful, LeastBroken, Better}
 use Rattle.labelling.specs.Entry.{Serves, cleared, makeFault, makeAnswer, makeWork}
 use Rattle.labelling.specs.Promise.{areWords, same, isBeaten, PartsFound}
 use Rattle.labelling.specs.Twin.{twinArea, TwinOf, TwinOfTwin, BestNotWorse}
+use Rattle.labelling.specs.Strokes.{strokesIn, noStroke, StrokesAddUp}
 use Rattle.reader.specs.declared.Sizes.{Sizes}
 use Rattle.reader.specs.Read.{readPost, refusedOf, eightOf}
 use Rattle.judge.specs.declared.Verdict.{Verdict}
 use Rattle.judge.specs.Judge.{judgePost}
 use Rattle.twin.specs.declared.Written.{Written}
 use Rattle.twin.specs.Twin.{twinPost}
+use Rattle.points.specs.declared.flat.FlatStroke.{FlatStroke}
+use Rattle.points.specs.Points.{PointsExact}
+use Rattle.points.specs.Strokes.{flatRefusal, flatOf, IsStroke}
+use Rattle.strokes.specs.Strokes.{strokePost}
 
 -- CALLS: what the contracts say of one call of the reader, the maker and the judge
 abbrev pub WasRead : (ws : List ℕ) → Sizes → (ws' : List ℕ) → Type 0
@@ -35,6 +40,9 @@ WasJudged ws r ws' = (r ≡ judgePost ws) × (ws' ≡ ws)
 
 abbrev pub WasTwinned : (ws o : List ℕ) → Written → (o' : List ℕ) → Type 0
 WasTwinned ws o r o' = (r ≡ twinPost ws o) × (o' ≡ twinArea ws o)
+
+abbrev pub WasDrawn : (ws : List ℕ) → (i : ℕ) → FlatStroke → (ws' : List ℕ) → Type 0
+WasDrawn ws i r ws' = (r ≡ flatOf (strokePost ws i)) × (ws' ≡ ws)
 
 -- the layout in the answer area: its first n + 1 words
 abbrev pub layoutIn : (ws o : List ℕ) → List ℕ
@@ -154,3 +162,20 @@ pub record TwinPromised : Type 0 where
   pub served : (ws o : List ℕ) (r : Written) (o' : List ℕ) → WasTwinned ws o r o' → ServedByTwin ws o r o'
   pub again : TwinOfTwin
   pub best : BestNotWorse
+
+-- A STROKE (document 02, (a)), of one call for that of a place, by its outcome: 1 to 7 or 11 as the judge; 13, the layout isn't lawful; 14, the
+-- place is past the last stroke; zeros stand beside each. Or the stroke of that place, each float exactly an eighth of its whole number. It
+-- changes nothing
+pub record ServedByStrokes (ws : List ℕ) (i : ℕ) (r : FlatStroke) (ws' : List ℕ) : Type 0 where
+  pub judge : 0 < judgeFault ws → r ≡ flatRefusal (judgeFault ws)
+  pub unlawful : judgeFault ws ≡ 0 → (Lawful (storedSheet ws) (layoutPart ws) → ⊥) → r ≡ flatRefusal 13
+  pub past : judgeFault ws ≡ 0 → Lawful (storedSheet ws) (layoutPart ws) → length (strokesIn ws) ≤ i → r ≡ flatRefusal 14
+  pub given : judgeFault ws ≡ 0 → Lawful (storedSheet ws) (layoutPart ws) → i < length (strokesIn ws) →
+      (r .refusal ≡ 0) × IsStroke r (getD (strokesIn ws) i noStroke)
+  pub unchanged : ws' ≡ ws
+
+-- of every call; the list has the labels, the drops and the length that the layout states, within the drawing; and points are exact
+pub record StrokesPromised : Type 0 where
+  pub served : (ws : List ℕ) (i : ℕ) (r : FlatStroke) (ws' : List ℕ) → WasDrawn ws i r ws' → ServedByStrokes ws i r ws'
+  pub add-up : StrokesAddUp
+  pub exact : PointsExact

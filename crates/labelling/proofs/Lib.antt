@@ -21,3 +21,4 @@ pub mod Stored
 pub mod Verdict
 pub mod Words
 pub mod Twin
+pub mod Strokes

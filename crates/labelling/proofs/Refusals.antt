@@ -14,6 +14,7 @@ use Rattle.sheet.proofs.Refusals.{turned, after}
 use Rattle.labelling.specs.Layout.{isLayout, sheetPart, layoutPart, judgeRefusals, judgeFault, judged, storedRefusals, storedFault, best, wordsFor}
 use Rattle.labelling.specs.Entry.{isNone, makeFault}
 use Rattle.labelling.specs.Twin.{twinFaultIn}
+use Rattle.labelling.specs.Strokes.{strokesIn, strokeFault}
 
 -- one refusal more
 single : (b : Bool) (n : ℕ) → given (unless b n ∷ []) ≡ cond b 0 n
@@ -40,6 +41,10 @@ stored-chain ws =
 pub twin-chain : (ws : List ℕ) (n : ℕ) → twinFaultIn ws n ≡ cond (not (eqb (storedFault ws) 0)) (storedFault ws) (cond (leb (length ws) n) 0 9)
 twin-chain ws n =
     after 13 (storedRefusals ws) _ (stored-numbered ws) ∙ ap (cond (not (eqb (storedFault ws) 0)) (storedFault ws)) (single (leb (length ws) n) 9)
+
+pub stroke-chain : (ws : List ℕ) (i : ℕ) → strokeFault ws i ≡ cond (not (eqb (storedFault ws) 0)) (storedFault ws) (cond (ltb i (length (strokesIn ws))) 0 14)
+stroke-chain ws i =
+    after 13 (storedRefusals ws) _ (stored-numbered ws) ∙ ap (cond (not (eqb (storedFault ws) 0)) (storedFault ws)) (single (ltb i (length (strokesIn ws))) 14)
 
 -- the maker's own
 makes : (t w n b : Bool) → given (unless (not t) 18 ∷ unless w 8 ∷ unless n 9 ∷ unless (not b) 10 ∷ []) ≡ cond t 18 (cond (not w) 8 (cond (not n) 9 (cond b 10 0)))

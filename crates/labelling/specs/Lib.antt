@@ -5,3 +5,4 @@ pub mod Counted
 pub mod Promise
 pub mod Entry
 pub mod Twin
+pub mod Strokes

@@ -1,8 +1,8 @@
 use Prim.Native.Nat.{_+_, _-_, _≤_}
 use lib.ListN.{length}
 use borrow.Author.Needs.{needs}
-use Rattle.try_judge.proofs.judge_lines.Statement.{statement}
-use Rattle.try_judge.proofs.judge_lines.Tie as tie
+use Rattle.try_stored.proofs.judge_lines.Statement.{statement}
+use Rattle.try_stored.proofs.judge_lines.Tie as tie
 
 abbrev Inv-loop : tie.InvT-loop
 Inv-loop text from₀ from = from ≤ length text + 1

@@ -1,0 +1,5 @@
+pub mod Drawn
+mod Examples
+mod Placed
+mod Read
+mod Sought
