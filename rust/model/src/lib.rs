@@ -8,6 +8,7 @@
 //! - [`ranked`]: the best and the second best, by a search that leaves a branch early;
 //! - [`maker`]: the best layout of a one-sided sheet by a table and a walk, in the caller's areas;
 //! - [`twin`]: the one-sided twin of a stored sheet;
+//! - [`strokes`]: what a viewer draws of a stored sheet;
 //! - [`program`]: what the program prints;
 //! - [`random`]: random sheets, and damage to them;
 //! - [`nested`]: random sheets that are aimed at a depth;
@@ -28,4 +29,5 @@ pub mod rounding;
 pub mod rules;
 pub mod search;
 pub mod sheet;
+pub mod strokes;
 pub mod twin;

@@ -19,7 +19,8 @@ impl<'a> Ties<'a> {
         Ties { sheet, slot_of, left_end }
     }
 
-    fn used(&self) -> impl Iterator<Item = (usize, u32)> + '_ {
+    /// The slots in use with their left ends, by rising slot.
+    pub fn used(&self) -> impl Iterator<Item = (usize, u32)> + '_ {
         let ends = self.left_end.iter().enumerate();
         ends.filter_map(|(slot, end)| end.map(|end| (slot, end)))
     }
@@ -100,6 +101,15 @@ pub fn verdict(sheet: &Sheet, slot_of: &[usize], stated: (u32, u32)) -> u8 {
     match ties.broken() {
         0 if ties.numbers() != stated => 6,
         rule => rule,
+    }
+}
+
+/// The sheet of a stored sheet and its ties, where the layout is lawful; refusals 1 to 7 and 11, then 13.
+pub fn lawful(stored: &[u32]) -> Result<(Sheet, Vec<usize>), u8> {
+    let (sheet, slot_of, stated) = split(stored)?;
+    match verdict(&sheet, &slot_of, stated) {
+        0 => Ok((sheet, slot_of)),
+        _ => Err(13),
     }
 }
 

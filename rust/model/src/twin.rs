@@ -1,7 +1,7 @@
 //! The one-sided twin of a stored sheet: its sheet with a one-sided head, its ties, and the count and length that are
 //! then true. Both parts are written anew from what was read, so no word is taken over.
 
-use crate::rules::{layout_words, split, verdict};
+use crate::rules::{lawful, layout_words};
 
 /// The refusal, 0 if there is none, and how many words were written from the start of the area, 0 beside a refusal.
 ///
@@ -20,10 +20,7 @@ pub fn twin(stored: &[u32], area: &mut [u32]) -> (u8, usize) {
 
 /// The words of the twin.
 pub fn words(stored: &[u32]) -> Result<Vec<u32>, u8> {
-    let (sheet, slot_of, stated) = split(stored)?;
-    if verdict(&sheet, &slot_of, stated) != 0 {
-        return Err(13);
-    }
+    let (sheet, slot_of) = lawful(stored)?;
     let sheet = sheet.one_sided();
     Ok([sheet.words(), layout_words(&sheet, &slot_of)].concat())
 }
