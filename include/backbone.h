@@ -39,7 +39,14 @@ enum {
     BACKBONE_BAD_LAYOUT = 11,       /* the stored sheet has no layout, or one that is not in its form */
     BACKBONE_BAD_INPUT = 12,        /* more than 1,024 bytes or not whole words */
     BACKBONE_UNLAWFUL = 13,         /* the layout breaks a rule: the judge's answer is not 0 */
+    BACKBONE_PAST_LAST_STROKE = 14, /* the place is past the last stroke */
     BACKBONE_TWO_SIDED = 18         /* the sheet is two-sided: such sheets are no longer laid out */
+};
+
+/* Kinds of strokes. */
+enum {
+    BACKBONE_BONE = 0, /* a backbone */
+    BACKBONE_DROP = 1
 };
 
 /* A colour's label bound and its number of sites; both 0 for a colour that the sheet doesn't have. */
@@ -71,6 +78,15 @@ typedef struct {
     uint32_t written;
 } backbone_written;
 
+/* A stroke of a stored sheet, from its first end to its second. Coordinates are in printer's points, eight units each, and
+ * exact: eight times each is a whole number, and zero is plus zero. Beside a refusal all else is 0. */
+typedef struct {
+    uint8_t refusal;
+    uint8_t kind;
+    float x0, y0; /* a backbone's left end, a drop's site */
+    float x1, y1; /* a backbone's right end, which is at the width; a drop's end on its backbone */
+} backbone_stroke;
+
 /* Reads a sheet, one-sided or two-sided: refusals 1 to 7. */
 backbone_sizes backbone_read(const uint32_t *sheet, size_t len);
 
@@ -87,6 +103,11 @@ uint32_t backbone_make(const uint32_t *sheet, size_t len, uint32_t *work, size_t
  * and the length differ, and the length is the true one; a lawful one-sided sheet comes back word for word. A refusal
  * changes nothing in out; words past the twin stay as they were. */
 backbone_written backbone_twin(const uint32_t *stored, size_t len, uint32_t *out, size_t out_len);
+
+/* The stroke of a stored sheet at a place, for a viewer to draw: refusals 1 to 7 and 11 as the judge gives them, then 13,
+ * then 14. Backbones come first, by rising slot, then drops in sheet order; a site on its backbone has none. Places count
+ * from 0: who draws all strokes asks for 0, 1, 2 and so on until 14 comes back. */
+backbone_stroke backbone_stroke_at(const uint32_t *stored, size_t len, size_t place);
 
 #ifdef __cplusplus
 }

@@ -1,7 +1,7 @@
 //! Where a refusal comes from. The library says which refusal applies; this says by which words, slots, colours or
 //! sites, in words.
 
-use crate::{faults, judge, split_stored, Fault, Refusal, Rule, Stored, Word};
+use crate::{faults, judge, split_stored, strokes, Fault, Refusal, Rule, Stored, Word};
 use crate::{MOST_BUDGETS, MOST_COLOURS, MOST_SITES, MOST_SLOTS};
 use std::fmt;
 
@@ -34,12 +34,14 @@ pub enum Cause {
     NoSlot { site: usize, slot: u8, slots: usize },
     /// Refusal 13: the judge's rule, and a place at which it is broken.
     Broken { rule: Rule, fault: Fault },
+    /// Refusal 14: how many strokes there are.
+    Strokes { count: usize },
     /// Refusal 18: the head.
     TwoSided { head: u32 },
 }
 
-/// What a refusal comes from: of a sheet for refusals 1 to 7 and 18, of a stored sheet for 11 and 13; nothing for the
-/// others, which come from areas, from bytes or from the sheet as a whole.
+/// What a refusal comes from: of a sheet for refusals 1 to 7 and 18, of a stored sheet for 11, 13 and 14; nothing for
+/// the others, which come from areas, from bytes or from the sheet as a whole.
 ///
 /// ```
 /// use backbone::{causes, read, Word};
@@ -58,6 +60,7 @@ pub fn causes(words: &[u32], refusal: Refusal) -> Vec<Cause> {
         Refusal::TooManyBudgets => budgets(&Parts::of(words)),
         Refusal::BadLayout => bad_layout(words),
         Refusal::Unlawful => broken(words),
+        Refusal::PastLastStroke => past_last_stroke(words),
         Refusal::TwoSided => two_sided(words),
         Refusal::WorkTooShort | Refusal::AnswerTooShort | Refusal::NoLayout | Refusal::BadInput => Vec::new(),
     }
@@ -188,6 +191,11 @@ fn broken(stored: &[u32]) -> Vec<Cause> {
     faults(&sheet, &layout, rule).into_iter().map(|fault| Cause::Broken { rule, fault }).collect()
 }
 
+/// Nothing where there are no strokes to ask for.
+fn past_last_stroke(stored: &[u32]) -> Vec<Cause> {
+    strokes(stored).map(|all| Cause::Strokes { count: all.count() }).into_iter().collect()
+}
+
 fn two_sided(words: &[u32]) -> Vec<Cause> {
     let two_sided = words.first().filter(|head| **head >> 27 & 1 == 1);
     two_sided.map(|head| Cause::TwoSided { head: *head }).into_iter().collect()
@@ -240,6 +248,7 @@ impl fmt::Display for Cause {
                 write!(out, "site {site} is tied to slot {slot}, and the sheet has {slots} slots")
             }
             Cause::Broken { rule, fault } => write!(out, "rule {}: {fault}", rule.number()),
+            Cause::Strokes { count } => write!(out, "strokes: {count}; places count from 0"),
             Cause::TwoSided { head } => write!(out, "word 0 is 0x{head:08X}, a two-sided head"),
         }
     }

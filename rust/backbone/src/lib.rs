@@ -22,8 +22,9 @@
 //! # Ok::<(), Box<dyn std::error::Error>>(())
 //! ```
 //!
-//! [`read`], [`make`], [`judge`] and [`twin`] are the library's own operations, on lists of words. [`Sheet`] builds such
-//! lists, [`Layout`] takes answers apart, [`Stored`] is a sheet with a layout, [`Word`] names the fields of one word.
+//! [`read`], [`make`], [`judge`], [`twin`] and [`stroke_at`] are the library's own operations, on lists of words. [`Sheet`]
+//! builds such lists, [`Layout`] takes answers apart, [`Stored`] is a sheet with a layout, [`Word`] names the fields of one
+//! word. [`strokes`] are what a viewer draws of a stored sheet.
 //! [`labels`] are a layout's used slots, [`faults`] the places at which it breaks a rule, [`causes`] the words that a
 //! refusal comes from. [`WorkArea`] lays out many sheets in one area.
 //!
@@ -43,6 +44,7 @@ mod refusal;
 mod rule;
 mod sheet;
 mod stored;
+mod stroke;
 mod word;
 mod work_area;
 
@@ -50,11 +52,12 @@ pub use cause::{causes, Cause};
 pub use fault::{faults, Fault};
 pub use label::{labels, true_numbers, Label};
 pub use layout::Layout;
-pub use library::{judge, lay_out, make, read, twin, twin_words, ColourSizes, Sizes};
+pub use library::{judge, lay_out, make, read, stroke_at, twin, twin_words, ColourSizes, Sizes};
 pub use refusal::Refusal;
 pub use rule::Rule;
 pub use sheet::{Sheet, Site};
 pub use stored::{split_stored, Stored};
+pub use stroke::{strokes, End, Stroke, Strokes};
 pub use word::{Aim, FormError, Side, Word};
 pub use work_area::{NotLaidOut, WorkArea};
 

@@ -1,6 +1,6 @@
 //! The library's operations on slices. All code of this crate that is not safe stands here.
 
-use crate::{Layout, NotLaidOut, Refusal, Rule, WorkArea, MOST_COLOURS};
+use crate::{End, Layout, NotLaidOut, Refusal, Rule, Stroke, WorkArea, MOST_COLOURS};
 
 /// A colour's label bound (255: unbounded) and its number of sites.
 #[repr(C)]
@@ -33,6 +33,16 @@ struct RawWritten {
     written: u32,
 }
 
+#[repr(C)]
+struct RawStroke {
+    refusal: u8,
+    kind: u8,
+    x0: f32,
+    y0: f32,
+    x1: f32,
+    y1: f32,
+}
+
 extern "C" {
     fn backbone_read(sheet: *const u32, len: usize) -> RawSizes;
     fn backbone_judge(stored: *const u32, len: usize) -> RawVerdict;
@@ -45,6 +55,7 @@ extern "C" {
         out_len: usize,
     ) -> u32;
     fn backbone_twin(stored: *const u32, len: usize, out: *mut u32, out_len: usize) -> RawWritten;
+    fn backbone_stroke_at(stored: *const u32, len: usize, place: usize) -> RawStroke;
 }
 
 /// What the reader says of a sheet that it accepts.
@@ -72,7 +83,7 @@ impl Sizes {
 fn refusal(number: u32) -> Result<(), Refusal> {
     match number {
         0 => Ok(()),
-        _ => Err(Refusal::from_number(number).expect("the library gives refusals 1 to 11, 13 and 18")),
+        _ => Err(Refusal::from_number(number).expect("the library gives refusals 1 to 11, 13, 14 and 18")),
     }
 }
 
@@ -182,4 +193,26 @@ pub fn twin_words(stored: &[u32]) -> Result<Vec<u32>, Refusal> {
     let written = twin(stored, &mut words)?;
     words.truncate(written);
     Ok(words)
+}
+
+/// The stroke of a stored sheet at a place, which counts from 0; or one of the refusals 1 to 7, 11, 13 and, past the last
+/// stroke, 14. [`strokes`](crate::strokes()) gives them all.
+///
+/// ```
+/// use backbone::{stroke_at, End, Refusal, Stroke};
+/// let stored = [0x10008008, 0x20000002, 0x300000FF, 0x40008004, 0x80200008, 0x90000000];
+/// let drop = Stroke::Drop { from: End { x: 0.25, y: 0.5 }, to: End { x: 0.25, y: 0.25 } };
+/// assert_eq!(stroke_at(&stored, 1), Ok(drop));
+/// assert_eq!(stroke_at(&stored, 2), Err(Refusal::PastLastStroke));
+/// ```
+pub fn stroke_at(stored: &[u32], place: usize) -> Result<Stroke, Refusal> {
+    // SAFETY: the pointer and the length are those of a slice, which the library only reads.
+    let stroke = unsafe { backbone_stroke_at(stored.as_ptr(), stored.len(), place) };
+    refusal(u32::from(stroke.refusal))?;
+    let (from, to) = (End { x: stroke.x0, y: stroke.y0 }, End { x: stroke.x1, y: stroke.y1 });
+    match stroke.kind {
+        0 => Ok(Stroke::Bone { from, to }),
+        1 => Ok(Stroke::Drop { from, to }),
+        kind => unreachable!("the library gives kinds 0 and 1, not {kind}"),
+    }
 }

@@ -9,7 +9,7 @@ numbered! {
     /// assert_eq!(Refusal::from_number(10), Some(Refusal::NoLayout));
     /// assert_eq!(Refusal::NoLayout.to_string(), "no layout obeys rules 1 to 5");
     /// ```
-    Refusal, 14:
+    Refusal, 15:
     NoHead = 1, "the list is empty, or its first word is no head, or its width or gap is 0";
     BadWord = 2, "a word of another kind, out of its order, or with a spare bit set";
     TooMany = 3, "more than 48 slots, 8 colours or 32 sites";
@@ -23,6 +23,7 @@ numbered! {
     BadLayout = 11, "there is no layout, or it is not one tie to a slot for each site";
     BadInput = 12, "more than 1,024 bytes, or not whole words";
     Unlawful = 13, "the layout breaks a rule";
+    PastLastStroke = 14, "the place is past the last stroke";
     TwoSided = 18, "the sheet is two-sided, and such sheets are no longer laid out";
 }
 

@@ -1,4 +1,4 @@
-use crate::{judge, twin_words, Layout, Refusal, Rule, Sheet, Word};
+use crate::{judge, strokes, twin_words, Layout, Refusal, Rule, Sheet, Stroke, Word};
 
 /// A sheet with a layout of it, whoever made it.
 #[derive(Clone, Debug, PartialEq, Eq)]
@@ -38,6 +38,11 @@ impl Stored {
     /// ```
     pub fn twin(&self) -> Result<Stored, Refusal> {
         Stored::from_words(&twin_words(&self.words())?)
+    }
+
+    /// What a viewer draws, or one of the refusals 3 to 7, 11 and 13: see [`strokes`](crate::strokes()).
+    pub fn strokes(&self) -> Result<Vec<Stroke>, Refusal> {
+        Ok(strokes(&self.words())?.collect())
     }
 }
 

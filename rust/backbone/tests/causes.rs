@@ -1,7 +1,7 @@
 //! Every refusal of words has its causes, and each cause is there in the words.
 
-use backbone::{causes, judge, read, split_stored, Cause, Refusal, Rule};
-use model::random::{any_list, damage, invented_layout, small_sheet, Random};
+use backbone::{causes, judge, read, split_stored, stroke_at, Cause, Refusal, Rule};
+use model::random::{any_list, any_stored, damage, invented_layout, small_sheet, Random};
 
 /// The words of a kind, as they come.
 fn of_kind(words: &[u32], kind: u32) -> Vec<u32> {
@@ -36,6 +36,7 @@ fn holds(cause: &Cause, words: &[u32]) -> bool {
             split_stored(words).1[site + 1] == 9 << 28 | u32::from(*slot) && usize::from(*slot) >= *slots
         }
         Cause::Broken { rule, .. } => model::rules::judge(words) == (0, rule.number()),
+        Cause::Strokes { count } => model::strokes::strokes(words).is_ok_and(|all| all.len() == *count),
         Cause::TwoSided { head } => words[0] == *head && head >> 27 & 1 == 1,
     }
 }
@@ -112,6 +113,21 @@ fn unlawful_layouts_have_their_causes() {
 }
 
 #[test]
+fn places_past_the_last_stroke_have_their_cause() {
+    let mut random = Random::new(95);
+    let mut met = 0;
+    for _ in 0..2_000 {
+        let stored = any_stored(&mut random);
+        let causes = causes(&stored, Refusal::PastLastStroke);
+        let is_refused = stroke_at(&stored, usize::MAX) == Err(Refusal::PastLastStroke);
+        assert_eq!(causes.len(), usize::from(is_refused), "{stored:x?}");
+        assert!(causes.iter().all(|cause| holds(cause, &stored)), "{causes:?} {stored:x?}");
+        met += causes.len();
+    }
+    assert!(met > 200, "{met}");
+}
+
+#[test]
 fn causes_in_words() {
     let first = |words: &[u32], refusal: Refusal| causes(words, refusal)[0].to_string();
     assert_eq!(first(&[], Refusal::NoHead), "there is no word");
@@ -142,4 +158,7 @@ fn causes_in_words() {
     assert_eq!(first(&two_sided, Refusal::Unlawful), text);
     assert_eq!(causes(&two_sided[..4], Refusal::Unlawful), []);
     assert_eq!(causes(&stored, Refusal::TwoSided), []);
+    let lawful = [&stored[..5], &[0x90000000]].concat();
+    assert_eq!(first(&lawful, Refusal::PastLastStroke), "strokes: 2; places count from 0");
+    assert_eq!(causes(&stored, Refusal::PastLastStroke), []);
 }

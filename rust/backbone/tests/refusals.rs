@@ -187,10 +187,10 @@ fn bad_layout() {
 #[test]
 fn numbers_and_words() {
     let numbers = Refusal::ALL.map(Refusal::number);
-    assert_eq!(numbers, [1, 2, 3, 4, 5, 6, 7, 8, 9, 10, 11, 12, 13, 18]);
+    assert_eq!(numbers, [1, 2, 3, 4, 5, 6, 7, 8, 9, 10, 11, 12, 13, 14, 18]);
     for refusal in Refusal::ALL {
         assert_eq!(Refusal::from_number(refusal.number().into()), Some(refusal));
         assert!(!refusal.to_string().is_empty());
     }
-    assert_eq!([0, 14, 17, 19].map(Refusal::from_number), [None; 4]);
+    assert_eq!([0, 15, 17, 19].map(Refusal::from_number), [None; 4]);
 }

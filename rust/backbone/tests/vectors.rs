@@ -3,7 +3,7 @@
 
 mod common;
 
-use backbone::{judge, read, Refusal, Rule};
+use backbone::{judge, read, stroke_at, Refusal, Rule};
 use common::vectors::{cases, shown, Case};
 use common::{make_in_dirt, twin_in_dirt};
 use model::random::Random;
@@ -22,6 +22,14 @@ fn sizes(words: &[u32]) -> String {
     })
 }
 
+/// A stroke with the bits of its floats.
+fn stroke(words: &[u32], place: usize) -> String {
+    told(stroke_at(words, place), |stroke| {
+        let [from, to] = stroke.ends();
+        format!("{} {}", stroke.name(), shown(&[from.x, from.y, to.x, to.y].map(f32::to_bits)))
+    })
+}
+
 /// What the library answers to a line; none for the program's.
 fn answer(case: &Case, random: &mut Random) -> Option<String> {
     let show = |words: Vec<u32>| shown(&words);
@@ -30,6 +38,7 @@ fn answer(case: &Case, random: &mut Random) -> Option<String> {
         ("make", [work, answer]) => told(make_in_dirt(&case.words, *work, *answer, random), show),
         ("judge", []) => told(judge(&case.words), |rule| rule.map_or(0, Rule::number).to_string()),
         ("twin", [area]) => told(twin_in_dirt(&case.words, *area, random), show),
+        ("stroke", [place]) => stroke(&case.words, *place),
         ("program", []) => return None,
         (operation, numbers) => panic!("line {}: no operation '{operation}' with numbers {numbers:?}", case.line),
     })
@@ -45,5 +54,5 @@ fn every_line_is_answered() {
             *met.entry(case.operation).or_insert(0) += 1;
         }
     }
-    assert!(met.len() == 4 && met.values().all(|lines| *lines > 100), "{met:?}");
+    assert!(met.len() == 5 && met.values().all(|lines| *lines > 100), "{met:?}");
 }
