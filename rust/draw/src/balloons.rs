@@ -2,6 +2,7 @@
 //! Places are in pixels from the drawing's upper left corner.
 
 use crate::area::Area;
+use crate::lines::Line;
 use crate::paint::reach;
 use crate::plan::Plan;
 use crate::scale::Scale;
@@ -72,14 +73,9 @@ fn point(scale: &Scale, x: u32, y: u32) -> Point {
 }
 
 fn strokes(plan: &Plan, scale: &Scale) -> Vec<Segment> {
-    let mut strokes = Vec::new();
-    for label in &plan.labels {
-        strokes.push((point(scale, label.left_end, label.height), point(scale, plan.sheet.width(), label.height)));
-        for site in label.sites.iter().map(|site| plan.sheet.sites()[*site]) {
-            strokes.push((point(scale, site.x, site.y), point(scale, site.x, label.height)));
-        }
-    }
-    strokes
+    let segment = |line: &Line| (point(scale, line.from.0, line.from.1), point(scale, line.to.0, line.to.1));
+    let lines = plan.lines.iter().flat_map(|label| std::iter::once(&label.backbone).chain(&label.drops));
+    lines.map(segment).collect()
 }
 
 impl Surroundings {

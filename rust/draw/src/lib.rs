@@ -25,6 +25,7 @@ mod column;
 pub mod examples;
 mod frame;
 mod heading;
+mod lines;
 mod marks;
 mod page;
 mod paint;

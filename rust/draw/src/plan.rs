@@ -1,14 +1,17 @@
-//! What is drawn: a sheet, its layout if there is one, its labels, and the judge's verdict.
+//! What is drawn: a sheet, its layout if there is one, its labels with their lines, and the judge's verdict.
 
+use crate::lines::{of_labels, of_strokes, LabelLines};
 use crate::page::Panel;
 use crate::{listed_sites, Side};
-use backbone::{faults, judge, labels, read, split_stored, Fault, Label, Layout, NotLaidOut};
+use backbone::{faults, judge, labels, read, split_stored, strokes, Fault, Label, Layout, NotLaidOut};
 use backbone::{Refusal, Rule, Sheet, WorkArea};
 
 pub struct Plan {
     pub sheet: Sheet,
     pub layout: Option<Layout>,
     pub labels: Vec<Label>,
+    /// Those of each label.
+    pub lines: Vec<LabelLines>,
     pub broken: Option<Rule>,
     pub faults: Vec<Fault>,
 }
@@ -22,14 +25,20 @@ impl Plan {
                 sheet: sheet.clone(),
                 layout: None,
                 labels: Vec::new(),
+                lines: Vec::new(),
                 broken: None,
                 faults: Vec::new(),
             });
         };
-        let broken = judge(&[words, layout.words()].concat())?;
+        let stored = [words, layout.words()].concat();
+        let broken = judge(&stored)?;
         let labels = labels(sheet, layout);
+        let lines = match broken {
+            None => of_strokes(sheet, &labels, strokes(&stored)?),
+            Some(_) => of_labels(sheet, &labels),
+        };
         let faults = broken.map_or_else(Vec::new, |rule| faults(sheet, layout, rule));
-        Ok(Plan { sheet: sheet.clone(), layout: Some(layout.clone()), labels, broken, faults })
+        Ok(Plan { sheet: sheet.clone(), layout: Some(layout.clone()), labels, lines, broken, faults })
     }
 
     /// One side of a comparison.

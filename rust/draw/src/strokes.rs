@@ -1,6 +1,7 @@
 //! Backbones and drops, in the sheet's own units.
 
 use crate::frame::Frame;
+use crate::lines::{LabelLines, Line};
 use crate::paint::{paint, HIGHLIGHT};
 use crate::plan::Plan;
 use crate::text::escape;
@@ -20,8 +21,8 @@ pub fn strokes(plan: &Plan, frame: &Frame, names: &Names, marked: &[usize]) -> S
         return String::new();
     }
     let mut inside = highlights(plan, frame, marked);
-    for label in &plan.labels {
-        inside.push_str(&label_strokes(plan, frame, label, &title(plan, label, names)));
+    for (label, lines) in plan.labels.iter().zip(&plan.lines) {
+        inside.push_str(&label_strokes(frame, label, lines, &title(plan, label, names)));
     }
     frame.in_units(" fill=\"none\"", &inside) + &dots(plan, frame)
 }
@@ -43,33 +44,33 @@ fn title(plan: &Plan, label: &Label, names: &Names) -> String {
     )
 }
 
-fn label_strokes(plan: &Plan, frame: &Frame, label: &Label, title: &str) -> String {
-    let (left, width, height) = (label.left_end, plan.sheet.width(), label.height);
+fn label_strokes(frame: &Frame, label: &Label, lines: &LabelLines, title: &str) -> String {
+    let Line { from: (left, height), to: (right, _) } = lines.backbone;
     let mut svg = format!(
-        "<g stroke=\"{}\"><title>{}</title>\n<path class=\"backbone\" d=\"M{left} {height}H{width}\" \
+        "<g stroke=\"{}\"><title>{}</title>\n<path class=\"backbone\" d=\"M{left} {height}H{right}\" \
          stroke-width=\"{}\"/>\n",
         paint(label.colour),
         escape(title),
         thickness(BACKBONE, frame.scale.unit_down())
     );
-    let drops: String = label.sites.iter().map(|site| drop_path(plan, *site, height)).collect();
+    let drops: String = lines.drops.iter().map(drop_path).collect();
     let thick = thickness(DROP, frame.scale.unit_across());
     let _ = writeln!(svg, "<path class=\"drop\" d=\"{drops}\" stroke-width=\"{thick}\"/></g>");
     svg
 }
 
-fn drop_path(plan: &Plan, site: usize, height: u32) -> String {
-    let site = plan.sheet.sites()[site];
-    format!("M{} {}V{height}", site.x, site.y)
+fn drop_path(drop: &Line) -> String {
+    let Line { from: (x, y), to: (_, height) } = drop;
+    format!("M{x} {y}V{height}")
 }
 
 /// Broad lines below the drops of marked sites.
 fn highlights(plan: &Plan, frame: &Frame, marked: &[usize]) -> String {
-    let of_label = |label: &Label| {
-        let sites: Vec<usize> = label.sites.iter().copied().filter(|site| marked.contains(site)).collect();
-        sites.into_iter().map(|site| drop_path(plan, site, label.height)).collect::<String>()
+    let of_label = |(label, lines): (&Label, &LabelLines)| {
+        let drops = label.sites.iter().zip(&lines.drops).filter(|(site, _)| marked.contains(site));
+        drops.map(|(_, drop)| drop_path(drop)).collect::<String>()
     };
-    let paths: String = plan.labels.iter().map(of_label).collect();
+    let paths: String = plan.labels.iter().zip(&plan.lines).map(of_label).collect();
     if paths.is_empty() {
         return paths;
     }
@@ -80,10 +81,10 @@ fn highlights(plan: &Plan, frame: &Frame, marked: &[usize]) -> String {
 /// A dot where a drop meets its backbone: the round ends of a line of no length.
 fn dots(plan: &Plan, frame: &Frame) -> String {
     let mut svg = String::new();
-    for label in &plan.labels {
-        let (y, stroke) = (number(frame.y(label.height)), paint(label.colour));
-        let x = |site: &usize| number(frame.x(plan.sheet.sites()[*site].x));
-        let points: String = label.sites.iter().map(|site| format!("M{} {y}h0", x(site))).collect();
+    for (label, lines) in plan.labels.iter().zip(&plan.lines) {
+        let stroke = paint(label.colour);
+        let point = |Line { to: (x, y), .. }: &Line| format!("M{} {}h0", number(frame.x(*x)), number(frame.y(*y)));
+        let points: String = lines.drops.iter().map(point).collect();
         let _ = writeln!(svg, "<path d=\"{points}\" stroke=\"{stroke}\"/>");
     }
     format!("<g stroke-width=\"{DOT}\" stroke-linecap=\"round\">\n{svg}</g>\n")

@@ -2,12 +2,12 @@
 
 mod common;
 
-use backbone::{judge, Layout, Rule, Sheet};
+use backbone::{judge, End, Layout, Rule, Sheet, Stroke};
 use common::{elements, example_names, example_picture, folder, hold_texts_apart, strokes, Element};
 use draw::{compare, examples, picture, sheet_and_layout, Options, Side};
-use model::random::{sheet_of, small_sheet, Random, Shape};
+use model::random::{any_stored, sheet_of, small_sheet, Random, Shape};
 use model::rounding::Rounding;
-use model::rules::layout_words;
+use model::rules::{lawful, layout_words};
 use model::sheet::read;
 
 #[test]
@@ -38,11 +38,32 @@ fn wanted(words: &[u32], slots: &[u8]) -> (Vec<[u32; 4]>, Vec<[u32; 4]>) {
     (backbones, drops)
 }
 
-/// Both panels of a picture, or the one.
+/// The strokes that the library gives for these ties, if they are lawful: backbones and drops, in units.
+fn proved(words: &[u32], slots: &[u8]) -> Option<[Vec<[u32; 4]>; 2]> {
+    let sheet = read(backbone::split_stored(words).0).unwrap();
+    let slot_of: Vec<usize> = slots.iter().map(|slot| usize::from(*slot)).collect();
+    let stored = [sheet.words(), layout_words(&sheet, &slot_of)].concat();
+    let (mut backbones, mut drops) = (Vec::new(), Vec::new());
+    for stroke in backbone::strokes(&stored).ok()? {
+        let [(x, y), (to_x, to_y)] = stroke.ends().map(End::units);
+        let of_kind = if matches!(stroke, Stroke::Bone { .. }) { &mut backbones } else { &mut drops };
+        of_kind.push([x, y, to_x, to_y]);
+    }
+    backbones.sort_unstable();
+    drops.sort_unstable();
+    Some([backbones, drops])
+}
+
+/// Both panels of a picture, or the one. Its lines are what the ties ask for, and where these are lawful the library's
+/// strokes: a site on its backbone has a line of no length, which is no stroke.
 fn hold_strokes(name: &str, panel: &[Element], words: &[u32], slots: &[u8]) {
     let (backbones, drops) = wanted(words, slots);
     assert_eq!(strokes(panel, "backbone"), backbones, "{name}");
     assert_eq!(strokes(panel, "drop"), drops, "{name}");
+    if let Some(proved) = proved(words, slots) {
+        let seen = drops.into_iter().filter(|[_, y, _, to_y]| y != to_y).collect();
+        assert_eq!([backbones, seen], proved, "{name}");
+    }
 }
 
 #[test]
@@ -189,6 +210,23 @@ fn texts_of_any_layout_do_not_overlap() {
         hold_texts_apart(&drawn);
         hold_strokes("any", &elements(&drawn), &words, &layout.unwrap().slots);
     }
+}
+
+/// Lawful layouts of sheets of either side.
+#[test]
+fn lawful_layouts_are_drawn_by_their_strokes() {
+    let mut random = Random::new(85);
+    let (mut sides, mut on_backbone) = ([0; 2], 0);
+    for _ in 0..4_000 {
+        let words = any_stored(&mut random);
+        let Ok((plain, slot_of)) = lawful(&words) else { continue };
+        let (sheet, layout) = sheet_and_layout(&words).unwrap();
+        let drawn = elements(&picture(&sheet, layout.as_ref(), &Options::default()).unwrap());
+        hold_strokes("lawful", &drawn, &words, &layout.unwrap().slots);
+        sides[usize::from(plain.two_sided)] += 1;
+        on_backbone += plain.sites.iter().zip(slot_of).filter(|(site, slot)| site.y == plain.slots[*slot]).count();
+    }
+    assert!(sides.iter().all(|pictures| *pictures > 100) && on_backbone > 100, "{sides:?} {on_backbone}");
 }
 
 #[test]
