@@ -4,7 +4,7 @@
 use crate::exit::{Exit, Failure};
 use crate::input::Source;
 use crate::output::{message, Output};
-use backbone::{causes, Refusal};
+use backbone::{causes, read, split_stored, Refusal};
 use sheet::json::quote;
 
 /// Tells a refusal of these words: the line `refused N`, or an object where JSON is asked for.
@@ -29,6 +29,18 @@ pub fn tell(
         message(advice);
     }
     Ok(Exit::Found)
+}
+
+/// Tells a refusal of a stored sheet. What the reader refuses is refused for the words of the sheet alone.
+pub fn tell_stored(
+    source: &Source,
+    stored: &[u32],
+    refusal: Refusal,
+    is_json: bool,
+    output: &mut Output,
+) -> Result<Exit, Failure> {
+    let (sheet, _) = split_stored(stored);
+    tell(source, if read(sheet).is_err() { sheet } else { stored }, refusal, is_json, output)
 }
 
 /// What can be done, where it is not plain from what the refusal comes from.

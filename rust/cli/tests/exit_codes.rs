@@ -42,6 +42,12 @@ fn wrong_use_is_2() {
         &["twin"],
         &["twin", "a", "b"],
         &["twin", "--to", "pdf", "-"],
+        &["strokes"],
+        &["strokes", "a", "b"],
+        &["strokes", "--format", "words", "-"],
+        &["strokes", "--place", "-"],
+        &["strokes", "--place", "-1", "-"],
+        &["strokes", "--place", "18446744073709551616", "-"],
         &["draw"],
         &["draw", "-o"],
         &["draw", "--rounded=yes", "-"],
@@ -81,7 +87,8 @@ fn texts_with_errors_are_3_with_line_and_column() {
         (b"<svg xmlns=\"http://www.w3.org/2000/svg\"/>", "line 1, column 1"),
     ];
     for (input, message) in cases {
-        for arguments in [&["lay-out", "-"][..], &["draw", "-"], &["twin", "-"], &["convert", "--to", "json", "-"]] {
+        let reading = [&["lay-out", "-"][..], &["draw", "-"], &["twin", "-"], &["strokes", "-"]];
+        for arguments in reading.into_iter().chain([&["convert", "--to", "json", "-"][..]]) {
             let run = run(arguments, input);
             assert_unreadable(&run, message);
             assert!(run.err.contains("standard input: ") && run.out.is_empty(), "{run:?}");
@@ -111,7 +118,7 @@ fn files_that_cannot_be_read_are_3() {
         cases.push((closed, "Permission denied"));
     }
     for (file, message) in cases {
-        for arguments in [&["lay-out"][..], &["draw"], &["twin"], &["convert", "--to", "text"]] {
+        for arguments in [&["lay-out"][..], &["draw"], &["twin"], &["strokes"], &["convert", "--to", "text"]] {
             let run = run(arguments.iter().copied().chain([&file[..]]), b"");
             assert_unreadable(&run, message);
             assert!(run.err.contains(&file), "{run:?}");

@@ -7,5 +7,6 @@ pub mod draw;
 pub mod lay_out;
 pub mod merge;
 pub mod shrink;
+pub mod strokes;
 pub mod twin;
 pub mod why;

@@ -5,9 +5,9 @@ use crate::commands::convert::FORMS;
 use crate::exit::{Exit, Failure};
 use crate::input::Source;
 use crate::output::Output;
-use crate::refused::tell;
+use crate::refused::tell_stored;
 use crate::subcommand::Subcommand;
-use backbone::{read, split_stored, twin_words};
+use backbone::twin_words;
 use sheet::{Form, Record};
 
 pub const SUBCOMMAND: Subcommand = Subcommand {
@@ -40,11 +40,6 @@ fn run(arguments: &Arguments, output: &mut Output) -> Result<Exit, Failure> {
             output.bytes(&sheet::write(&twin, form).unwrap_or_default())?;
             Ok(Exit::Done)
         }
-        Err(refusal) => {
-            // What the reader refuses is refused for the words of the sheet alone.
-            let (sheet, _) = split_stored(&record.words);
-            let words = if read(sheet).is_err() { sheet } else { &record.words };
-            tell(&source, words, refusal, form == Form::Json, output)
-        }
+        Err(refusal) => tell_stored(&source, &record.words, refusal, form == Form::Json, output),
     }
 }
