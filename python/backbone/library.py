@@ -6,13 +6,16 @@ import ctypes
 import os
 from array import array
 from functools import lru_cache
+from operator import index
 from pathlib import Path
-from typing import Any, Iterable, Optional, Tuple, Union
+from typing import Any, Iterable, List, Optional, Tuple, Union
 
-from .results import ColourSizes, Layout, Refusal, Refused, Rule, Sizes
+from .results import ColourSizes, Layout, Refusal, Refused, Rule, Sizes, Stroke
 
 MOST_COLOURS = 8
 MOST_SITES = 32
+_MOST_PLACE = ctypes.c_size_t(-1).value
+_KINDS = ("bone", "drop")
 _NAME = "libbackbone.so.0"
 
 Words = Union[bytes, Iterable[int]]
@@ -49,6 +52,12 @@ class _Written(ctypes.Structure):
     _fields_ = [("refusal", ctypes.c_uint8), ("written", ctypes.c_uint32)]
 
 
+class _Stroke(ctypes.Structure):
+    _fields_ = [("refusal", ctypes.c_uint8), ("kind", ctypes.c_uint8)] + [
+        (coordinate, ctypes.c_float) for coordinate in ("x0", "y0", "x1", "y1")
+    ]
+
+
 def _path() -> str:
     """The library in the folder that BACKBONE_LIBRARY names, or in that of ./install, or where the system has it."""
     named = os.environ.get("BACKBONE_LIBRARY")
@@ -73,6 +82,7 @@ def _library() -> ctypes.CDLL:
     library.backbone_make.argtypes = [words, count, words, count, words, count]
     library.backbone_make.restype = ctypes.c_uint32
     library.backbone_twin.argtypes, library.backbone_twin.restype = [words, count, words, count], _Written
+    library.backbone_stroke_at.argtypes, library.backbone_stroke_at.restype = [words, count, count], _Stroke
     return library
 
 
@@ -162,3 +172,35 @@ def twin(stored: Words, area: Optional[Area] = None) -> Tuple[int, ...]:
     written = _library().backbone_twin(words, len(words), area_words, len(area_words))
     _refuse(written.refusal)
     return tuple(area_words[: written.written])
+
+
+def _stroke_at(words: _Array, place: int) -> Stroke:
+    raw = _library().backbone_stroke_at(words, len(words), place)
+    _refuse(raw.refusal)
+    return Stroke(_KINDS[raw.kind], raw.x0, raw.y0, raw.x1, raw.y1)
+
+
+def stroke_at(stored: Words, place: int) -> Stroke:
+    """The stroke of a stored sheet at a place; refusals 1 to 7, 11, 13 and, past the last stroke, 14.
+
+    Places count from 0. What is no number of 64 bits is an OverflowError or a TypeError.
+    """
+    if not 0 <= index(place) <= _MOST_PLACE:
+        raise OverflowError(f"a place is from 0 to {_MOST_PLACE}, not {place}")
+    return _stroke_at(_copied(stored), place)
+
+
+def strokes(stored: Words) -> List[Stroke]:
+    """The strokes of a stored sheet, for a viewer to draw; refusals 1 to 7, 11 and 13.
+
+    Backbones come first, by rising slot, then drops in sheet order. A site on its backbone has no drop.
+    """
+    words = _copied(stored)
+    found: List[Stroke] = []
+    try:
+        while True:
+            found.append(_stroke_at(words, len(found)))
+    except Refused as refused:
+        if refused.refusal is not Refusal.PAST_LAST_STROKE:
+            raise
+    return found

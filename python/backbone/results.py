@@ -35,6 +35,7 @@ class Refusal(_Numbered):
     BAD_LAYOUT = 11, "there is no layout, or it is not one tie to a slot for each site"
     BAD_INPUT = 12, "more than 1,024 bytes, or not whole words"
     UNLAWFUL = 13, "the layout breaks a rule"
+    PAST_LAST_STROKE = 14, "the place is past the last stroke"
     TWO_SIDED = 18, "the sheet is two-sided, and such sheets are no longer laid out"
 
 
@@ -104,3 +105,18 @@ class Layout(NamedTuple):
     def words(self) -> Tuple[int, ...]:
         """The words of the layout; a sheet followed by them is a stored sheet."""
         return (8 << 28 | self.labels << 21 | self.length,) + tuple(9 << 28 | slot for slot in self.slots)
+
+
+class Stroke(NamedTuple):
+    """A straight line that a viewer draws: "bone", which is a backbone, or "drop", and its ends in printer's points.
+
+    Nothing is rounded: a point is eight units, and eight times each coordinate is a whole number.
+    """
+
+    kind: str
+    x0: float
+    """The first end: a backbone's left end, a drop's site."""
+    y0: float
+    x1: float
+    """The second end: a backbone's right end, a drop's end on its backbone."""
+    y1: float

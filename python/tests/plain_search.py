@@ -89,6 +89,15 @@ def count_and_length(sheet: Sheet, ties: Ties) -> Tuple[int, int]:
     return len(used), backbones + drops
 
 
+def strokes(sheet: Sheet, ties: Ties) -> List[Tuple[str, float, float, float, float]]:
+    """Backbones by slot, then drops by site, in points of eight units; a drop of zero gives none."""
+    used = [(left_end(sheet, ties, slot), sheet.slots[slot]) for slot in sorted(set(ties))]
+    bones = [("bone", left, height, sheet.width, height) for left, height in used]
+    tied = [(site, sheet.slots[slot]) for site, slot in zip(sheet.sites, ties)]
+    drops = [("drop", site.x, site.y, site.x, height) for site, height in tied if site.y != height]
+    return [(kind, x0 / 8, y0 / 8, x1 / 8, y1 / 8) for kind, x0, y0, x1, y1 in bones + drops]
+
+
 RULES = (shares_colour, keeps_bounds, keeps_apart, crosses_none, clears_sites)
 
 

@@ -4,10 +4,10 @@ import ctypes
 import unittest
 from array import array
 
-from backbone import Layout, Refusal, Refused, make, read, twin
+from backbone import Layout, Refusal, Refused, make, read, strokes, twin
 from backbone.library import _library
 
-from .test_drawn import REST, SHEET_A
+from .test_drawn import BONES_A, DROPS_A, REST, SHEET_A, STORED_A
 
 WORK, ANSWER, SPARE = 900, 4, 3
 DIRT = 0xDEADBEEF
@@ -74,6 +74,18 @@ class Areas(unittest.TestCase):
         self.assertEqual(library.backbone_judge(None, 0).refusal, Refusal.NO_HEAD)
         self.assertEqual(library.backbone_make(words, len(words), None, 0, None, 0), Refusal.WORK_TOO_SHORT)
         self.assertEqual(library.backbone_twin(None, 0, None, 0).refusal, Refusal.NO_HEAD)
+        self.assertEqual(library.backbone_stroke_at(None, 0, 0).refusal, Refusal.NO_HEAD)
+
+    def test_strokes_leave_the_words(self):
+        library, words = _library(), (ctypes.c_uint32 * len(STORED_A))(*STORED_A)
+        for place in range(6):
+            raw = library.backbone_stroke_at(words, len(words), place)
+            self.assertEqual(raw.refusal, 0 if place < 5 else Refusal.PAST_LAST_STROKE)
+            self.assertEqual(list(words), STORED_A)
+        self.assertEqual((raw.kind, raw.x0, raw.y0, raw.x1, raw.y1), (0, 0, 0, 0, 0))
+        stored = array("I", STORED_A)
+        self.assertEqual(strokes(stored), BONES_A + DROPS_A)
+        self.assertEqual(stored, array("I", STORED_A))
 
     def test_one_area_given(self):
         self.assertEqual(make(SHEET_A, work=dirty(WORK)), BEST)

@@ -1,12 +1,15 @@
-"""The format's drawn examples: sheet A, its heads, and the judge on its layouts."""
+"""The format's drawn examples: sheet A, its heads, the judge on its layouts, and its strokes."""
 
 import unittest
 
-from backbone import Layout, Refusal, Refused, Rule, judge, make, read, twin
+from backbone import Layout, Refusal, Refused, Rule, judge, make, read, stroke_at, strokes, twin
 
 HEAD = 0x10008008
 REST = [0x20000002, 0x20000005, 0x20000008, 0x300000FF, 0x40008004, 0x40018006, 0x300000FF, 0x40010005]
 SHEET_A = [HEAD] + REST
+STORED_A = SHEET_A + list(Layout(2, 19, (0, 0, 2)).words())
+BONES_A = [("bone", 0.25, 0.25, 1, 0.25), ("bone", 0.5, 1, 1, 1)]
+DROPS_A = [("drop", 0.25, 0.5, 0.25, 0.25), ("drop", 0.75, 0.75, 0.75, 0.25), ("drop", 0.5, 0.625, 0.5, 1)]
 
 
 class Drawn(unittest.TestCase):
@@ -48,6 +51,47 @@ class Drawn(unittest.TestCase):
         for head in (HEAD, 0x18008008):
             false_length = [head] + REST + list(Layout(2, 18, (0, 0, 2)).words())
             self.assert_refused(Refusal.UNLAWFUL, twin, false_length)
+
+    def test_strokes_of_a(self):
+        expected = BONES_A + DROPS_A
+        self.assertEqual(strokes(STORED_A), expected)
+        self.assertEqual([stroke_at(STORED_A, place) for place in range(5)], expected)
+        first = stroke_at(STORED_A, 0)
+        self.assertEqual((first.kind, first.x0, first.y0, first.x1, first.y1), BONES_A[0])
+        two_sided = [0x18008008] + REST + list(Layout(2, 25, (0, 0, 2)).words())
+        self.assertEqual(strokes(two_sided), [("bone", 0, 0.25, 1, 0.25), ("bone", 0, 1, 1, 1)] + DROPS_A)
+
+    def test_strokes_of_no_length(self):
+        one = [HEAD, 0x20000000, 0x300000FF]
+        self.assertEqual(strokes(one + [0x40000000, 0x80200008, 0x90000000]), [("bone", 0, 0, 1, 0)])
+        self.assertEqual(strokes(one + [0x40020000, 0x80200000, 0x90000000]), [("bone", 1, 0, 1, 0)])
+        self.assertEqual(strokes([HEAD, 0x80000000]), [])
+        self.assert_refused(Refusal.PAST_LAST_STROKE, stroke_at, [HEAD, 0x80000000], 0)
+
+    def test_refusals_of_strokes(self):
+        layout, slots = STORED_A[9:], [2 << 28 | height for height in range(49)]
+        refused = {
+            Refusal.NO_HEAD: layout,
+            Refusal.BAD_WORD: SHEET_A + [HEAD] + layout,
+            Refusal.TOO_MANY: [HEAD] + slots + layout,
+            Refusal.SLOTS_NOT_RISING: [HEAD, REST[1], REST[0]] + layout,
+            Refusal.SITE_BEYOND_WIDTH: [0x10008005] + REST + layout,
+            Refusal.EQUAL_X: SHEET_A + [0x40010006] + layout,
+            Refusal.TOO_MANY_BUDGETS: [HEAD, 0x30000007, 0x30000008] + layout,
+            Refusal.BAD_LAYOUT: SHEET_A,
+            Refusal.UNLAWFUL: SHEET_A + list(Layout(2, 18, (0, 0, 2)).words()),
+        }
+        for refusal, stored in refused.items():
+            with self.subTest(refusal=refusal):
+                self.assert_refused(refusal, strokes, stored)
+                self.assert_refused(refusal, stroke_at, stored, 0)
+                self.assert_refused(refusal, stroke_at, stored, 2**64 - 1)
+        for place in (5, 6, 2**32, 2**64 - 1):
+            self.assert_refused(Refusal.PAST_LAST_STROKE, stroke_at, STORED_A, place)
+
+    def test_what_is_no_place(self):
+        for place, error in ((-1, OverflowError), (2**64, OverflowError), (0.0, TypeError), ("0", TypeError)):
+            self.assertRaises(error, stroke_at, STORED_A, place)
 
     def test_no_layout(self):
         self.assert_refused(Refusal.NO_LAYOUT, make, [0x10010008] + REST)

@@ -1,11 +1,12 @@
-"""Random tiny sheets: the maker beside a search over all layouts, the judge beside the rules, twins of the best layouts."""
+"""Random tiny sheets: the maker beside a search over all layouts, the judge beside the rules, twins and strokes."""
 
 import unittest
 from collections import Counter
 from random import Random
 
-from backbone import Layout, Refusal, Refused, judge, make, twin
+from backbone import Layout, Refusal, Refused, judge, make, strokes, twin
 
+from . import plain_search
 from .plain_search import UNBOUNDED, Sheet, Site, best, broken_rule, count_and_length
 
 SHEETS = 6000
@@ -54,6 +55,26 @@ class Search(unittest.TestCase):
             self.assertEqual(expected.labels, found[0])
             self.assertLessEqual(expected.length, found[1])
         self.assertGreater(min(met.values()), SHEETS // 50, met)
+
+    def test_strokes(self):
+        random, met = Random(19), Counter()
+        for _ in range(STORED):
+            sheet = tiny_sheet(random)
+            ties = tuple(random.randrange(len(sheet.slots)) for _ in sheet.sites)
+            numbers = count_and_length(sheet, ties)
+            stored = sheet.words() + list(Layout(*numbers, ties).words())
+            rule = broken_rule(sheet, ties, numbers)
+            met[sheet.two_sided, rule is None] += 1
+            if rule is not None:
+                with self.assertRaises(Refused) as raised:
+                    strokes(stored)
+                self.assertIs(raised.exception.refusal, Refusal.UNLAWFUL)
+                continue
+            found = strokes(stored)
+            self.assertEqual(found, plain_search.strokes(sheet, ties), sheet)
+            lengths = (abs(stroke.x1 - stroke.x0) + abs(stroke.y1 - stroke.y0) for stroke in found)
+            self.assertEqual((sum(stroke.kind == "bone" for stroke in found), 8 * sum(lengths)), numbers, sheet)
+        self.assertGreater(min(met.values()), STORED // 300, met)
 
     def test_judge(self):
         random, met = Random(17), Counter()

@@ -62,7 +62,8 @@ class Words(unittest.TestCase):
         self.assertEqual(in_rust(Rule), meanings_in_rust("rule.rs"))
 
     def test_every_open_function_is_typed(self):
-        for function in (backbone.read, backbone.make, backbone.judge, backbone.twin, head, slot, colour, site, Layout.from_words, Layout.words):
+        operations = (backbone.read, backbone.make, backbone.judge, backbone.twin, backbone.stroke_at, backbone.strokes)
+        for function in operations + (head, slot, colour, site, Layout.from_words, Layout.words):
             with self.subTest(function=function.__name__):
                 names = [name for name in inspect.signature(function).parameters if name != "self"]
                 self.assertEqual(sorted(get_type_hints(function)), sorted(names + ["return"]))
