@@ -1,5 +1,6 @@
 /* The areas of the C interface: null pointers, lengths on both sides of what is needed, and every word of the areas
- * afterwards. Prints what does not hold, and ends with 1 if anything does not. */
+ * afterwards; and the strokes of a stored sheet, which they leave as it is. Prints what does not hold, and ends with 1 if
+ * anything does not. */
 #include "backbone.h"
 
 #include <stdio.h>
@@ -17,6 +18,16 @@ static const uint32_t best[ANSWER] = {0x80400013, 0x90000000, 0x90000000, 0x9000
 static const uint32_t two_sided[WORDS + ANSWER] = {0x18008008, 0x20000002, 0x20000005, 0x20000008, 0x300000FF,
                                                    0x40008004, 0x40018006, 0x300000FF, 0x40010005, 0x80400019,
                                                    0x90000000, 0x90000000, 0x90000002};
+
+/* The strokes of sheet A with its best layout, by hand. */
+static const backbone_stroke strokes[] = {
+    {0, BACKBONE_BONE, 0.25f, 0.25f, 1.0f, 0.25f},
+    {0, BACKBONE_BONE, 0.5f, 1.0f, 1.0f, 1.0f},
+    {0, BACKBONE_DROP, 0.25f, 0.5f, 0.25f, 0.25f},
+    {0, BACKBONE_DROP, 0.75f, 0.75f, 0.75f, 0.25f},
+    {0, BACKBONE_DROP, 0.5f, 0.625f, 0.5f, 1.0f},
+};
+enum { STROKES = sizeof strokes / sizeof *strokes };
 
 static int failures = 0;
 
@@ -56,6 +67,7 @@ static void null_lists(void) {
     expect(backbone_judge(NULL, 0).refusal == BACKBONE_NO_HEAD, "the judge refuses a null list with 1");
     expect(backbone_make(NULL, 0, NULL, 0, NULL, 0) == BACKBONE_NO_HEAD, "the maker refuses a null list with 1");
     expect(backbone_twin(NULL, 0, NULL, 0).refusal == BACKBONE_NO_HEAD, "the twin of a null list is refused with 1");
+    expect(backbone_stroke_at(NULL, 0, 0).refusal == BACKBONE_NO_HEAD, "a stroke of a null list is refused with 1");
 }
 
 /* What malloc gives for no words is null or not; both serve. */
@@ -129,6 +141,44 @@ static void refused_twins(void) {
     free(area);
 }
 
+static int same(backbone_stroke one, backbone_stroke other) {
+    const float ends[] = {one.x0, one.y0, one.x1, one.y1}, wanted[] = {other.x0, other.y0, other.x1, other.y1};
+    return one.refusal == other.refusal && one.kind == other.kind && memcmp(ends, wanted, sizeof ends) == 0;
+}
+
+/* A refusal and zeros beside it. */
+static int is_refused(backbone_stroke stroke, uint8_t refusal) {
+    return same(stroke, (backbone_stroke){.refusal = refusal});
+}
+
+/* Sheet A with its best layout, in an area that ends with it. */
+static void strokes_of_a(void) {
+    uint32_t *stored = dirty(WORDS + ANSWER);
+    memcpy(stored, sheet, sizeof sheet);
+    memcpy(stored + WORDS, best, sizeof best);
+    for (size_t place = 0; place < STROKES; place++) {
+        expect(same(backbone_stroke_at(stored, WORDS + ANSWER, place), strokes[place]), "a stroke of sheet A");
+    }
+    expect(is_refused(backbone_stroke_at(stored, WORDS + ANSWER, STROKES), BACKBONE_PAST_LAST_STROKE), "14");
+    expect(is_refused(backbone_stroke_at(stored, WORDS + ANSWER, SIZE_MAX), BACKBONE_PAST_LAST_STROKE), "14 at the last place");
+    expect(is_refused(backbone_stroke_at(stored, WORDS, 0), BACKBONE_BAD_LAYOUT), "a sheet without a layout has no strokes: 11");
+    expect(memcmp(stored, sheet, sizeof sheet) == 0 && memcmp(stored + WORDS, best, sizeof best) == 0, "strokes change no word");
+    stored[WORDS]--;
+    expect(is_refused(backbone_stroke_at(stored, WORDS + ANSWER, SIZE_MAX), BACKBONE_UNLAWFUL), "13 comes before 14");
+    free(stored);
+}
+
+/* Backbones begin at plus zero; drops are those of the one-sided sheet. */
+static void strokes_of_two_sided(void) {
+    for (size_t place = 0; place < STROKES; place++) {
+        backbone_stroke wanted = strokes[place];
+        if (wanted.kind == BACKBONE_BONE) {
+            wanted.x0 = 0.0f;
+        }
+        expect(same(backbone_stroke_at(two_sided, WORDS + ANSWER, place), wanted), "a stroke of A two-sided");
+    }
+}
+
 int main(void) {
     null_lists();
     no_words();
@@ -140,5 +190,7 @@ int main(void) {
     twin_with_spare(0);
     twin_with_spare(SPARE);
     refused_twins();
+    strokes_of_a();
+    strokes_of_two_sided();
     return failures == 0 ? 0 : 1;
 }

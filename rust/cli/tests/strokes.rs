@@ -115,6 +115,16 @@ fn output_that_cannot_be_written_is_3() {
     }
 }
 
+/// The lines that stand beside the gearbox's twin are the plain model's, and the command's.
+#[test]
+fn an_example_has_its_strokes() {
+    let file = |ending: &str| examples().join(format!("gearbox_twin.{ending}"));
+    let read = |ending: &str| std::fs::read_to_string(file(ending)).unwrap();
+    let expected: String = strokes(&sheet::encode(&read("txt")).unwrap()).unwrap().iter().map(line).collect();
+    assert_eq!(read("strokes"), expected);
+    assert_eq!(run([std::ffi::OsStr::new("strokes"), file("txt").as_os_str()], b"").text(), expected);
+}
+
 /// A stroke of the plain model as a line: coordinates are eighths, so three decimals hold them.
 fn line(stroke: &Stroke) -> String {
     let kind = if stroke.is_drop { "drop" } else { "bone" };
