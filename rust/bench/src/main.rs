@@ -2,7 +2,7 @@
 //! program. Writes Markdown to standard output.
 //!
 //! Answers are compared as they come: where two differ, the run ends with an error. Sections are left out by naming
-//! those that are wanted: maker, growth, program, judge, twin.
+//! those that are wanted: maker, growth, program, judge, twin, strokes.
 
 mod integer_program;
 mod machine;
@@ -14,7 +14,7 @@ mod word_loops;
 use integer_program::{Outcome, Solver};
 use model::program::WORK_WORDS;
 use model::sheet::Sheet;
-use model::{maker, rules, search, twin};
+use model::{maker, rules, search, strokes, twin};
 use sheets::{Named, NamedStored};
 use std::hint::black_box;
 use std::time::Duration;
@@ -32,10 +32,6 @@ struct Areas {
 impl Areas {
     fn new(sheet: &Sheet, work_words: usize) -> Areas {
         Areas { work: vec![1; work_words], answer: vec![1; sheet.sites.len() + 1] }
-    }
-
-    fn of(sheet: &Sheet) -> Areas {
-        Areas::new(sheet, sheet.work_words() as usize)
     }
 }
 
@@ -127,9 +123,7 @@ fn print_judges(named: &[Named]) {
     println!("| stored sheet | n | m | library | loops over words in Rust | library / loops over words | decoding judge | library / decoding |");
     println!("|---|---|---|---|---|---|---|---|");
     for Named { name, sheet } in named.iter().filter(|named| named.sheet.work_words() < 100_000_000) {
-        let mut areas = Areas::of(sheet);
-        assert_eq!(maker::make(&sheet.words(), &mut areas.work, &mut areas.answer), 0);
-        let stored = [sheet.words(), areas.answer].concat();
+        let stored = sheets::with_best(sheet);
         let [library, loops, decoding] = race([
             &mut || assert_eq!(backbone::judge(black_box(&stored)), Ok(None)),
             &mut || assert_eq!(word_loops::judge(black_box(&stored)), (0, 0)),
@@ -155,6 +149,34 @@ fn print_twins() {
         let (sites, slots, words) = (sheet.sites.len(), sheet.slots.len(), words.len());
         let times = format!("{} | {} | {}", show(library), show(plain), ratio(library, plain));
         println!("| {name} | {sites} | {slots} | {words} | {times} |");
+    }
+}
+
+/// All strokes of a stored sheet, asked for one by one as a viewer does, until there are no more.
+fn print_strokes() {
+    println!("\n## The strokes\n");
+    println!("| stored sheet | n | m | strokes | library | safe Rust | library / Rust |");
+    println!("|---|---|---|---|---|---|---|");
+    for NamedStored { name, sheet, words } in sheets::drawn() {
+        let (mut found, mut plain_found) = (Vec::new(), Vec::new());
+        let [library, plain] = race([
+            &mut || {
+                found.clear();
+                found.extend((0..).map_while(|place| backbone::stroke_at(black_box(&words), place).ok()))
+            },
+            &mut || {
+                plain_found.clear();
+                plain_found.extend((0..).map_while(|place| strokes::stroke_at(black_box(&words), place).ok()))
+            },
+        ]);
+        let plainly = |stroke: &backbone::Stroke| {
+            let ([from, to], is_drop) = (stroke.ends(), matches!(stroke, backbone::Stroke::Drop { .. }));
+            strokes::Stroke { is_drop, ends: [from.x, from.y, to.x, to.y] }
+        };
+        assert!(found.iter().map(plainly).eq(plain_found), "the library and plain Rust differ: {name}");
+        let (sites, slots, count) = (sheet.sites.len(), sheet.slots.len(), found.len());
+        let times = format!("{} | {} | {}", show(library), show(plain), ratio(library, plain));
+        println!("| {name} | {sites} | {slots} | {count} | {times} |");
     }
 }
 
@@ -197,5 +219,8 @@ fn main() {
     }
     if is_asked("twin") {
         print_twins();
+    }
+    if is_asked("strokes") {
+        print_strokes();
     }
 }

@@ -1,5 +1,6 @@
 //! The sheets that are timed.
 
+use model::maker::make;
 use model::random::banded_sheet;
 use model::rules::{layout_words, split};
 use model::sheet::{read, Sheet, Site};
@@ -79,43 +80,73 @@ pub struct NamedStored {
     pub words: Vec<u32>,
 }
 
+fn stored(name: &'static str, text: &str) -> NamedStored {
+    let words = sheet::encode(text).expect("an example is a stored sheet's text");
+    let (sheet, ..) = split(&words).expect("an example is a stored sheet");
+    NamedStored { name, sheet, words }
+}
+
+/// A one-sided sheet followed by its best layout.
+pub fn with_best(sheet: &Sheet) -> Vec<u32> {
+    let (mut work, mut answer) = (vec![0; sheet.work_words() as usize], vec![0; sheet.sites.len() + 1]);
+    assert_eq!(make(&sheet.words(), &mut work, &mut answer), 0, "a sheet that is timed has a layout: {sheet:?}");
+    [sheet.words(), answer].concat()
+}
+
 /// Lawful two-sided sheets with their layouts, the largest last.
 pub fn two_sided() -> Vec<NamedStored> {
-    let example = |name: &'static str, text: &str| {
-        let words = sheet::encode(text).expect("an example is a stored sheet's text");
-        let (sheet, ..) = split(&words).expect("an example is a stored sheet");
-        NamedStored { name, sheet, words }
-    };
     vec![
-        example("A, two-sided", include_str!("../../../examples/a_two_sided.txt")),
-        example("gearbox, two-sided", include_str!("../../../examples/gearbox.txt")),
+        stored("A, two-sided", include_str!("../../../examples/a_two_sided.txt")),
+        stored("gearbox, two-sided", include_str!("../../../examples/gearbox.txt")),
         wide_bars(),
     ]
 }
 
-/// 32 sites beside 32 of 48 slots, each within the gap of its own and of no other: the layout is lawful.
+/// Lawful stored sheets of either side; the last has as many strokes as a sheet can have.
+pub fn drawn() -> Vec<NamedStored> {
+    let Named { sheet, .. } = example("", include_str!("../../../examples/tractor.txt"));
+    vec![
+        stored("A", include_str!("../../../examples/a_two_sided_twin.txt")),
+        stored("gearbox", include_str!("../../../examples/gearbox_twin.txt")),
+        NamedStored { name: "tractor", words: with_best(&sheet), sheet },
+        wide_bars(),
+        most_strokes(),
+    ]
+}
+
 pub fn wide_bars() -> NamedStored {
+    bars("most sites, slots and colours, two-sided", true, |site| site % 3)
+}
+
+/// No two sites share a label, and none lies on its backbone: 32 backbones and 32 drops.
+fn most_strokes() -> NamedStored {
+    bars("most strokes", false, |site| 1 + site % 2)
+}
+
+/// 32 sites below 32 of 48 slots, each by less than the gap: near its own and no other, so the layout is lawful.
+fn bars(name: &'static str, two_sided: bool, below: fn(u32) -> u32) -> NamedStored {
     const APART: u32 = 10;
     let colours = [1, 1, 1, 1, 1, 1, FREE, FREE];
     let slots: Vec<u32> = (0..48).map(|slot| APART * slot + 5).collect();
     // One label for each bounded colour, the rest by turns for the others.
     let colour = |site: usize| if site < 6 { site } else { 6 + site % 2 };
-    let site = |site: usize| Site { x: 18 * site as u32, y: slots[site] + site as u32 % 3, colour: colour(site) };
+    let site = |site: usize| Site { x: 18 * site as u32, y: slots[site] + below(site as u32), colour: colour(site) };
     let mut sites: Vec<(usize, Site)> = (0..32).map(|slot| (slot, site(slot))).collect();
     sites.sort_by_key(|(_, site)| site.colour);
     let slot_of: Vec<usize> = sites.iter().map(|(slot, _)| *slot).collect();
     let sites = sites.into_iter().map(|(_, site)| site).collect();
     let (bounds, width) = (colours.to_vec(), 600);
-    let sheet = Sheet { two_sided: true, shortest: true, gap: 3, width, slots, bounds, sites };
+    let sheet = Sheet { two_sided, shortest: true, gap: 3, width, slots, bounds, sites };
     let words = [sheet.words(), layout_words(&sheet, &slot_of)].concat();
-    NamedStored { name: "most sites, slots and colours", sheet, words }
+    NamedStored { name, sheet, words }
 }
 
 #[test]
-fn two_sided_sheets_have_lawful_layouts() {
-    for NamedStored { name, words, .. } in two_sided() {
+fn stored_sheets_have_lawful_layouts() {
+    for NamedStored { name, words, .. } in two_sided().into_iter().chain(drawn()) {
         assert_eq!(model::rules::judge(&words), (0, 0), "{name}");
     }
+    assert_eq!(model::strokes::strokes(&most_strokes().words).map(|all| all.len()), Ok(64));
 }
 
 #[test]
