@@ -222,10 +222,10 @@ fn lists_keep_their_promises() {
     assert!(lawful.iter().all(|count| *count > 1_000) && on_backbone > 1_000, "{lawful:?} {on_backbone}");
 }
 
-/// Every coordinate that a sheet can have is shown in full: the digits of its number of eighths.
+/// Every coordinate is shown in full, those of wall charts too: the digits of its number of eighths.
 #[test]
 fn lines_have_all_digits() {
-    for number in 0..=16383u32 {
+    for number in 0..=262_143u32 {
         let points = number as f32 / 8.0;
         let line = bone(points, 0.0, 0.0, 0.0).to_string();
         let shown = line.split(' ').nth(1).unwrap();
