@@ -40,10 +40,9 @@ fn drop_of(site: Site, drops: &[Line]) -> Line {
 pub fn of_labels(sheet: &Sheet, labels: &[Label]) -> Vec<LabelLines> {
     let lines = |label: &Label| {
         let height = label.height;
-        let drop = |site: &usize| sheet.sites()[*site];
-        let drops = label.sites.iter().map(drop).map(|Site { x, y, .. }| Line { from: (x, y), to: (x, height) });
-        let backbone = Line { from: (label.left_end, height), to: (sheet.width(), height) };
-        LabelLines { backbone, drops: drops.collect() }
+        let sites = label.sites.iter().map(|site| sheet.sites()[*site]);
+        let drops = sites.map(|Site { x, y, .. }| Line { from: (x, y), to: (x, height) }).collect();
+        LabelLines { backbone: Line { from: (label.left_end, height), to: (sheet.width(), height) }, drops }
     };
     labels.iter().map(lines).collect()
 }
