@@ -14,8 +14,8 @@ use points::stroke::End;
 use points::stroke::Stroke;
 use strokes::stroke_at;
 
-// More places than a stored sheet has strokes: at most 48 backbones and 32 drops.
-const PLACES: usize = 81;
+// More places than a stored sheet has strokes: at most a backbone and a drop for each of 32 sites.
+const PLACES: usize = 65;
 
 // Above the greatest x, y, height or width.
 const NUMBER_TOP: u32 = 16384;

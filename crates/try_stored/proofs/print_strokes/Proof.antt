@@ -4,10 +4,10 @@ use Rattle.try_stored.proofs.print_strokes.Statement.{statement}
 use Rattle.try_stored.proofs.print_strokes.Tie as tie
 
 abbrev Inv-loop : tie.InvT-loop
-Inv-loop stored place₀ place = place ≤ 81
+Inv-loop stored place₀ place = place ≤ 65
 
 abbrev μ-loop : tie.MeasureT-loop
-μ-loop stored place₀ place = 81 - place
+μ-loop stored place₀ place = 65 - place
 
 loop-holds : tie.Need-loop-holds Inv-loop μ-loop
 loop-holds c = search needs
