@@ -3,11 +3,11 @@
 use mathlib.Core.Path.{_≡_, refl, _∙_, ap}
 use mathlib.Core.Bool.{Bool, true, not, cond}
 use mathlib.Core.List.{List, [], _∷_}
-use Prim.Native.Nat.{ℕ, _<_, _≤_}
+use Prim.Native.Nat.{ℕ}
 use lib.Dec.{ltb, leb, eqb}
 use lib.ListN.{length}
 use Rattle.lists.proofs.Tests.{by-test}
-use Rattle.sheet.specs.Refusals.{Refusal, unless, given, numberedTo}
+use Rattle.sheet.specs.Refusals.{unless, given, numberedTo}
 use Rattle.sheet.specs.Sheet.{sheetIn, sheetFault, sheetRefusals, workFor}
 use Rattle.sheet.proofs.Accepted.{numbered}
 use Rattle.sheet.proofs.Refusals.{turned, after}

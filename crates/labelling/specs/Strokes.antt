@@ -26,6 +26,14 @@ pub data Stroke : Type 0 where
   Bone : End → End → Stroke
   Drop : End → End → Stroke
 
+abbrev pub firstEnd : Stroke → End
+firstEnd (Bone a b) = a
+firstEnd (Drop a b) = a
+
+abbrev pub secondEnd : Stroke → End
+secondEnd (Bone a b) = b
+secondEnd (Drop a b) = b
+
 -- a label's backbone: from its left end to W, at its slot's height
 abbrev pub boneOf : Sheet → (ties : List ℕ) → (slot : ℕ) → Stroke
 boneOf s js k = Bone (endAt (leftEnd s js k) (heightOf s k)) (endAt (s .width) (heightOf s k))
@@ -86,8 +94,7 @@ oneDrop (Bone a b) = 0
 oneDrop (Drop a b) = 1
 
 abbrev pub unitsOf : Stroke → ℕ
-unitsOf (Bone a b) = apart (a .x) (b .x) + apart (a .y) (b .y)
-unitsOf (Drop a b) = apart (a .x) (b .x) + apart (a .y) (b .y)
+unitsOf t = apart (firstEnd t .x) (secondEnd t .x) + apart (firstEnd t .y) (secondEnd t .y)
 
 -- how many sites are off their backbone
 abbrev pub sitesOff : Sheet → (ties : List ℕ) → ℕ
@@ -95,8 +102,7 @@ sitesOff s js = sumBefore (λ i. cond (isOff s (tieAt s js i)) 1 0) (length (s .
 
 -- neither end lies right of W (nor left of 0, where no number is)
 abbrev pub EndsInside : (width : ℕ) → Stroke → Type 0
-EndsInside w (Bone a b) = (a .x ≤ w) × (b .x ≤ w)
-EndsInside w (Drop a b) = (a .x ≤ w) × (b .x ≤ w)
+EndsInside w t = (firstEnd t .x ≤ w) × (secondEnd t .x ≤ w)
 
 -- the list has as many backbones as the layout states labels, and as many drops as sites are off their backbone; the strokes' lengths add up
 -- to the stated length; no stroke leaves the drawing

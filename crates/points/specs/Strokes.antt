@@ -35,5 +35,4 @@ pub record IsEnd (x y : Float) (e : units.End) : Type 0 where
   pub up : IsEighth (e .y) y
 
 abbrev pub IsStroke : FlatStroke → units.Stroke → Type 0
-IsStroke r (units.Bone a b) = (r .kind ≡ 0) × IsEnd (r .x0) (r .y0) a × IsEnd (r .x1) (r .y1) b
-IsStroke r (units.Drop a b) = (r .kind ≡ 1) × IsEnd (r .x0) (r .y0) a × IsEnd (r .x1) (r .y1) b
+IsStroke r t = (r .kind ≡ units.oneDrop t) × IsEnd (r .x0) (r .y0) (units.firstEnd t) × IsEnd (r .x1) (r .y1) (units.secondEnd t)

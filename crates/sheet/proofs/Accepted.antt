@@ -8,7 +8,7 @@ use Prim.Native.Nat.{ℕ, suc, _+_, _-_, _≤_, _<_}
 use native.Mathlib.Omega.{arith}
 use lib.Dec.{ltb, leb, eqb}
 use lib.ListN.{length, length-drop}
-use borrow.Author.Tests.{ltb-true, ltb-false, leb-true, eqb-true, eqb-false, lt-ltb, eq-eqb, ne-eqb}
+use borrow.Author.Tests.{ltb-true, leb-true, eqb-true, eqb-false, lt-ltb, eq-eqb, ne-eqb}
 use Rattle.sheet.specs.Limits.{mostSlots, mostColours, mostSites, mostBudgets, mostWords, numberTop}
 use Rattle.sheet.specs.Refusals.{AllPass, numberedTo}
 use Rattle.sheet.specs.Sheet.{all, kindOf, bits, hasSpare, inOrder, Site, Sheet, slotsIn, sitesIn, coloursIn, headIn, bodyAt, bodyOf, sheetIn, productOf, rising, rankOf, rankTop, hasRank, ranksDiffer, isHead, countsFit, insideBy, sheetRefusals, sheetFault, rankBy}

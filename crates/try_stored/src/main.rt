@@ -81,14 +81,14 @@ fn print_strokes(stored: &[u32]) {
     }
 }
 
-fn judge_line(line: &[u8]) {
+fn try_line(line: &[u8]) {
     let mut words = [0u32; CASE_WORDS];
     let n = take_case(line, &mut words);
     print_verdict(judge_layout(&words[0..n]));
     print_strokes(&words[0..n]);
 }
 
-fn judge_lines(text: &[u8]) {
+fn try_lines(text: &[u8]) {
     let mut from: usize = 0;
     while from < text.len() {
         let start = from;
@@ -97,12 +97,12 @@ fn judge_lines(text: &[u8]) {
         if text[start] == b'#' {
             continue;
         }
-        judge_line(&text[start..end]);
+        try_line(&text[start..end]);
     }
 }
 
 fn main() {
     let mut text = io::large_buffer();
     let got = io::read_full(STDIN_FILENO, &mut text);
-    judge_lines(&text[0..got]);
+    try_lines(&text[0..got]);
 }

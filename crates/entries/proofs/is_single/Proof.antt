@@ -1,12 +1,8 @@
 use mathlib.Core.Path.{refl}
 use borrow.Author.Tests.{eq-eqb, ne-eqb}
-use Prim.Native.Nat.{_-_}
 use borrow.Author.Needs.{needs}
 use Rattle.entries.proofs.is_single.Statement.{statement}
 use Rattle.entries.proofs.is_single.Tie as tie
-use Rattle.entries.proofs.is_single.Reads as reads
-use Rattle.entries.proofs.is_single.Lts as lts
-use Rattle.words.proofs.both.Reads as both-reads
 
 returns : tie.Need-returns
 returns c = rw (ne-eqb (c .before .before .before .before .args .n) 1 (c .if1 .taken)) refl

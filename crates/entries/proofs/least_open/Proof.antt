@@ -13,12 +13,6 @@ use lib.ListN.{length}
 use borrow.Author.Needs.{needs}
 use Rattle.entries.proofs.least_open.Statement.{statement}
 use Rattle.entries.proofs.least_open.Tie as tie
-use Rattle.entries.proofs.least_open.Reads as reads
-use Rattle.entries.proofs.least_open.Lts as lts
-use Rattle.parts.proofs.parts_cost.Reads as parts-cost-reads
-use Rattle.strips.proofs.open_cost.Reads as open-cost-reads
-use Rattle.words.proofs.lesser.Reads as lesser-reads
-use Rattle.words.proofs.plus_of.Reads as plus-of-reads
 
 abbrev Inv-loop : tie.InvT-loop
 Inv-loop work q heights p s low window old m best₀ k₀ best k = (window .from ≤ k) × (k ≤ window .to) × (best ≡ min old (least topWord (k - window .from) (λ i. singleTerm q heights (rowIn work low (length heights) (q .colours) (q .budgets)) (stripOf p) (pointOf s) (window .from + i))))

@@ -8,9 +8,6 @@ use lib.ListN.{getD}
 use borrow.Author.Needs.{needs}
 use Rattle.entries.proofs.open_row.Statement.{statement}
 use Rattle.entries.proofs.open_row.Tie as tie
-use Rattle.entries.proofs.open_row.Reads as reads
-use Rattle.entries.proofs.open_row.Lts as lts
-use Rattle.entries.proofs.opened.Reads as opened-reads
 
 abbrev Inv-loop : tie.InvT-loop
 Inv-loop work₀ parts counts left base upper lower n cost v₀ work v = (v ≤ n) × Written work₀ work base v (λ k. min (getD work₀ (base + k) 0) (openBy parts counts n cost (getD left k 0) (λ w. getD work₀ (upper + w) 0) (λ w. getD work₀ (lower + w) 0)))

@@ -9,12 +9,6 @@ use native.Mathlib.Omega.{arith}
 use borrow.Author.Needs.{needs}
 use Rattle.entries.proofs.open_slots.Statement.{statement}
 use Rattle.entries.proofs.open_slots.Tie as tie
-use Rattle.entries.proofs.open_slots.Reads as reads
-use Rattle.entries.proofs.open_slots.Lts as lts
-use Rattle.entries.proofs.is_single.Reads as is-single-reads
-use Rattle.entries.proofs.least_open.Reads as least-open-reads
-use Rattle.entries.proofs.open_slot.Reads as open-slot-reads
-use Rattle.strips.proofs.open_window.Reads as open-window-reads
 
 abbrev Inv-loop : tie.InvT-loop
 Inv-loop work₀ q heights parts counts left p s base low window k₀ work k = (window .from ≤ k) × (k ≤ window .to) × Tried q heights parts counts left work₀ work base low (stripOf p) (pointOf s) (k - p .a)

@@ -1,14 +1,11 @@
 use Rattle.entries.proofs.Lesser.{opened-past, opened-by}
 use Rattle.rows.proofs.Splitting.{within-less}
 use mathlib.Core.Path.{_≡_, _∙_}
-use Prim.Native.Nat.{_+_, _-_, _≤_, min}
+use Prim.Native.Nat.{_+_, _≤_, min}
 use native.Mathlib.Omega.{arith}
 use borrow.Author.Needs.{needs}
 use Rattle.entries.proofs.opened.Statement.{statement}
 use Rattle.entries.proofs.opened.Tie as tie
-use Rattle.entries.proofs.opened.Reads as reads
-use Rattle.entries.proofs.opened.Lts as lts
-use Rattle.rows.proofs.budgets.least_split.Reads as least-split-reads
 use Rattle.sheet.specs.Limits.{topWord}
 
 returns : tie.Need-returns

@@ -11,7 +11,7 @@ use Rattle.lists.proofs.Places.{part-from}
 use Rattle.lists.proofs.Tests.{by-test}
 use Rattle.faults.specs.Faults.{layoutFault, ruleFault}
 use Rattle.sheet.specs.Sheet.{Sheet, sheetIn, sheetFault}
-use Rattle.labelling.specs.Layout.{isLayout, brokenBy, sheetPart, layoutPart, judgeFault, judged, storedFault}
+use Rattle.labelling.specs.Layout.{brokenBy, sheetPart, layoutPart, judgeFault, judged, storedFault}
 use Rattle.labelling.proofs.Judge.{judged-so}
 use Rattle.labelling.proofs.Refusals.{judge-chain}
 use Rattle.labelling.proofs.Stored.{stored-judge, stored-unlawful, stored-none, stored-accepted, stored-layout}

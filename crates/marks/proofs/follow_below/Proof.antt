@@ -12,11 +12,6 @@ use lib.ListN.{length}
 use borrow.Author.Needs.{needs}
 use Rattle.marks.proofs.follow_below.Statement.{statement}
 use Rattle.marks.proofs.follow_below.Tie as tie
-use Rattle.marks.proofs.follow_below.Reads as reads
-use Rattle.marks.proofs.follow_below.Lts as lts
-use Rattle.rows.proofs.row_place.Reads as row-place-reads
-use Rattle.marks.proofs.mark_row.Reads as mark-row-reads
-use Rattle.rows.proofs.next_below.Reads as next-below-reads
 
 abbrev Inv-loop : tie.InvT-loop
 Inv-loop work₀ q heights bounds s base low n ends p₀ at₀ work p at = (p .a ≡ p₀ .a) × (p .ca ≡ p₀ .ca) × ((p .cb ≤ q .colours) × (p .d < markCount)) × (p .b ≤ length heights + 2) × (at ≡ base + rowOf (length heights) (q .colours) (stripOf p) * q .budgets) × (length work ≡ length work₀) × Followed q heights bounds base low (pointOf s) work₀ work (endPlace (q .colours) (p .a) (p .ca)) (lowPlace (q .colours) (stripOf p))

@@ -7,10 +7,6 @@ use lib.ListN.{length}
 use borrow.Author.Needs.{needs}
 use Rattle.marks.proofs.follow_level.Statement.{statement}
 use Rattle.marks.proofs.follow_level.Tie as tie
-use Rattle.marks.proofs.follow_level.Reads as reads
-use Rattle.marks.proofs.follow_level.Lts as lts
-use Rattle.marks.proofs.follow_below.Reads as follow-below-reads
-use Rattle.rows.proofs.next_end.Reads as next-end-reads
 
 abbrev Inv-loop : tie.InvT-loop
 Inv-loop work₀ q heights bounds s base low ends above₀ work above = (above .colour ≤ q .colours) × (above .slot ≤ length heights + 1) × (length work ≡ length work₀) × Passed q heights bounds base low (pointOf s) work₀ work (endPlace (q .colours) (above .slot) (above .colour))

@@ -1,14 +1,11 @@
 use Rattle.lists.proofs.Tests.{not-f, clash}
 use Rattle.parts.proofs.Marking.{marking-none, own-within, own-marking, own-marked}
 use mathlib.Core.Path.{refl, ap}
-use Prim.Native.Nat.{ℕ, _+_, _-_}
+use Prim.Native.Nat.{ℕ, _+_}
 use native.Mathlib.Omega.{arith}
 use borrow.Author.Needs.{needs}
 use Rattle.marks.proofs.mark_own.Statement.{statement}
 use Rattle.marks.proofs.mark_own.Tie as tie
-use Rattle.marks.proofs.mark_own.Reads as reads
-use Rattle.marks.proofs.mark_own.Lts as lts
-use Rattle.rows.proofs.row_place.Reads as row-place-reads
 
 returns : tie.Need-returns
 returns c =

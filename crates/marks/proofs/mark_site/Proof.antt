@@ -4,15 +4,11 @@ use Rattle.arrays.proofs.Points.{point-at}
 use Rattle.arrays.specs.Given.{SiteIn}
 use Rattle.arrays.proofs.Narrowed.{on-slots}
 use mathlib.Core.Path.{sym, _∙_, subst}
-use Prim.Native.Nat.{_-_}
 use native.Mathlib.Omega.{arith}
 use lib.ListN.{length}
 use borrow.Author.Needs.{needs}
 use Rattle.marks.proofs.mark_site.Statement.{statement}
 use Rattle.marks.proofs.mark_site.Tie as tie
-use Rattle.marks.proofs.mark_site.Reads as reads
-use Rattle.marks.proofs.mark_site.Lts as lts
-use Rattle.marks.proofs.follow_level.Reads as follow-level-reads
 
 site-at-requires : tie.Need-site-at-requires
 site-at-requires c κs =

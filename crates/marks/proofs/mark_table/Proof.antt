@@ -13,11 +13,6 @@ use lib.ListN.{length, getD}
 use borrow.Author.Needs.{needs}
 use Rattle.marks.proofs.mark_table.Statement.{statement}
 use Rattle.marks.proofs.mark_table.Tie as tie
-use Rattle.marks.proofs.mark_table.Reads as reads
-use Rattle.marks.proofs.mark_table.Lts as lts
-use Rattle.marks.proofs.clear_marks.Reads as clear-marks-reads
-use Rattle.marks.proofs.mark_own.Reads as mark-own-reads
-use Rattle.marks.proofs.mark_site.Reads as mark-site-reads
 
 abbrev Inv-loop : tie.InvT-loop
 Inv-loop work₀ q heights bounds xs ys cs rows n size j₀ work j = (size ≡ levelOf q heights) × (j ≤ length xs) × (length work ≡ length work₀) × (OfSheet (onSites q heights bounds xs ys cs) → ReachMarked (instanceOn q heights bounds) q (pointsBy q heights xs ys cs) work size (j + 1)) × ((i : ℕ) → (length xs + 1) * size ≤ i → getD work i 0 ≡ getD work₀ i 0)

@@ -12,11 +12,6 @@ use lib.ListN.{length}
 use borrow.Author.Needs.{needs}
 use Rattle.table.proofs.fill_below.Statement.{statement}
 use Rattle.table.proofs.fill_below.Tie as tie
-use Rattle.table.proofs.fill_below.Reads as reads
-use Rattle.table.proofs.fill_below.Lts as lts
-use Rattle.rows.proofs.row_place.Reads as row-place-reads
-use Rattle.rows.proofs.next_below.Reads as next-below-reads
-use Rattle.entries.proofs.fill_row.Reads as fill-row-reads
 
 abbrev Inv-loop : tie.InvT-loop
 Inv-loop work₀ q heights bounds parts counts left s base low n ends p₀ at₀ work p at = (p .a ≡ p₀ .a) × (p .ca ≡ p₀ .ca) × ((p .cb ≤ q .colours) × (p .d < markCount)) × (lowPlace (q .colours) (stripOf p) ≤ endPlace (q .colours) (length heights + 2) 0 * markCount) × (at ≡ base + rowOf (length heights) (q .colours) (stripOf p) * q .budgets) × (length work ≡ length work₀) × Filled q heights bounds parts counts left base low (pointOf s) work₀ work (endPlace (q .colours) (p .a) (p .ca)) (lowPlace (q .colours) (stripOf p))

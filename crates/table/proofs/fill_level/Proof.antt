@@ -8,10 +8,6 @@ use lib.ListN.{length}
 use borrow.Author.Needs.{needs}
 use Rattle.table.proofs.fill_level.Statement.{statement}
 use Rattle.table.proofs.fill_level.Tie as tie
-use Rattle.table.proofs.fill_level.Reads as reads
-use Rattle.table.proofs.fill_level.Lts as lts
-use Rattle.rows.proofs.next_end.Reads as next-end-reads
-use Rattle.table.proofs.fill_below.Reads as fill-below-reads
 
 abbrev Inv-loop : tie.InvT-loop
 Inv-loop work₀ q heights bounds parts counts left s base low ends above₀ work above = (above .colour ≤ q .colours) × (endPlace (q .colours) (above .slot) (above .colour) ≤ endPlace (q .colours) (length heights + 1) 0) × (length work ≡ length work₀) × Passed q heights bounds parts counts left base low (pointOf s) work₀ work (endPlace (q .colours) (above .slot) (above .colour))

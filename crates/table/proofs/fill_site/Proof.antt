@@ -2,16 +2,11 @@ use Rattle.arrays.proofs.Narrowed.{on-slots}
 use Rattle.table.proofs.Filling.{others-of}
 use Rattle.rows.proofs.Levels.{next-level, level-within, place-small}
 use Rattle.table.proofs.Right.{level-right, site-stands}
-use Prim.Native.Nat.{_+_, _-_}
+use Prim.Native.Nat.{_+_}
 use native.Mathlib.Omega.{arith}
 use borrow.Author.Needs.{needs}
 use Rattle.table.proofs.fill_site.Statement.{statement}
 use Rattle.table.proofs.fill_site.Tie as tie
-use Rattle.table.proofs.fill_site.Reads as reads
-use Rattle.table.proofs.fill_site.Lts as lts
-use Rattle.rows.proofs.budgets.list_left.Reads as list-left-reads
-use Rattle.table.proofs.fill_level.Reads as fill-level-reads
-use Rattle.words.proofs.get.Reads as get-reads
 
 -- where the function starts
 abbrev begin : tie.After-left3 → tie.Start

@@ -5,18 +5,12 @@ use Rattle.arrays.specs.Given.{given, OfSheet}
 use Rattle.arrays.proofs.Narrowed.{no-radices}
 use Rattle.table.proofs.Right.{Done, done-last, done-more, done-all, ready-area}
 use mathlib.Core.Path.{_≡_, refl, ap, _∙_}
-use Prim.Native.Nat.{ℕ, _-_, _*_, _≤_}
+use Prim.Native.Nat.{ℕ, _*_, _≤_}
 use native.Mathlib.Omega.{arith}
 use lib.ListN.{length}
 use borrow.Author.Needs.{needs}
 use Rattle.table.proofs.fill_table.Statement.{statement}
 use Rattle.table.proofs.fill_table.Tie as tie
-use Rattle.table.proofs.fill_table.Reads as reads
-use Rattle.table.proofs.fill_table.Lts as lts
-use Rattle.marks.proofs.mark_table.Reads as mark-table-reads
-use Rattle.table.proofs.fill_site.Reads as fill-site-reads
-use Rattle.rows.proofs.rows_of.Reads as rows-of-reads
-use Rattle.table.proofs.zero_level.Reads as zero-level-reads
 
 abbrev Inv-loop : tie.InvT-loop
 Inv-loop work₀ q heights bounds radices draws parts counts xs ys cs rows size j₀ work j = (size ≡ levelOf q heights) × (j ≤ length xs) × (length work ≡ length work₀) × ((o : OfSheet (given q heights bounds radices draws xs ys cs [] parts counts)) → Done o work₀ work size j)

@@ -1,5 +1,4 @@
 use mathlib.Core.Path.{sym}
-use borrow.Author.Needs.{needs}
 use Rattle.layouts.proofs.least_broken.all_pairs_pass.Statement.{statement}
 use Rattle.layouts.proofs.least_broken.all_pairs_pass.Tie as tie
 

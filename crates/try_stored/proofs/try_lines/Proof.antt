@@ -1,8 +1,8 @@
 use Prim.Native.Nat.{_+_, _-_, _≤_}
 use lib.ListN.{length}
 use borrow.Author.Needs.{needs}
-use Rattle.try_stored.proofs.judge_lines.Statement.{statement}
-use Rattle.try_stored.proofs.judge_lines.Tie as tie
+use Rattle.try_stored.proofs.try_lines.Statement.{statement}
+use Rattle.try_stored.proofs.try_lines.Tie as tie
 
 abbrev Inv-loop : tie.InvT-loop
 Inv-loop text from₀ from = from ≤ length text + 1
@@ -28,17 +28,17 @@ loop-less c = search needs
 loop-again : tie.Need-loop-again Inv-loop μ-loop
 loop-again c = search needs
 
-sub-judge-line : tie.Need-sub-judge-line Inv-loop μ-loop
-sub-judge-line c = search needs
+sub-try-line : tie.Need-sub-try-line Inv-loop μ-loop
+sub-try-line c = search needs
 
-part-judge-line-start : tie.Need-part-judge-line-start Inv-loop μ-loop
-part-judge-line-start c = search needs
+part-try-line-start : tie.Need-part-try-line-start Inv-loop μ-loop
+part-try-line-start c = search needs
 
-part-judge-line-end : tie.Need-part-judge-line-end Inv-loop μ-loop
-part-judge-line-end c = search needs
+part-try-line-end : tie.Need-part-try-line-end Inv-loop μ-loop
+part-try-line-end c = search needs
 
-judge-line-requires : tie.Need-judge-line-requires Inv-loop μ-loop
-judge-line-requires c κs = search needs
+try-line-requires : tie.Need-try-line-requires Inv-loop μ-loop
+try-line-requires c κs = search needs
 
 loop-less-2 : tie.Need-loop-less-2 Inv-loop μ-loop
 loop-less-2 c = search needs
@@ -49,8 +49,8 @@ loop-again-2 c = search needs
 returns : tie.Need-returns Inv-loop μ-loop
 returns c = search needs
 
-pub judge-lines-spec : {M : Type 1} → statement M
-judge-lines-spec =
+pub try-lines-spec : {M : Type 1} → statement M
+try-lines-spec =
     tie.close
     (tie.spec
     Inv-loop
@@ -61,10 +61,10 @@ judge-lines-spec =
     shared-slice-read-if1
     loop-less
     loop-again
-    sub-judge-line
-    part-judge-line-start
-    part-judge-line-end
-    judge-line-requires
+    sub-try-line
+    part-try-line-start
+    part-try-line-end
+    try-line-requires
     loop-less-2
     loop-again-2
     returns)
