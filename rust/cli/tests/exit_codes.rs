@@ -14,45 +14,46 @@ fn assert_unreadable(run: &Run, message: &str) {
     assert!(!run.text().contains("refused") && !run.err.contains("refused 1"), "{run:?}");
 }
 
+const WRONG_USES: &[&[&str]] = &[
+    &[],
+    &["layout"],
+    &["--formal"],
+    &["lay-out"],
+    &["lay-out", "a", "b"],
+    &["lay-out", "--format"],
+    &["lay-out", "--format", "xml", "-"],
+    &["lay-out", "--format", "text", "--format", "text", "-"],
+    &["lay-out", "--jobs", "2", "-"],
+    &["lay-out", "-x", "-"],
+    &["check"],
+    &["check", "-", "-"],
+    &["check", "--jobs", "0", "-"],
+    &["check", "--jobs", "two", "-"],
+    &["check", "--jobs", "-1", "-"],
+    &["check", "--jobs", "99999999999999999999", "-"],
+    &["check", "--format=words", "-"],
+    &["check", "--report"],
+    &["convert", "-"],
+    &["convert", "--to", "pdf", "-"],
+    &["convert", "--to", "text"],
+    &["convert", "--to=text", "--to=text", "-"],
+    &["twin"],
+    &["twin", "a", "b"],
+    &["twin", "--to", "pdf", "-"],
+    &["strokes"],
+    &["strokes", "a", "b"],
+    &["strokes", "--format", "words", "-"],
+    &["strokes", "--place", "-"],
+    &["strokes", "--place", "-1", "-"],
+    &["strokes", "--place", "18446744073709551616", "-"],
+    &["draw"],
+    &["draw", "-o"],
+    &["draw", "--rounded=yes", "-"],
+];
+
 #[test]
 fn wrong_use_is_2() {
-    let cases: &[&[&str]] = &[
-        &[],
-        &["layout"],
-        &["--formal"],
-        &["lay-out"],
-        &["lay-out", "a", "b"],
-        &["lay-out", "--format"],
-        &["lay-out", "--format", "xml", "-"],
-        &["lay-out", "--format", "text", "--format", "text", "-"],
-        &["lay-out", "--jobs", "2", "-"],
-        &["lay-out", "-x", "-"],
-        &["check"],
-        &["check", "-", "-"],
-        &["check", "--jobs", "0", "-"],
-        &["check", "--jobs", "two", "-"],
-        &["check", "--jobs", "-1", "-"],
-        &["check", "--jobs", "99999999999999999999", "-"],
-        &["check", "--format=words", "-"],
-        &["check", "--report"],
-        &["convert", "-"],
-        &["convert", "--to", "pdf", "-"],
-        &["convert", "--to", "text"],
-        &["convert", "--to=text", "--to=text", "-"],
-        &["twin"],
-        &["twin", "a", "b"],
-        &["twin", "--to", "pdf", "-"],
-        &["strokes"],
-        &["strokes", "a", "b"],
-        &["strokes", "--format", "words", "-"],
-        &["strokes", "--place", "-"],
-        &["strokes", "--place", "-1", "-"],
-        &["strokes", "--place", "18446744073709551616", "-"],
-        &["draw"],
-        &["draw", "-o"],
-        &["draw", "--rounded=yes", "-"],
-    ];
-    for arguments in cases {
+    for arguments in WRONG_USES {
         let run = run(*arguments, SHEET_A.as_bytes());
         assert_eq!((run.code, run.out.len()), (Some(2), 0), "{arguments:?} {run:?}");
         assert!(run.err.contains("--help"), "{arguments:?} {run:?}");

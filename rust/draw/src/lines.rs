@@ -9,7 +9,8 @@ pub struct Line {
     pub to: (u32, u32),
 }
 
-/// The lines of a label: its backbone, and a drop for each of its sites, in their order.
+/// The lines of a label: its backbone, and a drop for each of its sites, in their order. That of a site on its backbone has no
+/// length: it says where the site meets the backbone, and no line is drawn.
 pub struct LabelLines {
     pub backbone: Line,
     pub drops: Vec<Line>,
@@ -29,7 +30,7 @@ pub fn of_strokes(sheet: &Sheet, labels: &[Label], strokes: Strokes) -> Vec<Labe
     labels.iter().zip(backbones).map(|(label, backbone)| LabelLines { backbone, drops: drops_of(label) }).collect()
 }
 
-/// The drop that begins at a site. A site on its backbone has no stroke; its line has no length, and nothing of it is seen.
+/// The drop that begins at a site. A site on its backbone has no stroke.
 fn drop_of(site: Site, drops: &[Line]) -> Line {
     let from = (site.x, site.y);
     drops.iter().copied().find(|drop| drop.from == from).unwrap_or(Line { from, to: from })

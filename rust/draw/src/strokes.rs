@@ -48,15 +48,17 @@ fn label_strokes(frame: &Frame, label: &Label, lines: &LabelLines, title: &str) 
     let Line { from: (left, height), to: (right, _) } = lines.backbone;
     let mut svg = format!(
         "<g stroke=\"{}\"><title>{}</title>\n<path class=\"backbone\" d=\"M{left} {height}H{right}\" \
-         stroke-width=\"{}\"/>\n",
+         stroke-width=\"{}\"/>",
         paint(label.colour),
         escape(title),
         thickness(BACKBONE, frame.scale.unit_down())
     );
-    let drops: String = lines.drops.iter().map(drop_path).collect();
-    let thick = thickness(DROP, frame.scale.unit_across());
-    let _ = writeln!(svg, "<path class=\"drop\" d=\"{drops}\" stroke-width=\"{thick}\"/></g>");
-    svg
+    let drops: String = lines.drops.iter().filter(|drop| drop.from != drop.to).map(drop_path).collect();
+    if !drops.is_empty() {
+        let thick = thickness(DROP, frame.scale.unit_across());
+        let _ = write!(svg, "\n<path class=\"drop\" d=\"{drops}\" stroke-width=\"{thick}\"/>");
+    }
+    svg + "</g>\n"
 }
 
 fn drop_path(drop: &Line) -> String {

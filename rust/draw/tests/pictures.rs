@@ -24,7 +24,8 @@ fn examples_are_as_drawn() {
 fn wanted(words: &[u32], slots: &[u8]) -> (Vec<[u32; 4]>, Vec<[u32; 4]>) {
     let sheet = read(backbone::split_stored(words).0).unwrap();
     let tied = || sheet.sites.iter().zip(slots.iter().map(|slot| sheet.slots[usize::from(*slot)]));
-    let mut drops: Vec<[u32; 4]> = tied().map(|(site, height)| [site.x, site.y, site.x, height]).collect();
+    let off = tied().filter(|(site, height)| site.y != *height);
+    let mut drops: Vec<[u32; 4]> = off.map(|(site, height)| [site.x, site.y, site.x, height]).collect();
     let mut backbones: Vec<[u32; 4]> = Vec::new();
     for (slot, height) in sheet.slots.iter().enumerate() {
         let own = sheet.sites.iter().zip(slots).filter(|(_, own)| usize::from(**own) == slot);
@@ -55,14 +56,13 @@ fn proved(words: &[u32], slots: &[u8]) -> Option<[Vec<[u32; 4]>; 2]> {
 }
 
 /// Both panels of a picture, or the one. Its lines are what the ties ask for, and where these are lawful the library's
-/// strokes: a site on its backbone has a line of no length, which is no stroke.
+/// strokes.
 fn hold_strokes(name: &str, panel: &[Element], words: &[u32], slots: &[u8]) {
     let (backbones, drops) = wanted(words, slots);
     assert_eq!(strokes(panel, "backbone"), backbones, "{name}");
     assert_eq!(strokes(panel, "drop"), drops, "{name}");
     if let Some(proved) = proved(words, slots) {
-        let seen = drops.into_iter().filter(|[_, y, _, to_y]| y != to_y).collect();
-        assert_eq!([backbones, seen], proved, "{name}");
+        assert_eq!([backbones, drops], proved, "{name}");
     }
 }
 
