@@ -23,6 +23,7 @@ module _ {g : Given} (o : OfSheet g) {bs ds ps ns : List ℕ} where
     fewBudgets = o .fewBudgets;
     someBudget = o .someBudget;
     narrow = o .narrow;
+    chargeLow = o .chargeLow;
     heightLow = o .heightLow;
     rising = o .rising;
     divides = o .divides;
@@ -42,6 +43,7 @@ module _ {g : Given} (o : OfSheet g) {bs ds ps ns : List ℕ} where
     fewBudgets = o .fewBudgets;
     someBudget = o .someBudget;
     narrow = o .narrow;
+    chargeLow = o .chargeLow;
     heightLow = o .heightLow;
     rising = o .rising;
     divides = o .divides;
@@ -61,6 +63,7 @@ module _ {g : Given} (o : OfSheet g) {bs ds ps ns : List ℕ} where
     fewBudgets = o .fewBudgets;
     someBudget = o .someBudget;
     narrow = o .narrow;
+    chargeLow = o .chargeLow;
     heightLow = o .heightLow;
     rising = o .rising;
     divides = λ k h. absurd (omega arith);

@@ -77,6 +77,7 @@ pub record OfSheet (g : Given) : Type 0 where
   pub fewBudgets : g .measures .budgets ≤ mostBudgets
   pub someBudget : 0 < g .measures .budgets
   pub narrow : g .measures .head .width < numberTop
+  pub chargeLow : g .measures .head .charge < numberTop
   pub heightLow : (k : ℕ) → getD (g .heights) k 0 < numberTop
   pub rising : (j k : ℕ) → j < k → k < length (g .heights) → getD (g .heights) j 0 < getD (g .heights) k 0
   -- no radix is 0, and every budget may be taken from the last

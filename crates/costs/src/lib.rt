@@ -1,15 +1,17 @@
-// A cost in one word, count and length by the aim: from both, and to a layout's first word.
+// A cost in one word, count and length by the aim: from both, of a step, and to a layout's first word.
 pub mod masks;
 
 ghost use mathlib.Core.Path.{_≡_};
 ghost use Prim.Native.Nat.{_<_};
 ghost use lib.Dec.{eqb};
-ghost use Rattle.sheet.specs.Limits.{topWord};
+ghost use Rattle.sheet.specs.Limits.{topWord, numberTop};
 ghost use Rattle.search.specs.Cost.{plus};
-ghost use Rattle.costs.specs.Costs.{wordBy, firstWordBy, stepTop};
+ghost use Rattle.costs.specs.Costs.{wordBy, openingBy, joiningBy, firstWordBy, stepTop};
 use arrays::Measures;
 use words::LENGTH_TOP;
 use words::NONE;
+use words::drops::share_of;
+use words::monus;
 use words::plus_of;
 
 // Above every count of labels, and above every length: optimum/specs/CostWord has both for definitions.
@@ -35,7 +37,7 @@ pub fn comes_to(price: u32, rest: u32, cost: u32) -> bool
 }
 
 // Count and length in one word, by the aim.
-pub fn cost_word(q: Measures, count: u32, length: u32) -> u32
+fn cost_word(q: Measures, count: u32, length: u32) -> u32
     requires { ⌜ (count < 2) × (length < stepTop) ⌝ }
     ensures { λ r. ⌜ r ≡ wordBy q count length ⌝ }
 {
@@ -43,6 +45,22 @@ pub fn cost_word(q: Measures, count: u32, length: u32) -> u32
         return length * COUNT_LIMIT + count;
     }
     count * LENGTH_LIMIT + length
+}
+
+// What a step costs: one that opens a label for a site, whose backbone reaches from its x to the width; one that ties it to a label there is.
+pub fn opening_cost(q: Measures, x: u32, height: u32, y: u32) -> u32
+    requires { ⌜ (q .head .width < numberTop) × (q .head .charge < numberTop) × (height < numberTop) × (y < numberTop) ⌝ }
+    ensures { λ r. ⌜ r ≡ openingBy q x height y ⌝ }
+{
+    let backbone = monus(q.head.width, x);
+    cost_word(q, 1, backbone + share_of(q.head.charge, height, y))
+}
+
+pub fn joining_cost(q: Measures, height: u32, y: u32) -> u32
+    requires { ⌜ (q .head .charge < numberTop) × (height < numberTop) × (y < numberTop) ⌝ }
+    ensures { λ r. ⌜ r ≡ joiningBy q height y ⌝ }
+{
+    cost_word(q, 0, share_of(q.head.charge, height, y))
 }
 
 // A layout's first word from its cost.

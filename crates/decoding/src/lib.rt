@@ -21,10 +21,11 @@ use words::SLOT;
 use words::body::body_of;
 use words::body::count_kind;
 use words::body::sites_run;
+use words::charge::charge_of;
 use words::tied::Head;
 ghost use Rattle.lists.specs.Arrays.{padded};
 
-// Side, aim, gap and width: after the refusals the head is taken apart nowhere else.
+// Side, aim, gap, width and charge: after the refusals the head is taken apart nowhere else.
 fn head_of(sheet: &[u32]) -> Head
     ensures { λ r. ⌜ r ≡ headBy (sheetIn (now (sheet .entry))) ⌝ }
 {
@@ -34,6 +35,7 @@ fn head_of(sheet: &[u32]) -> Head
         shortest: words::same(words::aim_bit(w), 1),
         gap: words::gap_field(w),
         width: words::low_field(w),
+        charge: charge_of(sheet),
     }
 }
 
@@ -166,7 +168,7 @@ fn colours_of(sheet: &[u32]) -> [u32; MOST_SITES]
 
 // ---- all of them
 
-// An accepted sheet's numbers, by value: what its head says, how many slots (m), colours (C) and sites (n) it has, and their arrays.
+// An accepted sheet's numbers, by value: what its head and its charge say, how many slots (m), colours (C) and sites (n) it has, and their arrays.
 pub struct Numbers {
     pub head: Head,
     pub slots: usize,
@@ -189,6 +191,7 @@ pub fn no_numbers() -> Numbers
         shortest: false,
         gap: 0,
         width: 0,
+        charge: 0,
     };
     Numbers {
         head: head,

@@ -1,12 +1,13 @@
 -- Laws of what rules 3 and 5 and the length ask by numbers: heights far enough apart, a label clear of a site, a site that counts, a
 -- site's share. No other proof spells these out, but Document03, which holds them to document 03's. Assumes nothing.
-use mathlib.Core.Path.{_≡_}
-use mathlib.Core.Bool.{true}
-use Prim.Native.Nat.{ℕ, _≤_, _<_}
+use mathlib.Core.Path.{_≡_, _∙_}
+use mathlib.Core.Bool.{true, false}
+use Prim.Native.Nat.{ℕ, _+_, _≤_, _<_}
 use native.Mathlib.Omega.{arith}
-use borrow.Author.Tests.{leb-true, le-leb}
-use Rattle.sheet.specs.Limits.{numberTop, mostNumber}
-use Rattle.labelling.specs.Layout.{apart, farBy, countsBy, clearBy, shareBy}
+use borrow.Author.Tests.{leb-true, le-leb, eq-eqb, ne-eqb}
+use Rattle.lists.proofs.Tests.{by-equal}
+use Rattle.sheet.specs.Limits.{numberTop, mostShare}
+use Rattle.labelling.specs.Layout.{apart, farBy, countsBy, clearBy, offBy, shareBy}
 
 -- ---- two labels
 
@@ -77,8 +78,29 @@ pub right-counts : (d e x : ℕ) → countsBy d e x ≡ true → e ≤ x
 unfolding countsBy
 right-counts d e x f = leb-true e x f
 
--- ---- a site's share is at most the greatest number
+-- ---- a site's share
 
-pub share-le : (h y : ℕ) → h < numberTop → y < numberTop → shareBy h y ≤ mostNumber
+pub off-none : (h y : ℕ) → h ≡ y → offBy h y ≡ false
+unfolding offBy
+off-none h y e = rw (eq-eqb h y e)
+
+pub off-some : (h y : ℕ) → (h ≡ y → ⊥) → offBy h y ≡ true
+unfolding offBy
+off-some h y n = rw (ne-eqb h y n)
+
+-- on its backbone a site has none; off it, the distance and the charge
+pub share-on : (c h y : ℕ) → h ≡ y → shareBy c h y ≡ 0
 unfolding shareBy
-share-le h y p q = omega arith
+share-on c h y e = rw (off-none h y e) (omega arith)
+
+pub share-off : (c h y : ℕ) → (h ≡ y → ⊥) → shareBy c h y ≡ apart h y + c
+unfolding shareBy
+share-off c h y n = rw (off-some h y n)
+
+-- without a charge it is the distance
+pub share-free : (h y : ℕ) → shareBy 0 h y ≡ apart h y
+share-free h y = by-equal h y (λ e. share-on 0 h y e ∙ omega arith) λ n. share-off 0 h y n ∙ omega arith
+
+-- it is at most the greatest drop and the greatest charge
+pub share-le : (c h y : ℕ) → c < numberTop → h < numberTop → y < numberTop → shareBy c h y ≤ mostShare
+share-le c h y o p q = by-equal h y (λ e. omega (arith, share-on c h y e)) λ n. omega (arith, share-off c h y n)

@@ -1,6 +1,7 @@
 -- Document 03's text where the definitions have another, and that the two are one: rule 1 there tests each site against the later
--- ones, rule 3 neighbours among the used slots; the order goes by x, here by rank; a site's share is written out. Equal: refusals and
--- calls on every list, and on every accepted sheet the least broken rule, which of two is better and the answer. Assumes nothing.
+-- ones, rule 3 neighbours among the used slots; the order goes by x, here by rank; a site's share is written out. It knows no charge, so
+-- the two are shown to be one where a sheet has no charge word. There they are equal: refusals and calls on every list, and on every accepted
+-- sheet the least broken rule, which of two is better and the answer. Assumes nothing.
 use mathlib.Core.Path.{_≡_, refl, _∙_, ap, ap₂, subst, fun-ext}
 use mathlib.Core.Logic.{_⊎_, inl, inr}
 use mathlib.Core.Bool.{Bool, true, false, _&&_, _||_, not, false≢true, cond}
@@ -12,11 +13,11 @@ use lib.Dec.{ltb, leb, eqb}
 use lib.ListN.{length, getD, drop, replicate, length-append}
 use borrow.Author.Tests.{ltb-true, ltb-false, leb-true, eqb-true, eqb-false, lt-ltb, le-leb, ne-eqb}
 use Rattle.sheet.specs.Refusals.{unless, given}
-use Rattle.sheet.specs.Sheet.{all, inOrder, Site, Sheet, sheetIn, productOf, rising, hasRank, ranksDiffer, isHead, countsFit, insideBy, sheetFault, workFor, rankBy}
+use Rattle.sheet.specs.Sheet.{all, bits, inOrder, Site, Sheet, slotsIn, coloursIn, sitesIn, headIn, chargeAt, hasCharge, bodyOf, sheetIn, productOf, rising, hasRank, ranksDiffer, isHead, countsFit, insideBy, sheetFault, workFor, rankBy}
 use Rattle.labelling.specs.Layout.{tiesIn, Tied, tieAt, tied, apart, farBy, countsBy, clearBy, shareBy, heightOf, isUsed, usedOf, leftEnd, colourKept, coloursOf, coloursKept, boundsKept, gapKept, gapsOf, gapsKept, verticalHas, missesAll, clearsAll, countOf, backbones, drops, lengthOf, brokenIn, layoutWords, statedCount, statedLength, isLayout, isLawful, brokenBy, nextRank, slotAt, byRank, comesFirst, isBetter, betterOf, bestOver, bestFrom, best, answer, answerBy, sheetPart, layoutPart, judgeFault, judged, layoutBody, layoutTies}
 use Rattle.labelling.specs.Entry.{isNone, makeFault, makeAnswer, makeWork}
 use Rattle.lists.proofs.Tests.{eqb-self, eqb-sym, same-test, by-test, by-equal, and-l, and-r, and-i, or-e, tests}
-use Rattle.labelling.proofs.Distances.{far-e, far-i}
+use Rattle.labelling.proofs.Distances.{far-e, far-i, share-free}
 use Rattle.sheet.proofs.Refusals.{turned}
 use Rattle.labelling.proofs.Refusals.{make-chain, judge-chain}
 use Rattle.labelling.proofs.Members.{each, every, rise-at, all-used, used-head, used-tail, used-from, from-used, used-at, at-used, head-rise, tail-rise, used-rise}
@@ -37,14 +38,28 @@ unfoldable pub xsDiffer : List Site → Bool
 xsDiffer [] = true
 xsDiffer (s ∷ ss) = not (hasX (s .x) ss) && xsDiffer ss
 
+-- the sheet in a list of words: its body begins after the head
+abbrev pub sheetIn03 : (words : List ℕ) → Sheet
+sheetIn03 ws =
+    record {
+      isTwoSided = eqb (bits (headIn ws) 27 1) 1;
+      isShortest = eqb (bits (headIn ws) 26 1) 1;
+      gap = bits (headIn ws) 14 12;
+      width = bits (headIn ws) 0 14;
+      charge = 0;
+      slots = slotsIn (drop 1 ws);
+      colours = coloursIn (drop 1 ws);
+      sites = sitesIn 0 (drop 1 ws);
+    }
+
 abbrev pub sheetFault03 : (words : List ℕ) → ℕ
 sheetFault03 ws =
     cond (not (isHead ws)) 1
     (cond (not (inOrder 0 (drop 1 ws))) 2
-    (cond (not (countsFit (sheetIn ws))) 3
-    (cond (not (rising (sheetIn ws .slots))) 4
-    (cond (not (all (insideBy (sheetIn ws .width)) (sheetIn ws .sites))) 5
-    (cond (not (xsDiffer (sheetIn ws .sites))) 6 (cond (ltb 64 (productOf (sheetIn ws .colours))) 7 0))))))
+    (cond (not (countsFit (sheetIn03 ws))) 3
+    (cond (not (rising (sheetIn03 ws .slots))) 4
+    (cond (not (all (insideBy (sheetIn03 ws .width)) (sheetIn03 ws .sites))) 5
+    (cond (not (xsDiffer (sheetIn03 ws .sites))) 6 (cond (ltb 64 (productOf (sheetIn03 ws .colours))) 7 0))))))
 
 -- 1: sites that share a slot share a colour
 unfoldable pub colourAgrees : Tied → List Tied → Bool
@@ -160,26 +175,26 @@ answer03 s = answerBy03 s (best03 s)
 abbrev pub judgeFault03 : (words : List ℕ) → ℕ
 judgeFault03 ws =
     cond (not (eqb (sheetFault03 (sheetPart ws)) 0)) (sheetFault03 (sheetPart ws))
-    (cond (isLayout (sheetIn (sheetPart ws)) (layoutPart ws)) 0 11)
+    (cond (isLayout (sheetIn03 (sheetPart ws)) (layoutPart ws)) 0 11)
 
 abbrev pub judged03 : (words : List ℕ) → ℕ
-judged03 ws = brokenBy03 (sheetIn (sheetPart ws)) (layoutPart ws)
+judged03 ws = brokenBy03 (sheetIn03 (sheetPart ws)) (layoutPart ws)
 
 -- what the maker's call answers and leaves, with the 18 that document 02's (n) puts after 7
 abbrev pub makeFault03 : (sheet work out : List ℕ) → ℕ
 makeFault03 ws k o =
     cond (not (eqb (sheetFault03 ws) 0)) (sheetFault03 ws)
-    (cond (sheetIn ws .isTwoSided) 18
-    (cond (ltb (length k) (workFor (sheetIn ws))) 8
-    (cond (ltb (length o) (length (sheetIn ws .sites) + 1)) 9 (cond (isNone (best03 (sheetIn ws))) 10 0))))
+    (cond (sheetIn03 ws .isTwoSided) 18
+    (cond (ltb (length k) (workFor (sheetIn03 ws))) 8
+    (cond (ltb (length o) (length (sheetIn03 ws .sites) + 1)) 9 (cond (isNone (best03 (sheetIn03 ws))) 10 0))))
 
 abbrev pub makeAnswer03 : (sheet work out : List ℕ) → List ℕ
 makeAnswer03 ws k o =
-    cond (eqb (makeFault03 ws k o) 0) (answer03 (sheetIn ws) ++ drop (length (sheetIn ws .sites) + 1) o) o
+    cond (eqb (makeFault03 ws k o) 0) (answer03 (sheetIn03 ws) ++ drop (length (sheetIn03 ws .sites) + 1) o) o
 
 abbrev pub makeWork03 : (sheet work out : List ℕ) → List ℕ
 makeWork03 ws k o =
-    cond (eqb (makeFault03 ws k o) 0 || eqb (makeFault03 ws k o) 10) (replicate (workFor (sheetIn ws)) 0 ++ drop (workFor (sheetIn ws)) k) k
+    cond (eqb (makeFault03 ws k o) 0 || eqb (makeFault03 ws k o) 10) (replicate (workFor (sheetIn03 ws)) 0 ++ drop (workFor (sheetIn03 ws)) k) k
 
 -- ---- refusal 6, for every list
 
@@ -207,18 +222,40 @@ chain true true true true true false g = refl
 chain true true true true true true false = refl
 chain true true true true true true true = refl
 
-pub sheet-agrees : (ws : List ℕ) → sheetFault ws ≡ sheetFault03 ws
-sheet-agrees ws =
-    chain (isHead ws) (inOrder 0 (drop 1 ws)) (countsFit (sheetIn ws)) (rising (sheetIn ws .slots)) (all (insideBy (sheetIn ws .width)) (sheetIn ws .sites))
-    (ranksDiffer (sheetIn ws .sites)) (leb (productOf (sheetIn ws .colours)) 64) ∙
-    ap₂ (λ (b p : Bool). cond (not (isHead ws)) 1
-    (cond (not (inOrder 0 (drop 1 ws))) 2
-    (cond (not (countsFit (sheetIn ws))) 3
-    (cond (not (rising (sheetIn ws .slots))) 4
-    (cond (not (all (insideBy (sheetIn ws .width)) (sheetIn ws .sites))) 5
-    (cond (not b) 6 (cond p 7 0)))))))
-    (differ-agrees (sheetIn ws .sites)) (ap not (turned (productOf (sheetIn ws .colours)) 64) ∙ twice (ltb 64 (productOf (sheetIn ws .colours))))
+-- ---- a sheet without a charge word: the sheet in its words, and its refusals
+
+pub sheet-same : (ws : List ℕ) → hasCharge ws ≡ false → sheetIn ws ≡ sheetIn03 ws
+sheet-same ws u = ap by u
   where
+    by : Bool → Sheet
+    by b =
+        let vs : List ℕ = drop (cond b 2 1) ws in
+        record {
+          isTwoSided = eqb (bits (headIn ws) 27 1) 1;
+          isShortest = eqb (bits (headIn ws) 26 1) 1;
+          gap = bits (headIn ws) 14 12;
+          width = bits (headIn ws) 0 14;
+          charge = cond b (bits (getD ws chargeAt 0) 0 14) 0;
+          slots = slotsIn vs;
+          colours = coloursIn vs;
+          sites = sitesIn 0 vs;
+        }
+
+pub sheet-agrees : (ws : List ℕ) → hasCharge ws ≡ false → sheetFault ws ≡ sheetFault03 ws
+sheet-agrees ws u =
+    chain (isHead ws) (inOrder 0 (bodyOf ws)) (countsFit (sheetIn ws)) (rising (sheetIn ws .slots)) (all (insideBy (sheetIn ws .width)) (sheetIn ws .sites))
+    (ranksDiffer (sheetIn ws .sites)) (leb (productOf (sheetIn ws .colours)) 64) ∙
+    ap₂ (by (inOrder 0 (bodyOf ws)) (sheetIn ws))
+    (differ-agrees (sheetIn ws .sites)) (ap not (turned (productOf (sheetIn ws .colours)) 64) ∙ twice (ltb 64 (productOf (sheetIn ws .colours)))) ∙
+    ap₂ (λ (vs : List ℕ) (s : Sheet). by (inOrder 0 vs) s (xsDiffer (s .sites)) (ltb 64 (productOf (s .colours)))) (ap (λ (b : Bool). drop (cond b 2 1) ws) u) (sheet-same ws u)
+  where
+    by : (order : Bool) → Sheet → (differ product : Bool) → ℕ
+    by o s b p =
+        cond (not (isHead ws)) 1
+        (cond (not o) 2
+        (cond (not (countsFit s)) 3
+        (cond (not (rising (s .slots))) 4 (cond (not (all (insideBy (s .width)) (s .sites))) 5 (cond (not b) 6 (cond p 7 0))))))
+
     twice : (b : Bool) → not (not b) ≡ b
     twice b = by-test b (λ e. rw e) (λ e. rw e)
 
@@ -346,15 +383,17 @@ module _ (s : Sheet) (o : Sound s) (js : List ℕ) (long : length js ≡ length 
       (cond (not c) 3 (cond (not (all (missesAll s js) (tied s js))) 4 (cond (not (all (clearsAll s js) (tied s js))) 5 0)))))
       (colours-agree (tied s js)) gaps-agree
 
--- ---- lengths and the order, for every sheet and all ties
+-- ---- lengths on a sheet without a charge; the order, for every sheet and all ties
 
-drops-agree : (s : Sheet) (ts : List Tied) → drops s ts ≡ drops03 s ts
-unfolding drops drops03 shareBy
-drops-agree s [] = refl
-drops-agree s (t ∷ ts) = ap (λ (n : ℕ). apart (heightOf s (t .slot)) (t .site .y) + n) (drops-agree s ts)
+drops-agree : (s : Sheet) → s .charge ≡ 0 → (ts : List Tied) → drops s ts ≡ drops03 s ts
+unfolding drops drops03
+drops-agree s z [] = refl
+drops-agree s z (t ∷ ts) =
+    let h : ℕ = heightOf s (t .slot) in
+    ap₂ _+_ (ap (λ (c : ℕ). shareBy c h (t .site .y)) z ∙ share-free h (t .site .y)) (drops-agree s z ts)
 
-pub length-agrees : (s : Sheet) (js : List ℕ) → lengthOf s js ≡ lengthOf03 s js
-length-agrees s js = ap (λ (n : ℕ). backbones s js (usedOf s js) + n) (drops-agree s (tied s js))
+pub length-agrees : (s : Sheet) → s .charge ≡ 0 → (js : List ℕ) → lengthOf s js ≡ lengthOf03 s js
+length-agrees s z js = ap (λ (n : ℕ). backbones s js (usedOf s js) + n) (drops-agree s z (tied s js))
 
 next-agrees : (a b : ℕ) (ts : List Tied) → nextRank a b ts ≡ nextX a b ts
 unfolding nextRank nextX rankBy
@@ -372,103 +411,125 @@ unfolding byRank byX
 order-agrees zero a ts = refl
 order-agrees (suc n) a ts = rw (next-agrees a 16384 ts, slot-agrees (nextX a 16384 ts) ts, order-agrees n (nextX a 16384 ts + 1) ts)
 
-pub better-agrees : (s : Sheet) (js ks : List ℕ) → isBetter s js ks ≡ isBetter03 s js ks
-better-agrees s js ks =
-    λ i. before
-    (cond (s .isShortest) (length-agrees s js i) (countOf s js)) (cond (s .isShortest) (countOf s js) (length-agrees s js i)) (order-agrees (length (s .sites)) 0 (tied s js) i)
-    (cond (s .isShortest) (length-agrees s ks i) (countOf s ks)) (cond (s .isShortest) (countOf s ks) (length-agrees s ks i)) (order-agrees (length (s .sites)) 0 (tied s ks) i)
+-- ---- on an accepted sheet without a charge: which is better, the answer, the judge's verdict
 
--- ---- the answer
+module _ (s : Sheet) (z : s .charge ≡ 0) where
+  pub better-agrees : (js ks : List ℕ) → isBetter s js ks ≡ isBetter03 s js ks
+  better-agrees js ks =
+      λ i. before
+      (cond (s .isShortest) (length-agrees s z js i) (countOf s js)) (cond (s .isShortest) (countOf s js) (length-agrees s z js i)) (order-agrees (length (s .sites)) 0 (tied s js) i)
+      (cond (s .isShortest) (length-agrees s z ks i) (countOf s ks)) (cond (s .isShortest) (countOf s ks) (length-agrees s z ks i)) (order-agrees (length (s .sites)) 0 (tied s ks) i)
 
-better-of : (s : Sheet) (p q : Option (List ℕ)) → betterOf s p q ≡ betterOf03 s p q
-better-of s none q = refl
-better-of s (some a) none = refl
-better-of s (some a) (some b) = ap (λ (t : Bool). some (cond t b a)) (better-agrees s b a)
+  better-of : (p q : Option (List ℕ)) → betterOf s p q ≡ betterOf03 s p q
+  better-of none q = refl
+  better-of (some a) none = refl
+  better-of (some a) (some b) = ap (λ (t : Bool). some (cond t b a)) (better-agrees b a)
 
-over-agrees : (f g : List ℕ → Option (List ℕ)) (s : Sheet) (k c : ℕ) (js : List ℕ) → ((j : ℕ) → j < k + c → f (js ++ (j ∷ [])) ≡ g (js ++ (j ∷ []))) →
-    bestOver f s k c js ≡ bestOver03 g s k c js
-unfolding bestOver bestOver03
-over-agrees f g s k zero js h = refl
-over-agrees f g s k (suc c) js h =
-    ap₂ (betterOf s) (h k (omega arith)) (over-agrees f g s (suc k) c js λ j l. h j (omega arith)) ∙ better-of s (g (js ++ (k ∷ []))) (bestOver03 g s (suc k) c js)
+  over-agrees : (f g : List ℕ → Option (List ℕ)) (k c : ℕ) (js : List ℕ) → ((j : ℕ) → j < k + c → f (js ++ (j ∷ [])) ≡ g (js ++ (j ∷ []))) →
+      bestOver f s k c js ≡ bestOver03 g s k c js
+  unfolding bestOver bestOver03
+  over-agrees f g k zero js h = refl
+  over-agrees f g k (suc c) js h =
+      ap₂ (betterOf s) (h k (omega arith)) (over-agrees f g (suc k) c js λ j l. h j (omega arith)) ∙ better-of (g (js ++ (k ∷ []))) (bestOver03 g s (suc k) c js)
+
+  answer-by : (r : Option (List ℕ)) → answerBy s r ≡ answerBy03 s r
+  answer-by none = refl
+  answer-by (some js) = ap (λ (n : ℕ). layoutWords (countOf s js) n js) (length-agrees s z js)
 
 low-more : (m : ℕ) (js : List ℕ) (j : ℕ) → lowTies m js ≡ true → j < m → lowTies m (js ++ (j ∷ [])) ≡ true
 unfolding all
 low-more m [] j h l = and-i (lt-ltb j m l) refl
 low-more m (k ∷ js) j h l = and-i (and-l (ltb k m) (lowTies m js) h) (low-more m js j (and-r (ltb k m) (lowTies m js) h) l)
 
-from-agrees : (s : Sheet) → Sound s → (n : ℕ) (js : List ℕ) → length js + n ≡ length (s .sites) → lowTies (length (s .slots)) js ≡ true → bestFrom n s js ≡ bestFrom03 n s js
-unfolding bestFrom bestFrom03
-from-agrees s o zero js l b = ap (λ (v : ℕ). cond (eqb v 0) (some js) none) (broken-agrees s o js (omega arith) b)
-from-agrees s o (suc n) js l b =
-    over-agrees (bestFrom n s) (bestFrom03 n s) s 0 (length (s .slots)) js λ j u.
-    from-agrees s o n (js ++ (j ∷ [])) (rw (length-append js (j ∷ [])) (omega arith)) (low-more (length (s .slots)) js j b (omega arith))
+module _ (s : Sheet) (z : s .charge ≡ 0) (o : Sound s) where
+  from-agrees : (n : ℕ) (js : List ℕ) → length js + n ≡ length (s .sites) → lowTies (length (s .slots)) js ≡ true → bestFrom n s js ≡ bestFrom03 n s js
+  unfolding bestFrom bestFrom03
+  from-agrees zero js l b = ap (λ (v : ℕ). cond (eqb v 0) (some js) none) (broken-agrees s o js (omega arith) b)
+  from-agrees (suc n) js l b =
+      over-agrees s z (bestFrom n s) (bestFrom03 n s) 0 (length (s .slots)) js λ j u.
+      from-agrees n (js ++ (j ∷ [])) (rw (length-append js (j ∷ [])) (omega arith)) (low-more (length (s .slots)) js j b (omega arith))
 
-pub best-agrees : (s : Sheet) → Sound s → best s ≡ best03 s
-best-agrees s o = from-agrees s o (length (s .sites)) [] (omega arith) (unfold all in refl)
+  pub best-agrees : best s ≡ best03 s
+  best-agrees = from-agrees (length (s .sites)) [] (omega arith) (unfold all in refl)
 
-answer-by : (s : Sheet) (r : Option (List ℕ)) → answerBy s r ≡ answerBy03 s r
-answer-by s none = refl
-answer-by s (some js) = ap (λ (n : ℕ). layoutWords (countOf s js) n js) (length-agrees s js)
+  pub answer-agrees : answer s ≡ answer03 s
+  answer-agrees = answer-by s z (best s) ∙ ap (answerBy03 s) best-agrees
 
-pub answer-agrees : (s : Sheet) → Sound s → answer s ≡ answer03 s
-answer-agrees s o = answer-by s (best s) ∙ ap (answerBy03 s) (best-agrees s o)
+  pub verdict-agrees : (b : List ℕ) → isLayout s b ≡ true → brokenBy s b ≡ brokenBy03 s b
+  verdict-agrees b h =
+      let f : Formed s b = formed s b h in
+      let js : List ℕ = layoutTies b in
+      ap₂ (λ (v l : ℕ). cond (not (eqb v 0)) v (cond (eqb (statedCount b) (countOf s js) && eqb (statedLength b) l) 0 6))
+      (broken-agrees s o js (formed-long s b f) (ties-low s (layoutBody b) (f .ties))) (length-agrees s z js)
 
--- ---- the judge's verdict and every call
+  pub lawful-agrees : (b : List ℕ) → isLawful s b ≡ isLawful03 s b
+  lawful-agrees b =
+      by-test (isLayout s b) (λ e. ap (λ (v : ℕ). isLayout s b && eqb v 0) (verdict-agrees b e)) λ e. neither (isLayout s b) _ _ e
+    where
+      neither : (p q r : Bool) → p ≡ false → (p && q) ≡ (p && r)
+      neither p q r e = rw e
 
-pub verdict-agrees : (s : Sheet) → Sound s → (b : List ℕ) → isLayout s b ≡ true → brokenBy s b ≡ brokenBy03 s b
-verdict-agrees s o b h =
-    let f : Formed s b = formed s b h in
-    let js : List ℕ = layoutTies b in
-    ap₂ (λ (v l : ℕ). cond (not (eqb v 0)) v (cond (eqb (statedCount b) (countOf s js) && eqb (statedLength b) l) 0 6))
-    (broken-agrees s o js (formed-long s b f) (ties-low s (layoutBody b) (f .ties))) (length-agrees s js)
+-- ---- every call on a sheet without a charge word, and every stored sheet of one
 
-pub lawful-agrees : (s : Sheet) → Sound s → (b : List ℕ) → isLawful s b ≡ isLawful03 s b
-lawful-agrees s o b =
-    by-test (isLayout s b) (λ e. ap (λ (v : ℕ). isLayout s b && eqb v 0) (verdict-agrees s o b e)) λ e. neither (isLayout s b) _ _ e
-  where
-    neither : (p q r : Bool) → p ≡ false → (p && q) ≡ (p && r)
-    neither p q r e = rw e
+module _ (ws : List ℕ) (u : hasCharge ws ≡ false) where
+  pub charge-none : sheetIn ws .charge ≡ 0
+  charge-none = ap (λ (s : Sheet). s .charge) (sheet-same ws u)
 
-pub fault-agrees : (ws k o : List ℕ) → makeFault ws k o ≡ makeFault03 ws k o
-fault-agrees ws k o =
-    make-chain ws k o ∙ ap (λ (f : ℕ). cond (not (eqb f 0)) f (late (best (sheetIn ws)))) (sheet-agrees ws) ∙
-    by-equal (sheetFault03 ws) 0
-    (λ e. ap (λ (r : Option (List ℕ)). cond (not (eqb (sheetFault03 ws) 0)) (sheetFault03 ws) (late r)) (best-agrees (sheetIn ws) (sound ws (sheet-agrees ws ∙ e))))
-    λ e. early (sheetFault03 ws) _ _ e
-  where
-    late : Option (List ℕ) → ℕ
-    late r =
-        cond (sheetIn ws .isTwoSided) 18
-        (cond (ltb (length k) (workFor (sheetIn ws))) 8 (cond (ltb (length o) (length (sheetIn ws .sites) + 1)) 9 (cond (isNone r) 10 0)))
+  pub sound-03 : sheetFault03 ws ≡ 0 → Sound (sheetIn ws)
+  sound-03 f = sound ws (sheet-agrees ws u ∙ f)
 
-    early : (f a b : ℕ) → (f ≡ 0 → ⊥) → cond (not (eqb f 0)) f a ≡ cond (not (eqb f 0)) f b
-    early f a b e = rw (ne-eqb f 0 e)
+  module _ (k o : List ℕ) where
+    pub fault-agrees : makeFault ws k o ≡ makeFault03 ws k o
+    fault-agrees =
+        make-chain ws k o ∙ ap (λ (f : ℕ). cond (not (eqb f 0)) f (late s (best s))) (sheet-agrees ws u) ∙
+        by-equal (sheetFault03 ws) 0
+        (λ e. ap (λ (r : Option (List ℕ)). cond (not (eqb (sheetFault03 ws) 0)) (sheetFault03 ws) (late s r)) (best-agrees s charge-none (sound-03 e)))
+        (λ e. early (sheetFault03 ws) _ _ e) ∙
+        ap (λ (t : Sheet). cond (not (eqb (sheetFault03 ws) 0)) (sheetFault03 ws) (late t (best03 t))) (sheet-same ws u)
+      where
+        s : Sheet
+        s = sheetIn ws
 
-pub answer-area-agrees : (ws k o : List ℕ) → makeAnswer ws k o ≡ makeAnswer03 ws k o
-answer-area-agrees ws k o =
-    ap (λ (f : ℕ). cond (eqb f 0) (answer (sheetIn ws) ++ rest) o) (fault-agrees ws k o) ∙
-    by-test (eqb (makeFault03 ws k o) 0)
-    (λ e. ap (λ (a : List ℕ). cond (eqb (makeFault03 ws k o) 0) (a ++ rest) o) (answer-agrees (sheetIn ws) (sound ws (sheet-agrees ws ∙ accepted (sheetFault03 ws) _ e))))
-    λ e. unwritten (eqb (makeFault03 ws k o) 0) _ _ e
-  where
-    rest : List ℕ
-    rest = drop (length (sheetIn ws .sites) + 1) o
+        late : Sheet → Option (List ℕ) → ℕ
+        late t r =
+            cond (t .isTwoSided) 18
+            (cond (ltb (length k) (workFor t)) 8 (cond (ltb (length o) (length (t .sites) + 1)) 9 (cond (isNone r) 10 0)))
 
-    accepted : (f r : ℕ) → eqb (cond (not (eqb f 0)) f r) 0 ≡ true → f ≡ 0
-    accepted f r h = by-equal f 0 (λ e. e) λ n. eqb-true f 0 (rw (ne-eqb f 0 n) at h)
+        early : (f a b : ℕ) → (f ≡ 0 → ⊥) → cond (not (eqb f 0)) f a ≡ cond (not (eqb f 0)) f b
+        early f a b e = rw (ne-eqb f 0 e)
 
-    unwritten : (b : Bool) (x y : List ℕ) → b ≡ false → cond b x o ≡ cond b y o
-    unwritten b x y e = rw e
+    pub answer-area-agrees : makeAnswer ws k o ≡ makeAnswer03 ws k o
+    answer-area-agrees =
+        ap (λ (f : ℕ). cond (eqb f 0) (answer s ++ rest s) o) fault-agrees ∙
+        by-test (eqb (makeFault03 ws k o) 0)
+        (λ e. ap (λ (a : List ℕ). cond (eqb (makeFault03 ws k o) 0) (a ++ rest s) o) (answer-agrees s charge-none (sound-03 (accepted (sheetFault03 ws) _ e))))
+        (λ e. unwritten (eqb (makeFault03 ws k o) 0) _ _ e) ∙
+        ap (λ (t : Sheet). cond (eqb (makeFault03 ws k o) 0) (answer03 t ++ rest t) o) (sheet-same ws u)
+      where
+        s : Sheet
+        s = sheetIn ws
 
-pub work-area-agrees : (ws k o : List ℕ) → makeWork ws k o ≡ makeWork03 ws k o
-work-area-agrees ws k o =
-    ap (λ (f : ℕ). cond (eqb f 0 || eqb f 10) (replicate (workFor (sheetIn ws)) 0 ++ drop (workFor (sheetIn ws)) k) k) (fault-agrees ws k o)
+        rest : Sheet → List ℕ
+        rest t = drop (length (t .sites) + 1) o
 
-pub judge-agrees : (ws : List ℕ) → judgeFault ws ≡ judgeFault03 ws
-judge-agrees ws = judge-chain ws ∙ ap (λ (f : ℕ). cond (not (eqb f 0)) f (cond (isLayout (sheetIn (sheetPart ws)) (layoutPart ws)) 0 11)) (sheet-agrees (sheetPart ws))
+        accepted : (f r : ℕ) → eqb (cond (not (eqb f 0)) f r) 0 ≡ true → f ≡ 0
+        accepted f r h = by-equal f 0 (λ e. e) λ n. eqb-true f 0 (rw (ne-eqb f 0 n) at h)
 
-pub judged-agrees : (ws : List ℕ) → judgeFault ws ≡ 0 → judged ws ≡ judged03 ws
-judged-agrees ws h =
-    let t = judged-so .1 ws .3 .0 h in
-    verdict-agrees (sheetIn (sheetPart ws)) (sound (sheetPart ws) (t .0)) (layoutPart ws) (t .1)
+        unwritten : (b : Bool) (x y : List ℕ) → b ≡ false → cond b x o ≡ cond b y o
+        unwritten b x y e = rw e
+
+    pub work-area-agrees : makeWork ws k o ≡ makeWork03 ws k o
+    work-area-agrees =
+        ap₂ (λ (f : ℕ) (s : Sheet). cond (eqb f 0 || eqb f 10) (replicate (workFor s) 0 ++ drop (workFor s) k) k) fault-agrees (sheet-same ws u)
+
+module _ (ws : List ℕ) (u : hasCharge (sheetPart ws) ≡ false) where
+  pub judge-agrees : judgeFault ws ≡ judgeFault03 ws
+  judge-agrees =
+      judge-chain ws ∙
+      ap₂ (λ (f : ℕ) (s : Sheet). cond (not (eqb f 0)) f (cond (isLayout s (layoutPart ws)) 0 11)) (sheet-agrees (sheetPart ws) u) (sheet-same (sheetPart ws) u)
+
+  pub judged-agrees : judgeFault ws ≡ 0 → judged ws ≡ judged03 ws
+  judged-agrees h =
+      let t = judged-so .1 ws .3 .0 h in
+      verdict-agrees (sheetIn (sheetPart ws)) (charge-none (sheetPart ws) u) (sound (sheetPart ws) (t .0)) (layoutPart ws) (t .1) ∙
+      ap (λ (s : Sheet). brokenBy03 s (layoutPart ws)) (sheet-same (sheetPart ws) u)

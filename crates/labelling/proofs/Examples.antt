@@ -6,9 +6,9 @@ use mathlib.Core.Option.{none, some}
 use Prim.Native.Nat.{ℕ}
 use native.Mathlib.Omega.{arith}
 use Rattle.sheet.specs.Refusals.{given}
-use Rattle.sheet.specs.Sheet.{all, inOrder, slotsIn, sitesRun, coloursIn, sitesIn, productOf, rising, hasRank, ranksDiffer, sheetIn, sheetFault, rankBy}
-use Rattle.labelling.specs.Layout.{tiedOf, isUsed, usedFrom, leastX, slotsOf, boundsKept, backbones, drops, tieWords, tiesIn, nextRank, slotAt, byRank, comesFirst, bestOver, bestFrom, sheetPart, best, answerOf, shareBy, farBy, countsBy, clearBy}
-use Rattle.labelling.specs.Promise.{a, shortest, twoSided, gapThree, gapFour, boundZero, headAlone, laidOut, turnedDown, Examples}
+use Rattle.sheet.specs.Sheet.{all, inOrder, isCharge, slotsIn, sitesRun, coloursIn, sitesIn, productOf, rising, hasRank, ranksDiffer, sheetIn, sheetFault, rankBy}
+use Rattle.labelling.specs.Layout.{tiedOf, isUsed, usedFrom, leastX, slotsOf, boundsKept, backbones, drops, tieWords, tiesIn, nextRank, slotAt, byRank, comesFirst, bestOver, bestFrom, sheetPart, best, answerOf, offBy, shareBy, farBy, countsBy, clearBy}
+use Rattle.labelling.specs.Promise.{a, shortest, twoSided, gapThree, gapFour, boundZero, headAlone, laidOut, turnedDown, Examples, bends, chargeWord, ChargeExamples}
 use Rattle.labelling.proofs.Maker.{Called, called, refused-side, refused-work, refused-out}
 
 -- a call by what is best
@@ -22,7 +22,7 @@ refuses ws f s e k o w n =
     let c : Called ws k o none = subst (Called ws k o) e (called ws k o (f, w, n, s)) in c .fault
 
 pub examples : Examples
-unfolding given all inOrder slotsIn sitesRun coloursIn sitesIn productOf rising rankBy hasRank ranksDiffer tiedOf isUsed usedFrom leastX slotsOf boundsKept backbones farBy countsBy clearBy shareBy drops tieWords tiesIn nextRank slotAt byRank comesFirst bestOver bestFrom sheetPart
+unfolding given all inOrder isCharge slotsIn sitesRun coloursIn sitesIn productOf rising rankBy hasRank ranksDiffer tiedOf isUsed usedFrom leastX slotsOf boundsKept backbones farBy countsBy clearBy offBy shareBy drops tieWords tiesIn nextRank slotAt byRank comesFirst bestOver bestFrom sheetPart
 examples = (
   (refl, refl, refl, refl, refl, refl, refl, refl, refl, refl, refl, refl, refl),
   (
@@ -42,4 +42,17 @@ examples = (
     (λ k o l. refused-work a k o refl refl (omega arith) .fault-is),
     λ k o l n. refused-out a k o refl refl (omega arith) (omega arith) .fault-is,
   ),
+)
+
+pub charge-examples : ChargeExamples
+unfolding given all inOrder isCharge slotsIn sitesRun coloursIn sitesIn productOf rising rankBy hasRank ranksDiffer tiedOf isUsed usedFrom leastX slotsOf boundsKept backbones farBy countsBy clearBy offBy shareBy drops tieWords tiesIn nextRank slotAt byRank comesFirst bestOver bestFrom sheetPart
+charge-examples = (
+  (
+    lays (bends []) (0 ∷ 0 ∷ []) refl refl refl,
+    lays (bends (chargeWord 0 ∷ [])) (0 ∷ 0 ∷ []) refl refl refl,
+    lays (bends (chargeWord 3 ∷ [])) (0 ∷ 0 ∷ []) refl refl refl,
+    lays (bends (chargeWord 5 ∷ [])) (0 ∷ 2 ∷ []) refl refl refl,
+  ),
+  ((refl, refl), (refl, refl), (refl, refl), (refl, refl), (refl, refl)),
+  (refl, refl, refl, refl, refl, refl),
 )

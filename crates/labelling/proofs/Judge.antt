@@ -10,10 +10,11 @@ use lib.Dec.{ltb, eqb}
 use lib.ListN.{length, getD, drop}
 use lib.Seq.{drop-append-seam}
 use borrow.Author.Tests.{eqb-true, eq-eqb, ne-eqb}
-use Rattle.sheet.specs.Sheet.{all, kindOf, inOrder, sheetIn, sheetFault}
+use Rattle.sheet.specs.Sheet.{all, kindOf, inOrder, isCharge, bodyOf, sheetIn, sheetFault}
 use Rattle.labelling.specs.Layout.{isLayout, brokenBy, sheetPart, layoutPart}
 use Rattle.labelling.specs.Promise.{JudgedSo, isEight, EveryListJudged, LayoutJudged}
 use Rattle.lists.proofs.Tests.{by-test, by-equal, and-l, and-r, and-i}
+use Rattle.sheet.proofs.Charge.{charge-kind}
 use Rattle.sheet.proofs.Accepted.{Unrefused, unrefused, Step, step, fault-seven}
 use Rattle.labelling.proofs.Refusals.{judge-chain}
 use Rattle.labelling.proofs.Words.{Formed, formed}
@@ -31,6 +32,15 @@ no-eight z (w ∷ ws) bs h k l = go (step z w ws h .1) (λ y i. no-eight y ws bs
     go (Step.colour e i) ih = rw (ne-eqb (kindOf w) 8 (λ q. omega arith), ih 1 i)
     go (Step.site e q i) ih = rw (ne-eqb (kindOf w) 8 (λ q. omega arith), ih 1 i)
 
+-- the words after the head: a charge is not of kind 8 either
+after-head : (w : ℕ) (ws b : List ℕ) → inOrder 0 (bodyOf (w ∷ ws)) ≡ true → kindOf (getD b 0 0) ≡ 8 → 0 < length b → sheetPart (ws ++ b) ≡ ws
+unfolding sheetPart
+after-head w [] b h k l = no-eight 0 [] b (unfold inOrder in refl) k l
+after-head w (v ∷ ws) b h k l =
+    by-test (isCharge v)
+    (λ e. rw (ne-eqb (kindOf v) 8 (λ q. omega (arith, charge-kind v e)), no-eight 0 ws b (rw e at h) k l))
+    λ e. no-eight 0 (v ∷ ws) b (rw e at h) k l
+
 -- an accepted sheet before a layout is the sheet part
 pub sheet-part : (ws b : List ℕ) → sheetFault ws ≡ 0 → isLayout (sheetIn ws) b ≡ true → sheetPart (ws ++ b) ≡ ws
 unfolding sheetPart
@@ -39,7 +49,7 @@ sheet-part (w ∷ ws) b h l =
     let u : Unrefused (w ∷ ws) = unrefused (w ∷ ws) h in
     let f : Formed (sheetIn (w ∷ ws)) b = formed (sheetIn (w ∷ ws)) b l in
     let k : kindOf w ≡ 1 = eqb-true (kindOf w) 1 (and-r (ltb 0 (length (w ∷ ws))) _ (and-l _ _ (and-l _ _ (u .head)))) in
-    rw (ne-eqb (kindOf w) 8 (λ q. omega arith), no-eight 0 ws b (u .order) (f .kind) (omega (arith, f .long)))
+    rw (ne-eqb (kindOf w) 8 (λ q. omega arith), after-head w ws b (u .order) (f .kind) (omega (arith, f .long)))
 
 layout-judged : LayoutJudged
 layout-judged ws b aw ab h l =

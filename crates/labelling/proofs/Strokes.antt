@@ -3,17 +3,18 @@
 use mathlib.Core.Path.{_≡_, refl, sym, _∙_, ap, ap₂, fun-ext}
 use mathlib.Core.Bool.{Bool, true, false, cond}
 use mathlib.Core.List.{List, [], _∷_, _++_}
-use Prim.Native.Nat.{ℕ, zero, suc, _+_, _-_, _≤_, _<_}
+use Prim.Native.Nat.{ℕ, zero, suc, _+_, _*_, _-_, _≤_, _<_}
 use native.Mathlib.Omega.{arith}
 use lib.ListN.{length, getD}
 use borrow.Author.Tests.{leb-true, lt-ltb, le-ltb, eq-eqb, ne-eqb}
 use Rattle.lists.proofs.Tests.{by-test, by-equal}
 use Rattle.sheet.specs.Sheet.{Sheet, sheetIn, insideBy}
 use Rattle.sheet.proofs.Accepted.{Sound, sound}
-use Rattle.labelling.specs.Layout.{noSite, siteAt, tieAt, heightOf, isUsed, leastX, leftEnd, tied, usedOf, countOf, drops, lengthOf, siteShare, shareBy, layoutTies, sheetPart, layoutPart, storedFault}
+use Rattle.labelling.specs.Layout.{noSite, siteAt, tieAt, heightOf, isUsed, leastX, leftEnd, tied, usedOf, countOf, drops, lengthOf, siteShare, layoutTies, sheetPart, layoutPart, storedFault}
 use Rattle.labelling.specs.Counted.{sumBefore}
 use Rattle.labelling.specs.Lawful.{RuleSix}
-use Rattle.labelling.specs.Strokes.{Stroke, boneOf, dropOf, isOff, listed, bonesOf, dropsOf, strokesOf, strokesIn, noStroke, strokeFault, sumOf, oneBone, oneDrop, unitsOf, sitesOff, EndsInside, StrokesAddUp}
+use Rattle.labelling.specs.Strokes.{Stroke, boneOf, dropOf, isOff, listed, bonesOf, dropsOf, strokesOf, strokesIn, noStroke, strokeFault, sumOf, oneBone, oneDrop, unitsOf, sitesOff, chargesOff, EndsInside, StrokesAddUp}
+use Rattle.labelling.proofs.Distances.{off-none, off-some, share-on, share-off}
 use Rattle.labelling.proofs.Members.{all-at, leastX-width}
 use Rattle.labelling.proofs.Counted.{sumWhere, over-used, length-over, backbones-over, sum-front, drops-counted}
 use Rattle.labelling.proofs.Refusals.{stroke-chain}
@@ -59,6 +60,12 @@ where-before t f h a (suc n) e =
 
 where-all : (t : ℕ → Bool) (f h : ℕ → ℕ) (n : ℕ) → ((i : ℕ) → cond (t i) (f i) 0 ≡ h i) → sumWhere t f 0 n ≡ sumBefore h n
 where-all t f h n e = where-before t f h 0 n (λ i. let z : 0 + i ≡ i = omega arith in ap (λ (k : ℕ). cond (t k) (f k) 0) z ∙ e i)
+
+-- of two numbers for each
+sum-two : (f g h : ℕ → ℕ) → ((i : ℕ) → f i + g i ≡ h i) → (n : ℕ) → sumBefore f n + sumBefore g n ≡ sumBefore h n
+unfolding sumBefore
+sum-two f g h e zero = refl
+sum-two f g h e (suc n) = omega (arith, sum-two f g h e n, e n)
 
 -- EACH listed stroke
 each-listed : (P : Stroke → Type 0) (t : ℕ → Bool) (f : ℕ → Stroke) (a n : ℕ) → ((k : ℕ) → k < a + n → P (f k)) →
@@ -119,20 +126,31 @@ module _ (s : Sheet) (js : List ℕ) where
   bone-units : (k : ℕ) → unitsOf (boneOf s js k) ≡ s .width - leftEnd s js k
   bone-units k = omega (arith, left-width k)
 
-  drop-units : (i : ℕ) → cond (off i) (unitsOf (drop i)) 0 ≡ siteShare s (heightOf s (getD js i 0)) ((siteAt s i) .y)
-  unfolding shareBy
-  drop-units i =
-      by-equal (heightOf s (getD js i 0)) ((siteAt s i) .y)
-      (λ e. rw (eq-eqb (heightOf s (getD js i 0)) ((siteAt s i) .y) e) (omega arith))
-      λ n. rw (ne-eqb (heightOf s (getD js i 0)) ((siteAt s i) .y) n) (omega arith)
+  -- a site's share is its drop's length and its charge
+  abbrev share : ℕ → ℕ
+  share i = siteShare s (heightOf s (getD js i 0)) ((siteAt s i) .y)
 
-  pub units-sum : length js ≡ length (s .sites) → sumOf unitsOf (strokesOf s js) ≡ lengthOf s js
+  drop-units : (i : ℕ) → cond (off i) (unitsOf (drop i)) 0 + cond (off i) (s .charge) 0 ≡ share i
+  drop-units i =
+      let h : ℕ = heightOf s (getD js i 0) in
+      let y : ℕ = (siteAt s i) .y in
+      by-equal h y (λ e. rw (off-none h y e) (omega (arith, share-on (s .charge) h y e))) λ n. rw (off-some h y n) (omega (arith, share-off (s .charge) h y n))
+
+  -- so many charges as sites are off their backbone, before a site
+  charges-before : (n : ℕ) → sumBefore (λ i. cond (off i) 1 0) n * s .charge ≡ sumBefore (λ i. cond (off i) (s .charge) 0) n
+  unfolding sumBefore
+  charges-before zero = omega arith
+  charges-before (suc n) = by-test (off n) (λ e. rw e (omega (arith, charges-before n))) λ e. rw e (omega (arith, charges-before n))
+
+  pub units-sum : length js ≡ length (s .sites) → sumOf unitsOf (strokesOf s js) + chargesOff s js ≡ lengthOf s js
   units-sum long =
-      sum-both unitsOf ∙
-      ap₂ _+_
-      (ap (λ (f : ℕ → ℕ). sumWhere used f 0 (length (s .slots))) (fun-ext bone-units) ∙ sym (over-used (λ k. s .width - leftEnd s js k) 0 (length (s .slots)) js) ∙
-      sym (backbones-over s js (usedOf s js)))
-      (where-all off (λ i. unitsOf (drop i)) (λ i. siteShare s (heightOf s (getD js i 0)) ((siteAt s i) .y)) (length (s .sites)) drop-units ∙ sym (drops-counted s js long))
+      let n : ℕ = length (s .sites) in
+      let drops-units = where-all off (λ i. unitsOf (drop i)) (λ i. cond (off i) (unitsOf (drop i)) 0) n (λ i. refl) in
+      let bones-units =
+      ap (λ (f : ℕ → ℕ). sumWhere used f 0 (length (s .slots))) (fun-ext bone-units) ∙ sym (over-used (λ k. s .width - leftEnd s js k) 0 (length (s .slots)) js) ∙
+      sym (backbones-over s js (usedOf s js)) in
+      let shares = sum-two (λ i. cond (off i) (unitsOf (drop i)) 0) (λ i. cond (off i) (s .charge) 0) share drop-units n in
+      omega (arith, sum-both unitsOf, drops-units, bones-units, charges-before n, shares, drops-counted s js long)
 
   -- NO STROKE leaves the drawing
   pub ends-inside : Sound s → (i : ℕ) → i < length (strokesOf s js) → EndsInside (s .width) (getD (strokesOf s js) i noStroke)

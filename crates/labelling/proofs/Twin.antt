@@ -14,8 +14,9 @@ use borrow.Author.Tests.{eq-eqb, ne-eqb, lt-leb, le-leb}
 use Rattle.lists.proofs.Tests.{by-test, by-order, by-equal}
 use Rattle.sheet.specs.Limits.{lengthTop, countTop}
 use Rattle.sheet.specs.Refusals.{given}
-use Rattle.sheet.specs.Sheet.{kindOf, bits, Sheet, headIn, bodyAt, sheetIn, sheetFault}
+use Rattle.sheet.specs.Sheet.{kindOf, bits, Sheet, headIn, isCharge, chargeAt, sheetIn, sheetFault}
 use Rattle.sheet.proofs.Accepted.{Sound, sound, some-words}
+use Rattle.sheet.proofs.Charge.{body-kept}
 use Rattle.labelling.specs.Layout.{Tied, siteAt, heightOf, leftEnd, counts, siteShare, backbones, drops, lengthOf, usedOf, tied, firstNumber, secondNumber, best, firstWord, statedCount, statedLength, tiesAt, layoutTies, isLayout, sheetPart, layoutPart, judgeFault, judged, storedFault, shareBy}
 use Rattle.labelling.specs.Lawful.{Ties, Rules, Better, IsAnswer, Lawful}
 use Rattle.labelling.specs.Twin.{asOneSided, twinHead, twinSheet, twinLayout, twinWords, twinFaultIn, TwinOf, TwinLawful, TwinOfTwin, NotWorse, BestNotWorse}
@@ -44,12 +45,14 @@ head-width w = omega arith
 
 -- THE SHEET of the twin is one-sided, and refused where the sheet is
 sheet-twin : (ws : List ℕ) → sheetIn (twinSheet ws) ≡ asOneSided (sheetIn ws)
-sheet-twin ws = let w : ℕ = headIn ws in rw (head-side w, head-aim w, head-gap w, head-width w) refl
+unfolding isCharge
+sheet-twin [] = refl
+sheet-twin (w ∷ ws) = rw (body-kept (twinHead w) w ws, head-side w, head-aim w, head-gap w, head-width w) refl
 
 fault-twin : (ws : List ℕ) → sheetFault (twinSheet ws) ≡ sheetFault ws
 unfolding given
 fault-twin [] = refl
-fault-twin (w ∷ ws) = rw (head-kind w, head-gap w, head-width w) refl
+fault-twin (w ∷ ws) = rw (body-kept (twinHead w) w ws, head-kind w, head-gap w, head-width w) refl
 
 accepted-twin : (ws : List ℕ) → sheetFault ws ≡ 0 → sheetFault (twinSheet ws) ≡ 0
 accepted-twin ws h = fault-twin ws ∙ h
@@ -60,7 +63,7 @@ sound-one ws h = subst Sound (sheet-twin ws) (sound (twinSheet ws) (accepted-twi
 -- a one-sided sheet stays what it is
 same-sheet : (s : Sheet) → s .isTwoSided ≡ false → s ≡ asOneSided s
 same-sheet s e =
-    λ i. record { isTwoSided = e i; isShortest = s .isShortest; gap = s .gap; width = s .width; slots = s .slots; colours = s .colours; sites = s .sites }
+    λ i. record { isTwoSided = e i; isShortest = s .isShortest; gap = s .gap; width = s .width; charge = s .charge; slots = s .slots; colours = s .colours; sites = s .sites }
 
 -- a site's share is the same
 share-one : (s : Sheet) (h y : ℕ) → siteShare (asOneSided s) h y ≡ siteShare s h y
@@ -163,7 +166,7 @@ module _ (ss b : List ℕ) (h : sheetFault ss ≡ 0) (l : isLayout (sheetIn ss) 
   long-layout = omega (arith, length-drop tiesAt b, formed s b l .long)
 
   long-sheet : length (twinSheet ss) ≡ length ss
-  long-sheet = omega (arith, length-drop (bodyAt ss) ss, some-words ss h)
+  long-sheet = omega (arith, length-drop chargeAt ss, some-words ss h)
 
   form-twin : isLayout (asOneSided s) (twinLayout s b) ≡ true
   form-twin =

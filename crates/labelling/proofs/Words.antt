@@ -8,7 +8,7 @@ use native.Mathlib.Omega.{arith}
 use lib.Dec.{ltb, eqb}
 use lib.ListN.{length, getD}
 use borrow.Author.Tests.{ltb-true, eqb-true, eqb-false, lt-ltb, eq-eqb}
-use Rattle.sheet.specs.Limits.{mostSlots, mostSites, wordTop, numberTop, mostNumber, byteTop, lengthTop, countTop}
+use Rattle.sheet.specs.Limits.{mostSlots, mostSites, wordTop, numberTop, mostNumber, mostShare, byteTop, lengthTop, countTop}
 use Rattle.sheet.specs.Sheet.{all, kindOf, bits, Site, Sheet}
 use Rattle.labelling.specs.Layout.{tiedOf, tied, heightOf, isUsed, usedFrom, usedOf, leftEnd, countOf, backbones, drops, lengthOf, brokenIn, tieWord, tieWords, firstWord, layoutWords, statedCount, statedLength, tiesIn, isTie, isLayout, brokenBy, isLawful, answerOf, layoutBody, layoutTies, wordsFor}
 use Rattle.labelling.specs.Promise.{areWords, same}
@@ -38,15 +38,16 @@ height-low [] k h = omega arith
 height-low (x ∷ hs) zero h = ltb-true x numberTop (and-l (lowN x) (all lowN hs) h)
 height-low (x ∷ hs) (suc k) h = height-low hs k (and-r (lowN x) (all lowN hs) h)
 
-drops-le : (s : Sheet) (ss : List Site) (js : List ℕ) → all lowN (s .slots) ≡ true → all lowY ss ≡ true → drops s (tiedOf ss js) ≤ length ss * mostNumber
+drops-le : (s : Sheet) (ss : List Site) (js : List ℕ) → s .charge < numberTop → all lowN (s .slots) ≡ true → all lowY ss ≡ true →
+    drops s (tiedOf ss js) ≤ length ss * mostShare
 unfolding drops tiedOf all
-drops-le s [] js h k = omega arith
-drops-le s (t ∷ ss) [] h k = omega arith
-drops-le s (t ∷ ss) (j ∷ js) h k =
+drops-le s [] js c h k = omega arith
+drops-le s (t ∷ ss) [] c h k = omega arith
+drops-le s (t ∷ ss) (j ∷ js) c h k =
     omega (
       arith,
-      share-le (heightOf s j) (t .y) (height-low (s .slots) j h) (ltb-true (t .y) numberTop (and-l (lowY t) (all lowY ss) k)),
-      drops-le s ss js h (and-r (lowY t) (all lowY ss) k),
+      share-le (s .charge) (heightOf s j) (t .y) c (height-low (s .slots) j h) (ltb-true (t .y) numberTop (and-l (lowY t) (all lowY ss) k)),
+      drops-le s ss js c h (and-r (lowY t) (all lowY ss) k),
     )
 
 pub count-low : (s : Sheet) → Sound s → (js : List ℕ) → countOf s js ≤ mostSlots
@@ -55,9 +56,9 @@ count-low s o js = omega (arith, count-used 0 (length (s .slots)) js, o .few-slo
 pub length-low : (s : Sheet) → Sound s → (js : List ℕ) → lengthOf s js < lengthTop
 length-low s o js =
     add (length (usedOf s js)) (length (s .sites)) (backbones s js (usedOf s js)) (drops s (tied s js)) (count-low s o js) (o .few-sites)
-    (backbones-le s js (usedOf s js) (o .narrow)) (drops-le s (s .sites) js (o .heights) (o .ys))
+    (backbones-le s js (usedOf s js) (o .narrow)) (drops-le s (s .sites) js (o .charged) (o .heights) (o .ys))
   where
-    add : (u n b d : ℕ) → u ≤ mostSlots → n ≤ mostSites → b ≤ u * mostNumber → d ≤ n * mostNumber → b + d < lengthTop
+    add : (u n b d : ℕ) → u ≤ mostSlots → n ≤ mostSites → b ≤ u * mostNumber → d ≤ n * mostShare → b + d < lengthTop
     add u n b d p q r t = omega arith
 
 -- TIES AS WORDS

@@ -27,9 +27,13 @@ countsBy d e x = leb e x
 unfoldable pub clearBy : (gap height y : ℕ) → Bool
 clearBy d h y = leb d (apart h y)
 
--- rule 6: a site's share of the length, by the height of its slot and its own: its drop without the sign
-unfoldable pub shareBy : (height y : ℕ) → ℕ
-shareBy h y = apart h y
+-- rule 6: a site is off its backbone: its drop, by the height of its slot and its own, isn't zero
+unfoldable pub offBy : (height y : ℕ) → Bool
+offBy h y = not (eqb h y)
+
+-- a site's share of the length: its drop without the sign, plus the charge if the drop isn't zero (document 02, "Bends cost something")
+unfoldable pub shareBy : (charge height y : ℕ) → ℕ
+shareBy c h y = apart h y + cond (offBy h y) c 0
 
 -- SITES, SLOTS AND TIES
 -- what stands where a list has no item: no rule asks for it. A colour that the sheet does not have is unbounded, so that no budget has a
@@ -188,7 +192,7 @@ backbones s js (k ∷ ks) = (s .width - leftEnd s js k) + backbones s js ks
 
 -- a site's share of the length
 abbrev pub siteShare : Sheet → (height y : ℕ) → ℕ
-siteShare s h y = shareBy h y
+siteShare s h y = shareBy (s .charge) h y
 
 -- the sum of the sites' shares
 unfoldable pub drops : Sheet → List Tied → ℕ

@@ -5,7 +5,7 @@ use mathlib.Core.Logic.{_⊎_, _↔_}
 use mathlib.Core.Bool.{Bool, true, false, _&&_, _||_, not, cond}
 use mathlib.Core.List.{List, [], _∷_, _++_}
 use mathlib.Core.Option.{none, some}
-use Prim.Native.Nat.{ℕ, _≤_, _<_}
+use Prim.Native.Nat.{ℕ, _+_, _≤_, _<_}
 use lib.Dec.{ltb, eqb}
 use lib.ListN.{length, getD, take, drop, replicate}
 use Rattle.sheet.specs.Limits.{wordTop}
@@ -205,3 +205,37 @@ ExamplesCalled =
 
 abbrev pub Examples : Type 0
 Examples = ExamplesDefined × ExamplesCalled
+
+-- EXAMPLES OF A CHARGE (document 02, "Bends cost something"): shortest, gap 1, width 10, with some words after the head; slots 4, 5 and 6; one
+-- colour, unbounded, with sites (2,4) and (4,6). One label at 4 or at 6 has one drop, of 2, one at 5 has two, of 1 each; two labels have none
+abbrev pub bends : (charges : List ℕ) → List ℕ
+bends cs = 335560714 ∷ cs ++ (536870916 ∷ 536870917 ∷ 536870918 ∷ 805306623 ∷ 1073774596 ∷ 1073807366 ∷ [])
+
+-- a charge as a word
+abbrev pub chargeWord : (charge : ℕ) → ℕ
+chargeWord c = 1342177280 + c
+
+-- with no charge word, or one of 0, one label of length 8 + 2 is the shortest; with 3 it still is, 8 + 2 + 3; with 5 it would be 15, and two
+-- labels, 8 + 6, are shorter
+abbrev pub ChargeAnswered : Type 0
+ChargeAnswered =
+    laidOut (bends []) (layoutWords 1 10 (0 ∷ 0 ∷ [])) × laidOut (bends (chargeWord 0 ∷ [])) (layoutWords 1 10 (0 ∷ 0 ∷ [])) ×
+    laidOut (bends (chargeWord 3 ∷ [])) (layoutWords 1 13 (0 ∷ 0 ∷ [])) × laidOut (bends (chargeWord 5 ∷ [])) (layoutWords 2 14 (0 ∷ 2 ∷ []))
+
+-- with charge 3 the label at 4 is 13 long, not 10 (no charge) nor 16 (one for the drop of zero too); that at 5 is 8 + 2 + 6, not 13 (one charge
+-- a label)
+abbrev pub ChargeJudged : Type 0
+ChargeJudged =
+    judgedAs (bends (chargeWord 3 ∷ []) ++ layoutWords 1 13 (0 ∷ 0 ∷ [])) 0 × judgedAs (bends (chargeWord 3 ∷ []) ++ layoutWords 1 10 (0 ∷ 0 ∷ [])) 6 ×
+    judgedAs (bends (chargeWord 3 ∷ []) ++ layoutWords 1 16 (0 ∷ 0 ∷ [])) 6 × judgedAs (bends (chargeWord 3 ∷ []) ++ layoutWords 1 16 (1 ∷ 1 ∷ [])) 0 ×
+    judgedAs (bends (chargeWord 3 ∷ []) ++ layoutWords 1 13 (1 ∷ 1 ∷ [])) 6
+
+-- twice, after a slot, after all sites, or with bit 14 or bit 27 set: 2; before the head: 1
+abbrev pub ChargeRefused : Type 0
+ChargeRefused =
+    (sheetFault (bends (chargeWord 3 ∷ chargeWord 3 ∷ [])) ≡ 2) × (sheetFault (bends (536870915 ∷ chargeWord 3 ∷ [])) ≡ 2) ×
+    (sheetFault (bends [] ++ (chargeWord 3 ∷ [])) ≡ 2) × (sheetFault (bends (chargeWord 16384 ∷ [])) ≡ 2) ×
+    (sheetFault (bends (chargeWord 134217728 ∷ [])) ≡ 2) × (sheetFault (chargeWord 3 ∷ bends []) ≡ 1)
+
+abbrev pub ChargeExamples : Type 0
+ChargeExamples = ChargeAnswered × ChargeJudged × ChargeRefused

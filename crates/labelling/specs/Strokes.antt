@@ -2,14 +2,14 @@
 -- place, and what is promised of the list; a proof of a promise's type is the theorem (proofs/Strokes). In points: crate strokes.
 -- Assumes nothing: these are definitions, each for every list of words.
 use mathlib.Core.Path.{_≡_}
-use mathlib.Core.Bool.{Bool, not, cond}
+use mathlib.Core.Bool.{Bool, cond}
 use mathlib.Core.List.{List, [], _∷_, _++_}
-use Prim.Native.Nat.{ℕ, zero, suc, _+_, _≤_, _<_}
-use lib.Dec.{ltb, eqb}
+use Prim.Native.Nat.{ℕ, zero, suc, _+_, _*_, _≤_, _<_}
+use lib.Dec.{ltb}
 use lib.ListN.{length, getD}
 use Rattle.sheet.specs.Refusals.{Refusal, unless, given}
 use Rattle.sheet.specs.Sheet.{Sheet, sheetIn}
-use Rattle.labelling.specs.Layout.{apart, Tied, tieAt, heightOf, isUsed, leftEnd, statedCount, statedLength, layoutTies, sheetPart, layoutPart, storedRefusals, storedFault}
+use Rattle.labelling.specs.Layout.{apart, offBy, Tied, tieAt, heightOf, isUsed, leftEnd, statedCount, statedLength, layoutTies, sheetPart, layoutPart, storedRefusals, storedFault}
 use Rattle.labelling.specs.Counted.{sumBefore}
 
 -- STROKES
@@ -44,7 +44,7 @@ dropOf s t = Drop (endAt (t .site .x) (t .site .y)) (endAt (t .site .x) (heightO
 
 -- a site is off its backbone: its drop isn't zero
 abbrev pub isOff : Sheet → Tied → Bool
-isOff s t = not (eqb (heightOf s (t .slot)) (t .site .y))
+isOff s t = offBy (heightOf s (t .slot)) (t .site .y)
 
 -- THE LIST
 -- of the numbers from one on, so many, each that passes a test: its stroke
@@ -104,12 +104,17 @@ sitesOff s js = sumBefore (λ i. cond (isOff s (tieAt s js i)) 1 0) (length (s .
 abbrev pub EndsInside : (width : ℕ) → Stroke → Type 0
 EndsInside w t = (firstEnd t .x ≤ w) × (secondEnd t .x ≤ w)
 
--- the list has as many backbones as the layout states labels, and as many drops as sites are off their backbone; the strokes' lengths add up
--- to the stated length; no stroke leaves the drawing
+-- the charges of the sites off their backbone
+abbrev pub chargesOff : Sheet → (ties : List ℕ) → ℕ
+chargesOff s js = sitesOff s js * s .charge
+
+-- the list has as many backbones as the layout states labels, and as many drops as sites are off their backbone; the strokes' lengths and
+-- the charges of these sites add up to the stated length; no stroke leaves the drawing
 pub record StrokesTrue (ws : List ℕ) : Type 0 where
   pub bones : sumOf oneBone (strokesIn ws) ≡ statedCount (layoutPart ws)
   pub drops : sumOf oneDrop (strokesIn ws) ≡ sitesOff (sheetIn (sheetPart ws)) (layoutTies (layoutPart ws))
-  pub lengths : sumOf unitsOf (strokesIn ws) ≡ statedLength (layoutPart ws)
+  pub lengths :
+      sumOf unitsOf (strokesIn ws) + chargesOff (sheetIn (sheetPart ws)) (layoutTies (layoutPart ws)) ≡ statedLength (layoutPart ws)
   pub inside : (i : ℕ) → i < length (strokesIn ws) → EndsInside (sheetIn (sheetPart ws) .width) (getD (strokesIn ws) i noStroke)
 
 -- of every stored sheet that is not refused

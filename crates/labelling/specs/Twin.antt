@@ -9,7 +9,7 @@ use lib.Dec.{ltb, eqb, leb}
 use lib.ListN.{length, drop}
 use Rattle.sheet.specs.Limits.{sidePlace}
 use Rattle.sheet.specs.Refusals.{Refusal, unless, given}
-use Rattle.sheet.specs.Sheet.{bits, Sheet, headIn, bodyOf, sheetIn, sheetFault}
+use Rattle.sheet.specs.Sheet.{bits, Sheet, headIn, chargeAt, sheetIn, sheetFault}
 use Rattle.labelling.specs.Layout.{lengthOf, firstWord, statedCount, statedLength, layoutBody, layoutTies, firstNumber, secondNumber, sheetPart, layoutPart, judgeFault, judged, storedRefusals}
 use Rattle.labelling.specs.Lawful.{Ties, Rules, Lawful, IsAnswer}
 
@@ -22,6 +22,7 @@ asOneSided s =
       isShortest = s .isShortest;
       gap = s .gap;
       width = s .width;
+      charge = s .charge;
       slots = s .slots;
       colours = s .colours;
       sites = s .sites;
@@ -33,7 +34,7 @@ twinHead w = w - bits w 27 1 * sidePlace
 
 -- a sheet's words, the head without its side bit and all else as it stands
 abbrev pub twinSheet : (sheet : List ℕ) → List ℕ
-twinSheet ws = twinHead (headIn ws) ∷ bodyOf ws
+twinSheet ws = twinHead (headIn ws) ∷ drop chargeAt ws
 
 -- a layout's words, the length that which its ties have on the one-sided sheet and all else as it stands
 abbrev pub twinLayout : Sheet → (layout : List ℕ) → List ℕ

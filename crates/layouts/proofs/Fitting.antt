@@ -53,6 +53,7 @@ module _ (ss ls : List ℕ) (ok : sheetFault ss ≡ 0) (form : isLayout (sheetIn
       rw (eh, es, ey)
       (record {
         width = sound ss ok .narrow;
+        charge = sound ss ok .charged;
         heights = λ k. rw (padded-at mostSlots (s .slots) k) (height-low (s .slots) k (sound ss ok .heights));
         ys = λ i. rw (padded-at mostSites (ysOf (s .sites)) i, ys-at (s .sites) i) (y-low (s .sites) i (sound ss ok .ys));
       })

@@ -8,7 +8,7 @@ use native.Mathlib.Omega.{arith}
 use lib.Dec.{eqb}
 use lib.ListN.{getD}
 use Rattle.lists.proofs.Tests.{clash, and-i, is-false}
-use Rattle.sheet.specs.Limits.{mostNumber}
+use Rattle.sheet.specs.Limits.{mostShare}
 use Rattle.sheet.specs.Sheet.{bits}
 use Rattle.labelling.specs.Layout.{tiesIn, shareBy}
 use Rattle.labelling.proofs.Distances.{share-le}
@@ -87,19 +87,19 @@ ties-at (w ∷ ws) (suc i) = ties-at ws i
 -- LENGTHS: what a site adds is low
 pub length-le : (h : Head) (hs xs ys cs js : List ℕ) (n : ℕ) → Low h hs ys → (i : ℕ) → lengthAt h hs xs ys cs js n i ≤ mostAdded
 length-le h hs xs ys cs js n l i =
-    omega (arith, l .width, share-le _ _ (l .heights (getD js i 0)) (l .ys i), cond-le (isFirst (amongBy All cs) js i) (h .width - leftOn h xs js n (getD js i 0)))
+    omega (arith, l .width, share-le _ _ _ (l .charge) (l .heights (getD js i 0)) (l .ys i), cond-le (isFirst (amongBy All cs) js i) (h .width - leftOn h xs js n (getD js i 0)))
   where
     cond-le : (b : Bool) (n : ℕ) → cond b n 0 ≤ n
     cond-le true n = omega arith
     cond-le false n = omega arith
 
 -- a site's part by the callees' results: its slot k and the slot's height, its share r, whether it is the first of its label
-module _ (h : Head) (hs xs ys js : List ℕ) (n i : ℕ) {k a r : ℕ} (ek : k ≡ getD js i 0) (ea : a ≡ getD hs k 0) (es : r ≡ shareBy a (getD ys i 0)) where
-  share-is : r ≡ shareBy (getD hs (getD js i 0) 0) (getD ys i 0)
-  share-is = es ∙ ap (λ (z : ℕ). shareBy z (getD ys i 0)) (ea ∙ ap (λ (z : ℕ). getD hs z 0) ek)
+module _ (h : Head) (hs xs ys js : List ℕ) (n i : ℕ) {k a r : ℕ} (ek : k ≡ getD js i 0) (ea : a ≡ getD hs k 0) (es : r ≡ shareBy (h .charge) a (getD ys i 0)) where
+  share-is : r ≡ shareBy (h .charge) (getD hs (getD js i 0) 0) (getD ys i 0)
+  share-is = es ∙ ap (λ (z : ℕ). shareBy (h .charge) z (getD ys i 0)) (ea ∙ ap (λ (z : ℕ). getD hs z 0) ek)
 
-  pub share-low : Low h hs ys → r ≤ mostNumber
-  share-low l = omega (arith, share-is, share-le _ _ (l .heights (getD js i 0)) (l .ys i))
+  pub share-low : Low h hs ys → r ≤ mostShare
+  share-low l = omega (arith, share-is, share-le _ _ _ (l .charge) (l .heights (getD js i 0)) (l .ys i))
 
   pub length-other : (b : Bool) → b ≡ false → r ≡ lengthBy h b hs xs ys js n i
   length-other b e = rw e (omega (arith, share-is))

@@ -140,7 +140,7 @@ module _ (s : Sheet) (hs xs ys cs : List ℕ) (d : Decoded s hs xs ys cs) (js : 
     length-is =
         ap (λ (f : ℕ → ℕ). sumBefore f n)
         (fun-ext λ i. ap₂ _+_ (ap (λ (z : ℕ). cond (isFirst anySite js i) (s .width - z) 0) (left-is (getD js i 0)))
-        (ap₂ shareBy (d .heights (getD js i 0)) (d .ys i))) ∙
+        (ap₂ (shareBy (s .charge)) (d .heights (getD js i 0)) (d .ys i))) ∙
         sum-plus _ _ n ∙
         ap₂ _+_ (sym (backbones-counted s js long low)) (sym (drops-counted s js long))
 

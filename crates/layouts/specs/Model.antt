@@ -31,12 +31,13 @@ pub record Fits (xs ys colours ties : List ℕ) : Type 0 where
 
 pub record Low (h : Head) (hs bs : List ℕ) : Type 0 where
   pub width : h .width < numberTop
+  pub charge : h .charge < numberTop
   pub heights : (k : ℕ) → getD hs k 0 < numberTop
   pub ys : (i : ℕ) → getD bs i 0 < numberTop
 
--- the most that a site adds to a length: its label's backbone and its own share, each at most mostNumber
+-- the most that a site adds to a length: its label's backbone, at most mostNumber, and its own share, at most mostShare
 abbrev pub mostAdded : ℕ
-mostAdded = 32766
+mostAdded = 49149
 
 -- THE TIED SITE of a number
 abbrev pub tiedAt : (heights xs ys colours ties : List ℕ) → ℕ → TiedSite
@@ -83,7 +84,7 @@ leftOn h xs js n k = cond (h .twosided) 0 (leastBefore k (h .width) (λ i. getD 
 
 -- what a site adds to the length, and the length
 abbrev pub lengthBy : Head → (first : Bool) → (heights xs ys ties : List ℕ) → (count site : ℕ) → ℕ
-lengthBy h b hs xs ys js n i = cond b (h .width - leftOn h xs js n (getD js i 0)) 0 + shareBy (getD hs (getD js i 0) 0) (getD ys i 0)
+lengthBy h b hs xs ys js n i = cond b (h .width - leftOn h xs js n (getD js i 0)) 0 + shareBy (h .charge) (getD hs (getD js i 0) 0) (getD ys i 0)
 
 abbrev pub lengthAt : Head → (heights xs ys colours ties : List ℕ) → (count site : ℕ) → ℕ
 lengthAt h hs xs ys cs js n i = lengthBy h (isFirst (amongBy All cs) js i) hs xs ys js n i

@@ -10,8 +10,8 @@ use crate::labels::is_first;
 use crate::labels::one_if;
 use crate::ties::slot_at;
 use rules::rule_6::is_stated;
+use rules::rule_6::site_share;
 use words::choose;
-use words::drops::share_of;
 use words::get;
 use words::lesser;
 use words::monus;
@@ -50,7 +50,7 @@ fn site_length(
     ensures { λ r. ⌜ r ≡ lengthBy h first (now (heights .entry)) (now (xs .entry)) (now (ys .entry)) (tiesIn (now (ties .entry))) (length (now (ties .entry))) i ⌝ }
 {
     let slot = slot_at(ties, i);
-    let share = share_of(get(heights, slot), ys[i]);
+    let share = site_share(h, get(heights, slot), ys[i]);
     if !first {
         return share;
     }

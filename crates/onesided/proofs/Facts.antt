@@ -85,6 +85,7 @@ module _ (ws : List ℕ) (f : sheetFault ws ≡ 0) where
         fewBudgets = o .product;
         someBudget = product-some (s .colours);
         narrow = o .narrow;
+        chargeLow = o .charged;
         heightLow = λ k. height-low (s .slots) k (o .heights);
         rising = λ j k p q. rise-at (s .slots) (o .rise) j k p q;
         divides = radices-positive (s .colours);
@@ -131,6 +132,7 @@ module _ {g : Given} (o : OfSheet g) {ps ns : List ℕ} where
         fewBudgets = o .fewBudgets;
         someBudget = o .someBudget;
         narrow = o .narrow;
+        chargeLow = o .chargeLow;
         heightLow = o .heightLow;
         rising = o .rising;
         divides = o .divides;

@@ -12,6 +12,7 @@ use borrow.Author.Tests.{ltb-true, leb-true, eqb-true, eqb-false, lt-ltb, eq-eqb
 use Rattle.sheet.specs.Limits.{mostSlots, mostColours, mostSites, mostBudgets, mostWords, numberTop}
 use Rattle.sheet.specs.Refusals.{AllPass, numberedTo}
 use Rattle.sheet.specs.Sheet.{all, kindOf, bits, hasSpare, inOrder, Site, Sheet, slotsIn, sitesIn, coloursIn, headIn, bodyAt, bodyOf, sheetIn, productOf, rising, rankOf, rankTop, hasRank, ranksDiffer, isHead, countsFit, insideBy, sheetRefusals, sheetFault, rankBy}
+use Rattle.sheet.proofs.Charge.{charge-low, body-near}
 use Rattle.sheet.proofs.Refusals.{all-pass, at-most}
 use Rattle.lists.proofs.Tests.{by-test, and-l, and-r, and-i, or-e, not-f}
 
@@ -67,7 +68,7 @@ sites-low c (w ∷ ws) =
     (and-i (lt-ltb (bits w 14 14) numberTop (low14 w 14)) (sites-low c ws .0), and-i (lt-ltb (bits w 0 14) numberTop (low14 w 0)) (sites-low c ws .1)))
     λ f. rw f (sites-low c ws))
 
--- ONE WORD after the head, in order: a slot, a colour or a site
+-- ONE WORD of the body, in order: a slot, a colour or a site
 pub data Step (z w : ℕ) (ws : List ℕ) : Type 0 where
   slot : kindOf w ≡ 2 → z ≡ 0 → inOrder 0 ws ≡ true → Step z w ws
   colour : kindOf w ≡ 3 → inOrder 1 ws ≡ true → Step z w ws
@@ -134,6 +135,7 @@ pub record Sound (s : Sheet) : Type 0 where
   pub wide : 0 < s .width
   pub narrow : s .width < numberTop
   pub gapped : 0 < s .gap
+  pub charged : s .charge < numberTop
   pub xs : all lowX (s .sites) ≡ true
   pub ys : all lowY (s .sites) ≡ true
   pub heights : all lowN (s .slots) ≡ true
@@ -162,13 +164,14 @@ sound ws h =
       wide = omega (arith, eqb-false (bits (headIn ws) 0 14) 0 w0);
       narrow = low14 (headIn ws) 0;
       gapped = omega (arith, eqb-false (bits (headIn ws) 14 12) 0 d0);
+      charged = charge-low ws;
       xs = sites-low 0 (bodyOf ws) .0;
       ys = sites-low 0 (bodyOf ws) .1;
       heights = slots-low (bodyOf ws);
       coloured = sites-coloured ws h;
     }
 
--- THE WORDS of an accepted sheet: head, slots, colours and sites
+-- THE WORDS of an accepted sheet: head, charge, slots, colours and sites
 parts-length : (z c : ℕ) (ws : List ℕ) → inOrder z ws ≡ true → length ws ≡ length (slotsIn ws) + length (coloursIn ws) + length (sitesIn c ws)
 unfolding slotsIn coloursIn sitesIn
 parts-length z c [] h = refl
@@ -188,7 +191,7 @@ some-words ss ok = ltb-true 0 (length ss) (and-l _ _ (and-l _ _ (and-l _ _ (unre
 pub few-words : (ss : List ℕ) → sheetFault ss ≡ 0 → length ss ≤ mostWords
 few-words ss ok =
     let o = sound ss ok in
-    omega (arith, parts-length 0 0 (bodyOf ss) (unrefused ss ok .order), length-drop (bodyAt ss) ss, o .few-slots, o .few-colours, o .few-sites)
+    omega (arith, parts-length 0 0 (bodyOf ss) (unrefused ss ok .order), length-drop (bodyAt ss) ss, body-near ss, o .few-slots, o .few-colours, o .few-sites)
 
 pub rank-low : (s : Site) → s .x < numberTop → s .y < numberTop → rankOf s < rankTop
 unfolding rankBy

@@ -7,13 +7,14 @@ use Prim.Native.Nat.{ℕ, zero, suc, _+_, _*_, _-_, _^_, _≤_, _<_}
 use native.Mathlib.Nat.{mul-le-mul}
 use native.Mathlib.Omega.{arith}
 use lib.Dec.{ltb, leb, eqb}
-use lib.ListN.{length, getD}
+use lib.ListN.{length, getD, drop}
 use borrow.Author.Tests.{eqb-true, eq-eqb, ne-eqb, le-leb, leb-true}
 use Rattle.lists.proofs.Tests.{by-test, and-l, and-r, tests}
 use Rattle.sheet.specs.Limits.{unbounded, mostBudgets}
 use Rattle.sheet.specs.Refusals.{given}
-use Rattle.sheet.specs.Sheet.{kindOf, bits, hasSpare, inOrder, Site, Colour, Sheet, slotsIn, sitesRun, coloursIn, sitesIn, headIn, bodyOf, sheetIn, productOf, isHead, sheetFault, workFor}
+use Rattle.sheet.specs.Sheet.{kindOf, bits, hasSpare, inOrder, Site, Colour, Sheet, slotsIn, sitesRun, coloursIn, sitesIn, headIn, isCharge, hasCharge, chargeIn, bodyAt, bodyOf, sheetIn, productOf, isHead, sheetFault, workFor}
 use Rattle.sheet.specs.Binding.{bindingWord, bindingOnly, bindingColours, withColours, sitesOf}
+use Rattle.sheet.proofs.Charge.{charge-kind}
 use Rattle.sheet.proofs.Accepted.{unrefused, Step, step}
 
 -- ONE WORD
@@ -100,10 +101,39 @@ work-binding s =
     b : ℕ
     b = (length (s .slots) + 2) ^ 2 * (length (s .colours) + 1) ^ 2 * (length (s .sites) + 1)
 
-head-kept : (ws : List ℕ) → isHead ws ≡ true → (headIn (bindingOnly ws) ≡ headIn ws) × (bodyOf (bindingOnly ws) ≡ bindingOnly (bodyOf ws))
+-- a charge stays, and no other word becomes one
+charge-same : (w n : ℕ) → isCharge (bindingWord w n) ≡ isCharge w
+unfolding isCharge
+charge-same w n =
+    by-test (eqb (kindOf w) 3)
+    (λ e. let f : eqb (kindOf w) 5 ≡ false = ne-eqb (kindOf w) 5 (λ q. omega (arith, eqb-true (kindOf w) 3 e)) in rw (kind-kept w n, f))
+    (λ e. rw (others-kept w n e))
+
+charge-others : (w n : ℕ) → isCharge w ≡ true → bindingWord w n ≡ w
+charge-others w n h = others-kept w n (ne-eqb (kindOf w) 3 (λ q. omega (arith, charge-kind w h)))
+
+charge-kept : (ws : List ℕ) → (hasCharge (bindingOnly ws) ≡ hasCharge ws) × (chargeIn (bindingOnly ws) ≡ chargeIn ws)
+unfolding bindingOnly
+charge-kept [] = (refl, refl)
+charge-kept (w ∷ []) = (refl, refl)
+charge-kept (w ∷ v ∷ ws) = (
+  charge-same v (sitesRun ws),
+  by-test (isCharge v) (λ e. rw (charge-others v (sitesRun ws) e)) (λ e. rw (charge-same v (sitesRun ws), e)),
+)
+
+drop-binding : (i : ℕ) (ws : List ℕ) → drop i (bindingOnly ws) ≡ bindingOnly (drop i ws)
+unfolding bindingOnly
+drop-binding zero ws = refl
+drop-binding (suc i) [] = refl
+drop-binding (suc i) (w ∷ ws) = drop-binding i ws
+
+body-binding : (ws : List ℕ) → bodyOf (bindingOnly ws) ≡ bindingOnly (bodyOf ws)
+body-binding ws = rw (charge-kept ws .0) (drop-binding (bodyAt ws) ws)
+
+head-kept : (ws : List ℕ) → isHead ws ≡ true → headIn (bindingOnly ws) ≡ headIn ws
 unfolding bindingOnly
 head-kept [] h = absurd (false≢true h)
-head-kept (w ∷ ws) h = (others-kept w (sitesRun ws) (ne-eqb (kindOf w) 3 (λ q. omega (arith, k))), refl)
+head-kept (w ∷ ws) h = others-kept w (sitesRun ws) (ne-eqb (kindOf w) 3 (λ q. omega (arith, k)))
   where
     kind : Bool
     kind = ltb 0 (suc (length ws)) && eqb (kindOf w) 1
@@ -117,16 +147,15 @@ head-kept (w ∷ ws) h = (others-kept w (sitesRun ws) (ne-eqb (kindOf w) 3 (λ q
 pub sheet-binding : (ws : List ℕ) → isHead ws ≡ true → sheetIn (bindingOnly ws) ≡ withColours (sheetIn ws) (bindingColours (sheetIn ws .colours))
 sheet-binding ws h =
     let b = bodyOf ws in
-    rw (head-kept ws h .0, head-kept ws h .1, slots-kept b, colours-binding b, sites-kept 0 b)
+    rw (body-binding ws, charge-kept ws .1, head-kept ws h, slots-kept b, colours-binding b, sites-kept 0 b)
 
 pub binding-accepted : (ws : List ℕ) → sheetFault ws ≡ 0 → sheetFault (bindingOnly ws) ≡ 0
 unfolding given
 binding-accepted ws h =
     let u = unrefused ws h in
     let b = bodyOf ws in
-    let e = head-kept ws (u .head) in
     let p : leb (productOf (bindingColours (coloursIn b))) mostBudgets ≡ true = le-leb (productOf (bindingColours (coloursIn b))) mostBudgets (omega (arith, leb-true (productOf (coloursIn b)) mostBudgets (u .product), product-binding (coloursIn b))) in
-    rw (length-kept ws, e .0, e .1, order-kept 0 b, slots-kept b, colours-binding b, sites-kept 0 b, length-binding (coloursIn b), u .head, u .order, u .counts, u .rise, u .inside, u .differ, p)
+    rw (length-kept ws, head-kept ws (u .head), body-binding ws, order-kept 0 b, slots-kept b, colours-binding b, sites-kept 0 b, length-binding (coloursIn b), u .head, u .order, u .counts, u .rise, u .inside, u .differ, p)
 
 -- A COLOUR'S SITES: those that follow its word at once are all that there are
 -- a site of the last colour is of no earlier one

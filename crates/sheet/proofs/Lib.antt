@@ -3,3 +3,4 @@ pub mod Accepted
 pub mod Places
 pub mod Counts
 pub mod Binding
+pub mod Charge

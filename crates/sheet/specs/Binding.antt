@@ -35,6 +35,7 @@ withColours s cs =
       isShortest = s .isShortest;
       gap = s .gap;
       width = s .width;
+      charge = s .charge;
       slots = s .slots;
       colours = cs;
       sites = s .sites;

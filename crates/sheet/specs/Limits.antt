@@ -14,9 +14,9 @@ mostSites = 32
 abbrev pub mostBudgets : ℕ
 mostBudgets = 64
 
--- the words of an accepted sheet: one head, and as many slots, colours and sites as there may be
+-- the words of an accepted sheet: one head, one charge, and as many slots, colours and sites as there may be
 abbrev pub mostWords : ℕ
-mostWords = 89
+mostWords = 90
 
 -- the bound that means unbounded
 abbrev pub unbounded : ℕ
@@ -38,12 +38,16 @@ wordTop = 4294967296
 abbrev pub topWord : ℕ
 topWord = 4294967295
 
--- a number above every x, y, height and width: they have 14 bits (2^14); and the greatest of them
+-- a number above every x, y, height, width and charge: they have 14 bits (2^14); and the greatest of them
 abbrev pub numberTop : ℕ
 numberTop = 16384
 
 abbrev pub mostNumber : ℕ
 mostNumber = 16383
+
+-- the greatest share of a site: the greatest drop and the greatest charge
+abbrev pub mostShare : ℕ
+mostShare = 32766
 
 -- a bound or a slot in a word has 8 bits (2^8)
 abbrev pub byteTop : ℕ

@@ -34,12 +34,14 @@ pub record Colour : Type 0 where
   pub bound : ℕ
   pub sites : ℕ
 
--- a sheet in its parts: side, aim, gap D, width W; slots (their heights), colours and sites, numbered from 0 as they come
+-- a sheet in its parts: side, aim, gap D, width W, the charge on a drop that isn't zero; slots (their heights), colours and sites,
+-- numbered from 0 as they come
 pub record Sheet : Type 0 where
   pub isTwoSided : Bool
   pub isShortest : Bool
   pub gap : ℕ
   pub width : ℕ
+  pub charge : ℕ
   pub slots : List ℕ
   pub colours : List Colour
   pub sites : List Site
@@ -49,7 +51,7 @@ abbrev pub hasSpare : (word : ℕ) → Bool
 hasSpare w =
     cond (eqb (kindOf w) 2) (not (eqb (bits w 14 14) 0)) (cond (eqb (kindOf w) 3) (not (eqb (bits w 8 20) 0)) false)
 
--- the order after the head: slots, then colours, each followed at once by its sites; no word of another kind, no spare bit.
+-- the order of the body: slots, then colours, each followed at once by its sites; no word of another kind, no spare bit.
 -- Stage 0: slots may come. Stage 1: a colour has come, so sites may come and slots may not.
 unfoldable pub inOrder : (stage : ℕ) → List ℕ → Bool
 inOrder z [] = true
@@ -87,11 +89,26 @@ sitesIn c (w ∷ ws) =
 abbrev pub headIn : List ℕ → ℕ
 headIn ws = getD ws 0 0
 
--- the place of the first word after the head
-abbrev pub bodyAt : List ℕ → ℕ
-bodyAt ws = 1
+-- a charge (document 02, "Bends cost something"): a word of kind 5 without a spare bit, which are bits 27 to 14
+unfoldable pub isCharge : (word : ℕ) → Bool
+isCharge w = eqb (kindOf w) 5 && eqb (bits w 14 14) 0
 
--- the body of a sheet: its words after the head, where slots, colours and sites stand
+-- the place right after the head: one may stand there; one that stands elsewhere is a word of another kind
+abbrev pub chargeAt : ℕ
+chargeAt = 1
+
+abbrev pub hasCharge : List ℕ → Bool
+hasCharge ws = isCharge (getD ws chargeAt 0)
+
+-- the charge, bits 13 to 0; without the word it is 0
+abbrev pub chargeIn : List ℕ → ℕ
+chargeIn ws = cond (hasCharge ws) (bits (getD ws chargeAt 0) 0 14) 0
+
+-- the place of the first word after the head and the charge
+abbrev pub bodyAt : List ℕ → ℕ
+bodyAt ws = cond (hasCharge ws) 2 1
+
+-- the body of a sheet: its words from there on, where slots, colours and sites stand
 abbrev pub bodyOf : List ℕ → List ℕ
 bodyOf ws = drop (bodyAt ws) ws
 
@@ -103,6 +120,7 @@ sheetIn ws =
       isShortest = eqb (bits (headIn ws) 26 1) 1;
       gap = bits (headIn ws) 14 12;
       width = bits (headIn ws) 0 14;
+      charge = chargeIn ws;
       slots = slotsIn (bodyOf ws);
       colours = coloursIn (bodyOf ws);
       sites = sitesIn 0 (bodyOf ws);

@@ -79,5 +79,5 @@ module _ (q : Measures) (hs bs : List ℕ) (p : Strip) (s : Point) where
   -- a join costs less than none
   pub join-low : (k : ℕ) → OfSheet (onSlots q hs) → SiteIn q s → joinCost q hs s k < topWord
   join-low k o i =
-      let h = share-le (getD hs k 0) (s .y) (o .heightLow k) (i .yLow) in
+      let h = share-le (q .head .charge) (getD hs k 0) (s .y) (o .chargeLow) (o .heightLow k) (i .yLow) in
       by-test (q .head .shortest) (λ e. rw e (omega (arith, h))) (λ e. rw e (omega (arith, h)))

@@ -5,7 +5,6 @@ use mathlib.Core.List.{List}
 use Prim.Native.Nat.{ℕ, suc, _+_, _-_, _<_, _≤_}
 use lib.Dec.{leb, ltb}
 use lib.ListN.{length, getD}
-use Rattle.labelling.specs.Layout.{shareBy}
 use Rattle.optimum.specs.Slots.{Slots, farFrom, clearFrom}
 use Rattle.optimum.specs.Strips.{Point, Strip, Instance, joinsUp, joinsDown}
 use Rattle.optimum.specs.OneSided.{topWord, hasSlot}
@@ -13,7 +12,7 @@ use Rattle.arrays.specs.declared.Measures.{Measures}
 use Rattle.arrays.specs.Arrays.{turnBy}
 use Rattle.arrays.specs.Given.{onStrip, instanceOf}
 use Rattle.strips.specs.declared.Window.{Window}
-use Rattle.costs.specs.Costs.{wordBy}
+use Rattle.costs.specs.Costs.{openingBy, joiningBy}
 use Rattle.rows.specs.Rows.{markedBy}
 
 -- radices and draws have no part in what is decided on one strip
@@ -50,10 +49,10 @@ pub record WindowOf (S : Slots) (p : Strip) (s : Point) (w : Window) : Type 0 wh
 
 -- what a step costs that opens a label, none if the slot is barred, and one that joins it
 abbrev pub openCost : Measures → (heights : List ℕ) → Point → (slot : ℕ) → ℕ
-openCost q hs s k = cond (hasSlot (s .barred) k) topWord (wordBy q 1 (q .head .width - s .x + shareBy (getD hs k 0) (s .y)))
+openCost q hs s k = cond (hasSlot (s .barred) k) topWord (openingBy q (s .x) (getD hs k 0) (s .y))
 
 abbrev pub joinCost : Measures → (heights : List ℕ) → Point → (slot : ℕ) → ℕ
-joinCost q hs s k = wordBy q 0 (shareBy (getD hs k 0) (s .y))
+joinCost q hs s k = joiningBy q (getD hs k 0) (s .y)
 
 -- what it costs to join the label above, and the label below; none if that is not lawful
 unfoldable pub riseCost : Measures → (heights bounds : List ℕ) → Strip → Point → ℕ

@@ -18,13 +18,13 @@ use arrays::places::is_clear;
 use arrays::places::is_far;
 use arrays::places::is_over;
 use arrays::places::is_under;
-use costs::cost_word;
+use costs::joining_cost;
+use costs::opening_cost;
 use rows::Site;
 use rows::Strip;
 use words::NONE;
 use words::both;
 use words::choose;
-use words::drops::share_of;
 use words::either;
 use words::get;
 use words::is_not;
@@ -173,11 +173,7 @@ pub fn open_cost(q: Measures, heights: &[u32], s: Site, k: u32) -> u32
     requires { ⌜ OfSheet (onSlots q (now heights)) × SiteIn q (pointOf s) × (k ≤ mostSlots) ⌝ }
     ensures { λ r. ⌜ r ≡ openCost q (now (heights .entry)) (pointOf s) k ⌝ }
 {
-    let cost = cost_word(
-        q,
-        1,
-        monus(q.head.width, s.x) + share_of(get(heights, k), s.y),
-    );
+    let cost = opening_cost(q, s.x, get(heights, k), s.y);
     choose(is_barred(s, k), NONE, cost)
 }
 
@@ -185,7 +181,7 @@ fn join_cost(q: Measures, heights: &[u32], s: Site, k: u32) -> u32
     requires { ⌜ OfSheet (onSlots q (now heights)) × SiteIn q (pointOf s) ⌝ }
     ensures { λ r. ⌜ r ≡ joinCost q (now (heights .entry)) (pointOf s) k ⌝ }
 {
-    cost_word(q, 0, share_of(get(heights, k), s.y))
+    joining_cost(q, get(heights, k), s.y)
 }
 
 // What it costs to join the label above, and the label below; NONE if that is not lawful.

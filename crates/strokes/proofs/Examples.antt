@@ -7,8 +7,8 @@ use lib.IntN.{pos, negsuc}
 use lib.Count.{trailingZeros}
 use lib.Ieee.{fin, odd}
 use Rattle.sheet.specs.Refusals.{given}
-use Rattle.sheet.specs.Sheet.{all, inOrder, slotsIn, sitesRun, coloursIn, sitesIn, productOf, rising, hasRank, ranksDiffer, rankBy}
-use Rattle.labelling.specs.Layout.{tiedOf, isUsed, usedFrom, leastX, slotsOf, boundsKept, backbones, drops, tiesIn, sheetPart, shareBy, farBy, countsBy, clearBy}
+use Rattle.sheet.specs.Sheet.{all, inOrder, isCharge, slotsIn, sitesRun, coloursIn, sitesIn, productOf, rising, hasRank, ranksDiffer, rankBy}
+use Rattle.labelling.specs.Layout.{tiedOf, isUsed, usedFrom, leastX, slotsOf, boundsKept, backbones, drops, tiesIn, sheetPart, offBy, shareBy, farBy, countsBy, clearBy}
 use Rattle.labelling.specs.Strokes as units
 use Rattle.labelling.specs.Strokes.{endAt, listed, strokesIn}
 use Rattle.points.specs.Points.{inPoints}
@@ -28,20 +28,20 @@ strokes-of-a : strokesIn storedA ≡
     units.Drop (endAt 2 4) (endAt 2 2) ∷
     units.Drop (endAt 6 6) (endAt 6 2) ∷
     units.Drop (endAt 4 5) (endAt 4 8) ∷ [])
-unfolding storedA sheetPart slotsIn sitesIn coloursIn sitesRun tiedOf isUsed leastX tiesIn listed
+unfolding storedA sheetPart isCharge slotsIn sitesIn coloursIn sitesRun tiedOf isUsed leastX offBy tiesIn listed
 strokes-of-a = refl
 
 -- in points: the first, from (0.25, 0.25) to (1, 0.25); the last, from (0.5, 0.625) to (0.5, 1); and past it
 stroke-0-of-a : strokePost storedA 0 ≡
     Bone (record { x = fin false 1 (negsuc 1); y = fin false 1 (negsuc 1) }) (record { x = fin false 1 (pos 0); y = fin false 1 (negsuc 1) })
-unfolding storedA given all inOrder slotsIn sitesRun coloursIn sitesIn productOf rising rankBy hasRank ranksDiffer tiedOf isUsed usedFrom leastX slotsOf boundsKept backbones farBy countsBy clearBy shareBy drops tiesIn sheetPart listed inPoints odd trailingZeros
+unfolding storedA given all inOrder isCharge slotsIn sitesRun coloursIn sitesIn productOf rising rankBy hasRank ranksDiffer tiedOf isUsed usedFrom leastX slotsOf boundsKept backbones farBy countsBy clearBy offBy shareBy drops tiesIn sheetPart listed inPoints odd trailingZeros
 stroke-0-of-a = refl
 
 stroke-4-of-a : strokePost storedA 4 ≡
     Drop (record { x = fin false 1 (negsuc 0); y = fin false 5 (negsuc 2) }) (record { x = fin false 1 (negsuc 0); y = fin false 1 (pos 0) })
-unfolding storedA given all inOrder slotsIn sitesRun coloursIn sitesIn productOf rising rankBy hasRank ranksDiffer tiedOf isUsed usedFrom leastX slotsOf boundsKept backbones farBy countsBy clearBy shareBy drops tiesIn sheetPart listed inPoints odd trailingZeros
+unfolding storedA given all inOrder isCharge slotsIn sitesRun coloursIn sitesIn productOf rising rankBy hasRank ranksDiffer tiedOf isUsed usedFrom leastX slotsOf boundsKept backbones farBy countsBy clearBy offBy shareBy drops tiesIn sheetPart listed inPoints odd trailingZeros
 stroke-4-of-a = refl
 
 stroke-5-of-a : strokePost storedA 5 ≡ Refused 14
-unfolding storedA given all inOrder slotsIn sitesRun coloursIn sitesIn productOf rising rankBy hasRank ranksDiffer tiedOf isUsed usedFrom leastX slotsOf boundsKept backbones farBy countsBy clearBy shareBy drops tiesIn sheetPart listed
+unfolding storedA given all inOrder isCharge slotsIn sitesRun coloursIn sitesIn productOf rising rankBy hasRank ranksDiffer tiedOf isUsed usedFrom leastX slotsOf boundsKept backbones farBy countsBy clearBy offBy shareBy drops tiesIn sheetPart listed
 stroke-5-of-a = refl

@@ -1,15 +1,14 @@
 -- The stroke of a place, from what was sought among backbones and then among drops. Assumes nothing.
 use mathlib.Core.Path.{_≡_, sym, _∙_, ap, ap₂, fun-ext}
-use mathlib.Core.Bool.{Bool, true, false, false≢true, not}
+use mathlib.Core.Bool.{Bool, true, false, false≢true}
 use mathlib.Core.List.{List}
 use Prim.Native.Nat.{ℕ, _+_, _≤_, _<_}
 use native.Mathlib.Omega.{arith}
-use lib.Dec.{eqb}
 use lib.ListN.{length, getD, length-append, List·getD-append}
 use lib.Seq.{getD-append-add}
 use Rattle.sheet.specs.Limits.{mostSlots}
 use Rattle.sheet.specs.Sheet.{Sheet}
-use Rattle.labelling.specs.Layout.{tieAt, isUsed, tiesIn, layoutBody, layoutTies}
+use Rattle.labelling.specs.Layout.{offBy, tieAt, isUsed, tiesIn, layoutBody, layoutTies}
 use Rattle.labelling.specs.Strokes.{boneOf, dropOf, isOff, bonesOf, dropsOf, strokesOf, noStroke}
 use Rattle.labelling.proofs.Counted.{used-taken}
 use Rattle.points.specs.declared.stroke.Stroke.{Stroke}
@@ -38,7 +37,8 @@ module _ {d : Numbers} {ls : List ℕ} (p : LayoutRead d ls) {ts : List ℕ} (e 
   used-so k = rw e (sym (used-taken js k))
 
   off-so : (i : ℕ) → isListed Drops (d .heights) (d .ys) (d .colours) (tiesIn ts) i ≡ isOff (sheetBy d) (tieAt (sheetBy d) js i)
-  off-so i = rw e (ap₂ (λ (a b : ℕ). not (eqb a b)) (decoded-read p .heights (getD js i 0)) (decoded-read p .ys i))
+  unfolding offBy
+  off-so i = rw e (ap₂ offBy (decoded-read p .heights (getD js i 0)) (decoded-read p .ys i))
 
   pub sought-so : (sort : Listed) (i : ℕ) {n : ℕ} {r : Sought} → n ≡ countBy sort (d .slots) (d .sites) → r ≡ soughtIn (isListed sort (d .heights) (d .ys) (d .colours) (tiesIn ts)) 0 n i → r ≡ soughtOn sort (sheetBy d) js i
   sought-so Bones i h q = q ∙ ap₂ (λ (t : ℕ → Bool) (m : ℕ). soughtIn t 0 m i) (fun-ext used-so) (h ∙ slots-long p)

@@ -42,7 +42,7 @@ module _ {d : Numbers} {ls : List ℕ} (p : LayoutRead d ls) where
 
   -- THE LENGTH: the numbers are low by the one-sided head too
   pub low-one : {h : Head} → h ≡ headOneSided (d .head) → Low h (d .heights) (d .ys)
-  low-one e = let l = low-read p in rw e (record { width = l .width; heights = l .heights; ys = l .ys })
+  low-one e = let l = low-read p in rw e (record { width = l .width; charge = l .charge; heights = l .heights; ys = l .ys })
 
   -- the sheet is that of the words
   same-length : lengthOf (asOneSided (sheetBy d)) (layoutTies ls) ≡ lengthOf (asOneSided s) (layoutTies ls)

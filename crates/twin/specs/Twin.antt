@@ -14,4 +14,4 @@ twinPost ws o = record { refusal = twinFault ws o; written = cond (eqb (twinFaul
 
 -- a head, one-sided
 abbrev pub headOneSided : Head → Head
-headOneSided h = record { twosided = false; shortest = h .shortest; gap = h .gap; width = h .width }
+headOneSided h = record { twosided = false; shortest = h .shortest; gap = h .gap; width = h .width; charge = h .charge }

@@ -9,7 +9,7 @@ use layouts::rule_6::totals_of;
 use words::TIES_AT;
 use words::tied::Head;
 
-// What a head says, but one-sided.
+// What a sheet's head and charge say, but one-sided.
 fn one_sided(h: Head) -> Head
     ensures { λ r. ⌜ r ≡ headOneSided h ⌝ }
 {
@@ -18,6 +18,7 @@ fn one_sided(h: Head) -> Head
         shortest: h.shortest,
         gap: h.gap,
         width: h.width,
+        charge: h.charge,
     }
 }
 

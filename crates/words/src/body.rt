@@ -1,19 +1,23 @@
-// A sheet's words as a list: those after the head, how many are of a kind, how many sites follow a colour at once.
+// A sheet's words as a list: those after the head and the charge, how many are of a kind, how many sites follow a colour at once.
 ghost use mathlib.Core.Path.{_≡_};
 ghost use lib.ListN.{drop};
 ghost use Rattle.sheet.specs.Sheet.{bodyAt, bodyOf, sitesRun};
 ghost use Rattle.sheet.specs.Words.{countKind};
 use crate::SITE;
+use crate::charge::has_charge;
 use crate::kind_of;
 
-// The place of the first word after the head.
+// The place of the first word after the head and the charge.
 pub fn body_at(sheet: &[u32]) -> usize
     ensures { λ r. ⌜ r ≡ bodyAt (now (sheet .entry)) ⌝ }
 {
+    if has_charge(sheet) {
+        return 2;
+    }
     1
 }
 
-// The words after the head.
+// The words from there on.
 pub fn body_of(sheet: &[u32]) -> &[u32]
     ensures { λ r. ⌜ now r ≡ bodyOf (now (sheet .entry)) ⌝ }
 {

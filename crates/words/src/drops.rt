@@ -34,10 +34,14 @@ pub fn magnitude(d: i32) -> u32
     d as u32
 }
 
-// A site's share of the length, by the height of its slot and its own.
-pub fn share_of(h: u32, y: u32) -> u32
-    requires { ⌜ (h < signTop) × (y < signTop) ⌝ }
-    ensures { λ r. ⌜ r ≡ shareBy h y ⌝ }
+// A site's share of the length, by the charge, the height of its slot and its own: its drop without the sign, and the charge if that isn't zero.
+pub fn share_of(charge: u32, h: u32, y: u32) -> u32
+    requires { ⌜ (charge < signTop) × (h < signTop) × (y < signTop) ⌝ }
+    ensures { λ r. ⌜ r ≡ shareBy charge h y ⌝ }
 {
-    magnitude(drop_of(h, y))
+    let size = magnitude(drop_of(h, y));
+    if size == 0 {
+        return 0;
+    }
+    size + charge
 }

@@ -1,5 +1,6 @@
 // Kind and fields of a word, and tests and sums as functions. Each is total: its contract is one equation and asks nothing.
 pub mod body;
+pub mod charge;
 pub mod drops;
 pub mod tied;
 
@@ -18,7 +19,7 @@ pub const NONE: u32 = 4294967295;
 
 const NONE_WIDE: u64 = 4294967295;
 
-// The kinds of words: document 01, "The sheet".
+// The kinds of words: document 01, "The sheet"; a charge is document 02's.
 pub const HEAD: u32 = 1;
 
 pub const SLOT: u32 = 2;
@@ -27,9 +28,14 @@ pub const COLOUR: u32 = 3;
 
 pub const SITE: u32 = 4;
 
+pub const CHARGE: u32 = 5;
+
 pub const LAYOUT: u32 = 8;
 
 pub const TIE: u32 = 9;
+
+// The place right after the head, where a charge may stand.
+pub const CHARGE_AT: u32 = 1;
 
 // The place of a layout's first tie.
 pub const TIES_AT: usize = 1;
@@ -74,14 +80,14 @@ pub fn kind_of(w: u32) -> u32
     w / KIND_TOP
 }
 
-// Bits 13 to 0: a height, a site's y, the width.
+// Bits 13 to 0: a height, a site's y, the width, a charge.
 pub fn low_field(w: u32) -> u32
     ensures { λ r. ⌜ r ≡ bits w 0 14 ⌝ }
 {
     w % NUMBER_TOP
 }
 
-// Bits 27 to 14: a site's x.
+// Bits 27 to 14: a site's x; what a slot or a charge has spare.
 pub fn high_field(w: u32) -> u32
     ensures { λ r. ⌜ r ≡ bits w 14 14 ⌝ }
 {

@@ -1,4 +1,4 @@
-// A site with its tie, and what the head says of all of them.
+// A site with its tie, and what the head and the charge say of all of them.
 ghost use mathlib.Core.Path.{_≡_};
 ghost use Rattle.words.specs.Starts.{startOf};
 use crate::choose;
@@ -12,12 +12,13 @@ pub struct TiedSite {
     pub height: u32,
 }
 
-// What the head says: side, aim, gap and width.
+// What stands before the slots: side, aim, gap and width, and the charge.
 pub struct Head {
     pub twosided: bool,
     pub shortest: bool,
     pub gap: u32,
     pub width: u32,
+    pub charge: u32,
 }
 
 // The left end of u's label if u alone is on it. Some site of a label has its left end, so pairs are enough.

@@ -24,9 +24,13 @@ gap-field-requires c κs = search needs
 low-field-requires : tie.Need-low-field-requires
 low-field-requires c κs = search needs
 
+charge-of-requires : tie.Need-charge-of-requires
+charge-of-requires c κs = search needs
+
 returns : tie.Need-returns
 returns c =
-    rw (c .low-field .ensures, c .before .gap-field .ensures, c .before .before .same2 .ensures, c .before .before .before .aim-bit .ensures, c .before .before .before .before .same .ensures, c .before .before .before .before .before .side-bit .ensures, c .before .before .before .before .before .before .get .ensures) refl
+    let b = c .before in
+    rw (c .charge-of .ensures, b .low-field .ensures, b .before .gap-field .ensures, b .before .before .same2 .ensures, b .before .before .before .aim-bit .ensures, b .before .before .before .before .same .ensures, b .before .before .before .before .before .side-bit .ensures, b .before .before .before .before .before .before .get .ensures) refl
 
 pub head-of-spec : {M : Type 1} → statement M
 head-of-spec =
@@ -39,4 +43,5 @@ head-of-spec =
     same-requires-2
     gap-field-requires
     low-field-requires
+    charge-of-requires
     returns)
