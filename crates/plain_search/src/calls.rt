@@ -129,7 +129,7 @@ pub fn expected_for(sheet: Sheet) -> Expected {
     let out = lent_for(work.seed, answer);
     let best = search(sheet);
     Expected {
-        words: sum(answer, sum(sheet.slots, sheet.colours)),
+        words: sum(sum(answer, sheet.charges), sum(sheet.slots, sheet.colours)),
         work: work.words,
         out: out.words,
         fault: fault_for(

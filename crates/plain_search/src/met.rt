@@ -1,6 +1,7 @@
 // What was met, counted.
 use crate::calls::Expected;
 use crate::rules::slots_of;
+use crate::search::search;
 use crate::small_sheet::Sheet;
 use crate::small_sheet::at;
 use crate::small_sheet::is_two_sided;
@@ -17,16 +18,23 @@ const EQUAL_ROWS: u32 = 3;
 
 const ON_SLOTS: u32 = 4;
 
-// Refusals 8, 9 and 10 are the kinds 5, 6 and 7.
-const BEFORE_REFUSALS: u8 = 3;
+const CHARGED: u32 = 5;
 
-const ANSWERED: u32 = 8;
+// With a charge word, and the charge is 0.
+const CHARGE_OF_ZERO: u32 = 6;
 
-const EQUALS: u32 = 9;
+// Refusals 8, 9 and 10 are the kinds 7, 8 and 9.
+const BEFORE_REFUSALS: u8 = 1;
 
-const SPENT: u32 = 10;
+const ANSWERED: u32 = 10;
 
-const DIFFERENCES: u32 = 11;
+const EQUALS: u32 = 11;
+
+const SPENT: u32 = 12;
+
+const ALTERED: u32 = 13;
+
+const DIFFERENCES: u32 = 14;
 
 // The set with a kind, if it is met.
 fn noted(set: u32, kind: u32, met: bool) -> u32 {
@@ -50,6 +58,17 @@ fn spends_bound(sheet: Sheet, layout: u64) -> bool {
     spent
 }
 
+// Is the answer another than without the charge?
+fn is_altered(sheet: Sheet, layout: u64) -> bool {
+    if sheet.charge == 0 {
+        return false;
+    }
+    let mut uncharged = sheet;
+    uncharged.charge = 0;
+    let best = search(uncharged);
+    best.layout != layout
+}
+
 // The kinds that a sheet is of.
 fn sheet_kinds(sheet: Sheet) -> u32 {
     let rows = set_of(sheet.ys, sheet.sites);
@@ -57,7 +76,9 @@ fn sheet_kinds(sheet: Sheet) -> u32 {
     let set = noted(1, TWO_SIDED, is_two_sided(sheet));
     let aimed = noted(set, SHORTEST, sheet.flags % 2 == 1);
     let equal = noted(aimed, EQUAL_ROWS, u32::count_ones(rows) < sheet.sites);
-    noted(equal, ON_SLOTS, rows & slots != 0)
+    let on = noted(equal, ON_SLOTS, rows & slots != 0);
+    let charged = noted(on, CHARGED, sheet.charges == 1);
+    noted(charged, CHARGE_OF_ZERO, sheet.charge < sheet.charges)
 }
 
 // All that is met in a call: of the sheet, of the answer, and whether it differs from what it should be.
@@ -71,14 +92,15 @@ pub fn kinds_met(sheet: Sheet, e: Expected, right: bool) -> u32 {
     }
     let best = e.best;
     let equal = noted(joined(set, ANSWERED), EQUALS, 1 < best.equals);
-    noted(equal, SPENT, spends_bound(sheet, best.layout))
+    let spent = noted(equal, SPENT, spends_bound(sheet, best.layout));
+    noted(spent, ALTERED, is_altered(sheet, best.layout))
 }
 
 // Each kind of a set once more.
-pub fn counted(counts: [u32; 12], set: u32) -> [u32; 12] {
+pub fn counted(counts: [u32; 15], set: u32) -> [u32; 15] {
     let mut more = counts;
     let mut i: usize = 0;
-    while i < 12 {
+    while i < 15 {
         more[i] = sum(more[i], (set >> (i as u32)) % 2);
         i += 1;
     }

@@ -1,4 +1,6 @@
 // The rules of a lawful layout, each as its sentence says. A layout here is a row: the slot of each site.
+ghost use Prim.Native.Nat.{_≤_};
+ghost use lib.IntN.{natAbs};
 use crate::small_sheet::NUMBER_TOP;
 use crate::small_sheet::ROW;
 use crate::small_sheet::Sheet;
@@ -91,10 +93,39 @@ pub fn is_lawful(sheet: Sheet, layout: u64) -> bool {
     true
 }
 
+// A site's drop: its label's height less its own, below zero when the backbone lies above it.
+fn drop_of(label: u32, y: u32) -> i32
+    requires { ⌜ (label ≤ 255) × (y ≤ 255) ⌝ }
+    ensures { λ r. ⌜ natAbs r ≤ 255 ⌝ }
+{
+    (label as i32) - (y as i32)
+}
+
+// A drop without its sign.
+fn magnitude(drop: i32) -> u32
+    requires { ⌜ natAbs drop ≤ 255 ⌝ }
+{
+    if drop < 0 {
+        return (-drop) as u32;
+    }
+    drop as u32
+}
+
+// A site's share of the length: its drop without its sign, and the charge if the drop is not zero.
+fn share(sheet: Sheet, label: u32, y: u32) -> u32
+    requires { ⌜ (label ≤ 255) × (y ≤ 255) ⌝ }
+{
+    let drop = drop_of(label, y);
+    if drop == 0 {
+        return 0;
+    }
+    sum(magnitude(drop), sheet.charge)
+}
+
 // A label's part of a size, which is as in the answer's first word.
 pub const LABEL: u32 = 2097152;
 
-// Rule 6: the number of labels, and the length of backbones and drops; a slot that is not used counts nothing.
+// Rule 6: the number of labels, and the length of backbones and the sites' shares of it; a slot that is not used counts nothing.
 pub fn layout_size(sheet: Sheet, layout: u64) -> u32 {
     let n = sheet.sites;
     let mut size: u32 = 0;
@@ -110,7 +141,7 @@ pub fn layout_size(sheet: Sheet, layout: u64) -> u32 {
             continue;
         }
         let label = at(sheet.heights, at(layout, place));
-        size = sum(size, apart(label, at(sheet.ys, place)));
+        size = sum(size, share(sheet, label, at(sheet.ys, place)));
     }
     size
 }

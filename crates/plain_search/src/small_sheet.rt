@@ -35,6 +35,9 @@ pub struct Sheet {
     pub flags: u32,
     pub gap: u32,
     pub width: u32,
+    // 1 if there is a charge word, and its charge; 0 and 0 if there is none
+    pub charges: u32,
+    pub charge: u32,
     pub slots: u32,
     pub colours: u32,
     pub sites: u32,

@@ -39,7 +39,8 @@ fn size(seed: u32, few: u32, more: u32) -> u32 {
 }
 
 // Side, two-sided one time in eight, aim, gap and width; four or five slots, two colours more often than one or three, three to five sites.
-// The heights stay those of the sheet before: where there is no slot, the sites are drawn by them.
+// The heights stay those of the sheet before: where there is no slot, the sites are drawn by them. Half of the sheets have
+// a charge word, of 0 to 7: that comes from the second seed.
 fn make_head(before: Sheet) -> Sheet {
     let a = next(before.seed);
     let b = next(a);
@@ -49,12 +50,16 @@ fn make_head(before: Sheet) -> Sheet {
     let f = next(e);
     let g = next(next(f));
     let h = next(g);
+    let s = next(before.second);
+    let t = next(s);
     Sheet {
         seed: next(h),
-        second: next(before.second),
+        second: t,
         flags: 2 * (drawn(a, 7) / 7) + drawn(b, 1),
         gap: sum(lesser(drawn(c, 2), drawn(d, 2)), 1),
         width: drawn(e, 3) + 5,
+        charges: drawn(s, 1),
+        charge: product(drawn(s, 1), drawn(t, 7)),
         slots: size(f, 3, 1),
         colours: (drawn(g, 3) + 1) / 2 + 1,
         sites: size(h, 2, 2),
@@ -189,6 +194,8 @@ pub fn no_sheet() -> Sheet {
         flags: 0,
         gap: 0,
         width: 0,
+        charges: 0,
+        charge: 0,
         slots: 0,
         colours: 0,
         sites: 0,

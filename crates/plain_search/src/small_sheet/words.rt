@@ -4,7 +4,7 @@ use crate::small_sheet::apart;
 use crate::small_sheet::at;
 use crate::small_sheet::sum;
 
-// The kind stands above 28 bits: words of a head, a slot, a colour and a site.
+// The kind stands above 28 bits: words of a head, a slot, a colour, a site and a charge.
 pub const KIND: u32 = 268435456;
 
 const SLOT: u32 = 2 * KIND;
@@ -13,7 +13,9 @@ const COLOUR: u32 = 3 * KIND;
 
 const SITE: u32 = 4 * KIND;
 
-// Side and aim stand above 26 bits, gap and x above 14; the gap has 12.
+const CHARGE: u32 = 5 * KIND;
+
+// Side and aim stand above 26 bits, gap and x above 14, which the charge has; the gap has 12.
 const FLAGS: u32 = 67108864;
 
 const FIELD: u32 = 16384;
@@ -28,11 +30,15 @@ fn word_at(sheet: Sheet, place: u32, colours: u32) -> u32 {
     if place == 0 {
         return KIND + sheet.flags % 4 * FLAGS + sheet.gap % GAP_TOP * FIELD + sheet.width % FIELD;
     }
-    if place <= sheet.slots {
-        return SLOT + at(sheet.heights, place - 1);
+    if place <= sheet.charges {
+        return CHARGE + sheet.charge % FIELD;
+    }
+    let after = apart(place, sum(sheet.charges, 1));
+    if after < sheet.slots {
+        return SLOT + at(sheet.heights, after);
     }
     let colour = COLOUR + at(sheet.bounds, colours);
-    let site = apart(place, sum(sum(sheet.slots, 1), colours));
+    let site = apart(after, sum(sheet.slots, colours));
     if (sheet.sites <= site) | (colours <= at(sheet.site_colours, site)) {
         return colour;
     }

@@ -6,10 +6,10 @@ use Rattle.plain_search.proofs.met.counted.Statement.{statement}
 use Rattle.plain_search.proofs.met.counted.Tie as tie
 
 abbrev Inv-loop : tie.InvT-loop
-Inv-loop set more₀ i₀ more i = (i ≤ 12) × (length more ≡ 12)
+Inv-loop set more₀ i₀ more i = (i ≤ 15) × (length more ≡ 15)
 
 abbrev μ-loop : tie.MeasureT-loop
-μ-loop set more₀ i₀ more i = 12 - i
+μ-loop set more₀ i₀ more i = 15 - i
 
 loop-holds : tie.Need-loop-holds Inv-loop μ-loop
 loop-holds c = search needs

@@ -42,8 +42,8 @@ at-requires-2 c κs = search needs
 at-requires-3 : tie.Need-at-requires-3 Inv-loop μ-loop
 at-requires-3 c κs = search needs
 
-apart-requires-2 : tie.Need-apart-requires-2 Inv-loop μ-loop
-apart-requires-2 c κs = search needs
+share-requires : tie.Need-share-requires Inv-loop μ-loop
+share-requires c κs = search needs
 
 sum-requires-3 : tie.Need-sum-requires-3 Inv-loop μ-loop
 sum-requires-3 c κs = search needs
@@ -74,7 +74,7 @@ layout-size-spec =
     at-requires
     at-requires-2
     at-requires-3
-    apart-requires-2
+    share-requires
     sum-requires-3
     loop-less-2
     loop-again-2
