@@ -1,5 +1,5 @@
 // The layout maker on the drawn examples of document 01, and on small sheets beside a plain search.
-// The file stdout is worked out from document 01, the counts by rust/model/tests/recipe.
+// The file stdout is worked out from documents 01 and 02, the counts by rust/model/tests/recipe.
 mod compare;
 mod examples;
 

@@ -1,4 +1,4 @@
-// What the reader gives, compared with what document 01 says; cases and differences are counted.
+// What the reader gives, compared with what documents 01 and 02 say; cases and differences are counted.
 use libc::STDOUT_FILENO;
 use reader::ColourSize;
 use reader::Sizes;
