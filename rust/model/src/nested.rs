@@ -51,7 +51,7 @@ pub fn sheet(depth: u32, shortest: bool, random: &mut Random) -> Sheet {
     slots.dedup();
     sites.sort_by_key(|site| site.colour);
     let bounds = bounds(&sites, shape.colours, random);
-    Sheet { two_sided: false, shortest, gap: shape.gap, width: shape.width, slots, bounds, sites }
+    Sheet { two_sided: false, shortest, gap: shape.gap, width: shape.width, charge: None, slots, bounds, sites }
 }
 
 fn shape(depth: u32, shortest: bool, random: &mut Random) -> Shape {

@@ -102,12 +102,12 @@ impl<'a> Maker<'a> {
         (0..self.bottom).rev().find(|place| self.heights[*place] <= site.y as i32).unwrap_or(0)
     }
 
-    fn drop_cost(&self, site: &Site, place: usize) -> u32 {
-        self.aim.cost(0, (self.heights[place] - site.y as i32).unsigned_abs())
+    fn share_cost(&self, site: &Site, place: usize) -> u32 {
+        self.aim.cost(0, self.sheet.share((self.heights[place] - site.y as i32).unsigned_abs()))
     }
 
     fn open_cost(&self, site: &Site, place: usize) -> u32 {
-        self.aim.cost(1, self.sheet.width - site.x) + self.drop_cost(site, place)
+        self.aim.cost(1, self.sheet.width - site.x) + self.share_cost(site, place)
     }
 
     fn steps(&self, site: &Site, strip: Strip) -> Steps {
@@ -116,10 +116,10 @@ impl<'a> Maker<'a> {
         let clear_below = self.heights[strip.below] - y >= gap;
         let mut join = NONE;
         if strip.above_colour == colour && clear_below {
-            join = self.drop_cost(site, strip.above);
+            join = self.share_cost(site, strip.above);
         }
         if strip.below_colour == colour && clear_above {
-            join = join.min(self.drop_cost(site, strip.below));
+            join = join.min(self.share_cost(site, strip.below));
         }
         let mut open = (self.after[strip.above], self.before[strip.below]);
         if !clear_above || !clear_below || self.budgets.allowing[site.colour] == 0 {
@@ -316,7 +316,7 @@ impl<'a> Maker<'a> {
         };
         let gap = self.sheet.gap as i32;
         let clear_below = self.heights[strip.below] - site.y as i32 >= gap;
-        let up = self.drop_cost(site, strip.above);
+        let up = self.share_cost(site, strip.above);
         if strip.above_colour == colour && clear_below && keeps(up, &whole, budget) {
             return (strip.above, up);
         }
@@ -328,7 +328,7 @@ impl<'a> Maker<'a> {
                 return (place, cost);
             }
         }
-        (strip.below, self.drop_cost(site, strip.below))
+        (strip.below, self.share_cost(site, strip.below))
     }
 
     /// The strip that holds the site, and the row of all other strips together.

@@ -1,7 +1,7 @@
 //! Random sheets and damage to them, the same on each run.
 
 use crate::rules::{self, layout_words};
-use crate::sheet::{Sheet, Site, MOST_BUDGETS, UNBOUNDED};
+use crate::sheet::{Sheet, Site, MOST_BUDGETS, MOST_CHARGE, UNBOUNDED};
 
 /// Splitmix64: one 64-bit state, good enough to spread over small sheets.
 pub struct Random(u64);
@@ -19,6 +19,11 @@ impl Random {
             state = u64::from(mixed.word()) << 32 | u64::from(mixed.word());
         }
         Random(state)
+    }
+
+    /// A stream of its own beside this one, which goes on as if nothing had been drawn: for what sheets got later.
+    fn beside(&self) -> Random {
+        Random::of(&[self.0])
     }
 
     pub fn word(&mut self) -> u32 {
@@ -79,7 +84,7 @@ pub struct Shape {
     pub height: u32,
 }
 
-/// A sheet of exactly this shape, with its sites spread over the colours and bounds that may be shared.
+/// A sheet of exactly this shape, with its sites spread over the colours, bounds that may be shared, and a charge or none.
 pub fn sheet_of(shape: Shape, random: &mut Random) -> Sheet {
     let slots = random.rising(shape.slots, shape.height);
     let bounds = bounds(shape.colours, random);
@@ -94,7 +99,14 @@ pub fn sheet_of(shape: Shape, random: &mut Random) -> Sheet {
     }
     sites.sort_by_key(|site| site.colour);
     let (two_sided, shortest) = (random.one_in(2), random.one_in(2));
-    Sheet { two_sided, shortest, gap: shape.gap, width: shape.width, slots, bounds, sites }
+    let charge = charge(shape, &mut random.beside());
+    Sheet { two_sided, shortest, gap: shape.gap, width: shape.width, charge, slots, bounds, sites }
+}
+
+/// Half of the sheets have a charge word: one of 0, one that weighs as much as a few drops, or the greatest.
+fn charge(shape: Shape, random: &mut Random) -> Option<u32> {
+    let charges = [0, 1, shape.gap, 2 * shape.gap, random.between(0, shape.height), MOST_CHARGE];
+    random.one_in(2).then(|| random.pick(&charges))
 }
 
 /// Now and then on a slot or level with another site.
@@ -173,13 +185,14 @@ pub fn banded_sheet(slots: u32, sites: u32, bounds: &[u32], seed: u64) -> Sheet 
     let mut sites: Vec<Site> = columns.iter().enumerate().map(site).collect();
     sites.sort_by_key(|site| site.colour);
     let slots = (0..slots).map(|slot| 10 * slot + 5).collect();
-    Sheet { two_sided: false, shortest: true, gap: 3, width: WIDTH, slots, bounds: bounds.to_vec(), sites }
+    let bounds = bounds.to_vec();
+    Sheet { two_sided: false, shortest: true, gap: 3, width: WIDTH, charge: None, slots, bounds, sites }
 }
 
 /// A word of one of the kinds, mostly of the right form and mostly with edges of the ranges.
 pub fn any_word(random: &mut Random) -> u32 {
     let number = |random: &mut Random| random.pick(&[0, 1, 2, 3, 7, 8, 63, 64, 254, 255, 4095, 16382, 16383]);
-    match random.below(8) {
+    match random.below(9) {
         0 => random.word(),
         1 => random.below(16) << 28 | random.below(64),
         2 => 1 << 28 | random.below(4) << 26 | (number(random) % 4096) << 14 | number(random),
@@ -187,6 +200,7 @@ pub fn any_word(random: &mut Random) -> u32 {
         4 => (3 << 28) | (number(random) % 256),
         5 => 4 << 28 | number(random) << 14 | number(random),
         6 => 8 << 28 | random.below(5) << 21 | random.below(64),
+        7 => 5 << 28 | number(random),
         _ => 9 << 28 | random.below(6),
     }
 }

@@ -24,8 +24,8 @@ pub struct Ranked {
 struct Search<'a> {
     sheet: &'a Sheet,
     order: Vec<usize>,
-    /// For each rank, the least drops of the sites from it on.
-    drops_left: Vec<u32>,
+    /// For each rank, the least shares of the sites from it on.
+    shares_left: Vec<u32>,
     slot_of: Vec<usize>,
     found: Option<Ranked>,
     steps_left: u64,
@@ -34,13 +34,16 @@ struct Search<'a> {
 /// Searches in at most so many steps: none where they do not suffice, `Some(None)` where no layout is lawful.
 pub fn rank(sheet: &Sheet, most_steps: u64) -> Option<Option<Ranked>> {
     let order = sheet.by_x();
-    let least_drop = |site: &Site| sheet.slots.iter().map(|height| height.abs_diff(site.y)).min().unwrap_or(0);
-    let mut drops_left = vec![0; order.len() + 1];
+    let least_share = |site: &Site| {
+        let shares = sheet.slots.iter().map(|height| sheet.share(height.abs_diff(site.y)));
+        shares.min().unwrap_or(0)
+    };
+    let mut shares_left = vec![0; order.len() + 1];
     for (rank, site) in order.iter().enumerate().rev() {
-        drops_left[rank] = drops_left[rank + 1] + least_drop(&sheet.sites[*site]);
+        shares_left[rank] = shares_left[rank + 1] + least_share(&sheet.sites[*site]);
     }
     let slot_of = vec![0; order.len()];
-    let mut search = Search { sheet, order, drops_left, slot_of, found: None, steps_left: most_steps };
+    let mut search = Search { sheet, order, shares_left, slot_of, found: None, steps_left: most_steps };
     search.tie(0, (0, 0)).then_some(search.found)
 }
 
@@ -57,7 +60,7 @@ impl Search<'_> {
     /// Can a layout whose first ranks have these numbers still be among the first two?
     fn may_matter(&self, rank: usize, (count, length): Numbers) -> bool {
         let second = self.found.as_ref().and_then(|found| found.second);
-        second.is_none_or(|second| self.cost((count, length + self.drops_left[rank])) <= self.cost(second))
+        second.is_none_or(|second| self.cost((count, length + self.shares_left[rank])) <= self.cost(second))
     }
 
     /// Tries all ties from a rank on; false when the steps are used up.
@@ -122,12 +125,12 @@ impl Search<'_> {
 
     fn after(&self, rank: usize, slot: usize, (count, length): Numbers) -> Numbers {
         let site = &self.sheet.sites[self.order[rank]];
-        let drop = self.sheet.slots[slot].abs_diff(site.y);
+        let share = self.sheet.share(self.sheet.slots[slot].abs_diff(site.y));
         if self.tied(rank).any(|(_, its)| its == slot) {
-            return (count, length + drop);
+            return (count, length + share);
         }
         let left_end = if self.sheet.two_sided { 0 } else { site.x };
-        (count + 1, length + drop + self.sheet.width - left_end)
+        (count + 1, length + share + self.sheet.width - left_end)
     }
 
     /// Takes a lawful layout in. Layouts come in the order of choice.

@@ -194,8 +194,8 @@ impl<'a> Rival<'a> {
             .all(|end| self.is_clear(*end, self.heights[place]) && self.is_clear(*end, y))
     }
 
-    fn drop_length(&self, site: Site, place: usize) -> u64 {
-        self.rounding.exact((self.heights[place] - site.y as i32).unsigned_abs())
+    fn share_length(&self, site: Site, place: usize) -> u64 {
+        self.rounding.exact(self.sheet.share((self.heights[place] - site.y as i32).unsigned_abs()))
     }
 
     /// Lowers a row by tying its site to a label of the strip's end. Nothing is rounded.
@@ -204,11 +204,11 @@ impl<'a> Rival<'a> {
         if !self.may_join(site, strip, place) {
             return;
         }
-        let drop = self.drop_length(site, place);
+        let share = self.share_length(site, place);
         let rest = self.row(rank + 1, strip);
         for (entry, rest) in row.iter_mut().zip(rest.iter().copied()) {
             if let Some(rest) = rest {
-                self.lower(entry, Entry { length: rest.length + drop, place, upper: 0, ..rest });
+                self.lower(entry, Entry { length: rest.length + share, place, upper: 0, ..rest });
             }
         }
     }
@@ -218,7 +218,7 @@ impl<'a> Rival<'a> {
         let site = self.site(rank);
         let (upper, lower) = parts(strip, place, site.colour);
         let (upper, lower) = (self.row(rank + 1, upper), self.row(rank + 1, lower));
-        let own = self.rounding.exact(self.sheet.width - site.x) + self.drop_length(site, place);
+        let own = self.rounding.exact(self.sheet.width - site.x) + self.share_length(site, place);
         let allowed = |budget: &usize| self.budgets.allowing[site.colour] >> budget & 1 == 1;
         for budget in (0..self.budgets.count).filter(allowed) {
             for (part, rest) in self.budgets.shares(budget - self.budgets.draw[site.colour]) {

@@ -1,6 +1,6 @@
 //! The rules of a lawful layout, one function a rule, and the judge over them.
 
-use crate::sheet::{read, Sheet, UNBOUNDED};
+use crate::sheet::{read, Sheet, Site, UNBOUNDED};
 
 /// The slot of each site, in sheet order, with the slots in use and their left ends.
 pub struct Ties<'a> {
@@ -75,8 +75,8 @@ impl<'a> Ties<'a> {
     pub fn numbers(&self) -> (u32, u32) {
         let backbones: u32 = self.used().map(|(_, left)| self.sheet.width - left).sum();
         let tied = self.sheet.sites.iter().zip(self.slot_of);
-        let drops: u32 = tied.map(|(site, slot)| site.y.abs_diff(self.sheet.slots[*slot])).sum();
-        (self.used().count() as u32, backbones + drops)
+        let share = |(site, slot): (&Site, &usize)| self.sheet.share(site.y.abs_diff(self.sheet.slots[*slot]));
+        (self.used().count() as u32, backbones + tied.map(share).sum::<u32>())
     }
 
     /// The least broken rule among 1 to 5, or 0.

@@ -4,6 +4,8 @@ pub const MOST_SLOTS: usize = 48;
 pub const MOST_COLOURS: usize = 8;
 pub const MOST_SITES: usize = 32;
 pub const MOST_BUDGETS: u64 = 64;
+/// The greatest charge that a word can hold.
+pub const MOST_CHARGE: u32 = (1 << 14) - 1;
 /// The bound that stands for "unbounded".
 pub const UNBOUNDED: u32 = 255;
 
@@ -21,6 +23,8 @@ pub struct Sheet {
     pub shortest: bool,
     pub gap: u32,
     pub width: u32,
+    /// None where there is no charge word: the charge is then 0. A charge word of 0 is a word of the sheet.
+    pub charge: Option<u32>,
     pub slots: Vec<u32>,
     pub bounds: Vec<u32>,
     pub sites: Vec<Site>,
@@ -40,11 +44,12 @@ pub struct Sizes {
 }
 
 impl Sheet {
-    /// The words of the sheet: the head, the slots, each colour with its sites.
+    /// The words of the sheet: the head, the charge if it has a word, the slots, each colour with its sites.
     pub fn words(&self) -> Vec<u32> {
         let side = u32::from(self.two_sided) << 27;
         let aim = u32::from(self.shortest) << 26;
         let mut words = vec![1 << 28 | side | aim | self.gap << 14 | self.width];
+        words.extend(self.charge.map(|charge| 5 << 28 | charge));
         words.extend(self.slots.iter().map(|height| 2 << 28 | height));
         for (colour, bound) in self.bounds.iter().enumerate() {
             words.push(3 << 28 | bound);
@@ -52,6 +57,16 @@ impl Sheet {
             words.extend(own.map(|site| 4 << 28 | site.x << 14 | site.y));
         }
         words
+    }
+
+    /// The share of the length of a site that lies so far from its backbone: its drop without the sign, and the charge if
+    /// that is not 0.
+    #[inline]
+    pub fn share(&self, drop: u32) -> u32 {
+        match drop {
+            0 => 0,
+            drop => drop + self.charge.unwrap_or(0),
+        }
     }
 
     /// The product of bound plus one over the bounded colours. It fits: 255 to the 8 is below 2 to the 64.
@@ -100,6 +115,7 @@ fn parse_head(words: &[u32]) -> Result<Sheet, u8> {
         shortest: head >> 26 & 1 == 1,
         gap: head >> 14 & 0xFFF,
         width: head & 0x3FFF,
+        charge: None,
         slots: Vec::with_capacity(MOST_SLOTS),
         bounds: Vec::with_capacity(MOST_COLOURS),
         sites: Vec::with_capacity(MOST_SITES),
@@ -110,11 +126,13 @@ fn parse_head(words: &[u32]) -> Result<Sheet, u8> {
     Ok(sheet)
 }
 
-/// Refusal 2: every word has a kind that may stand where it stands, and no spare bit.
+/// Refusal 2: every word after the head has a kind that may stand where it stands, and no spare bit. A charge stands right
+/// after the head.
 fn parse_rest(words: &[u32], sheet: &mut Sheet) -> Result<(), u8> {
-    for word in words {
+    for (place, word) in words.iter().enumerate() {
         let low = word & 0x0FFF_FFFF;
         match word >> 28 {
+            5 if place == 0 && low <= MOST_CHARGE => sheet.charge = Some(low),
             2 if sheet.bounds.is_empty() && low < 1 << 14 => sheet.slots.push(low),
             3 if low < 1 << 8 => sheet.bounds.push(low),
             4 if !sheet.bounds.is_empty() => {

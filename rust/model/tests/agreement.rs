@@ -62,6 +62,7 @@ fn equals_are_settled_across_strips() {
         shortest: true,
         gap: 1,
         width: 4,
+        charge: None,
         slots: vec![1, 2, 3, 4, 5],
         bounds: vec![2],
         sites: vec![site(0, 2), site(1, 2), site(2, 5), site(4, 0)],

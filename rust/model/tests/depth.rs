@@ -12,6 +12,7 @@ fn drawn(slot_of: &[usize]) -> Sheet {
         shortest: true,
         gap: 1,
         width: 100,
+        charge: None,
         slots: (0..20).map(|slot| 10 * slot).collect(),
         bounds: vec![UNBOUNDED],
         sites: sites.collect(),

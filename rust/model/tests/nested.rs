@@ -14,24 +14,33 @@ fn made(sheet: &Sheet) -> Option<Vec<usize>> {
     is_made.then(|| answer[1..].iter().map(|word| (word & 0xFF) as usize).collect())
 }
 
-/// Most of these sheets are too large for a search over all layouts; the ranked search ends on them.
+/// Whether the ranked search ends on a sheet; it then finds what the table has.
+fn is_searched(sheet: &Sheet, best: &Option<Vec<usize>>) -> bool {
+    let ranked = rank(sheet, 100_000);
+    if let Some(found) = &ranked {
+        assert_eq!(found.as_ref().map(|ranked| &ranked.slot_of), best.as_ref(), "{sheet:?}");
+    }
+    ranked.is_some()
+}
+
+/// Most of these sheets are too large for a search over all layouts; the ranked search ends on them, with a charge too.
 #[test]
 fn nested_sheets_have_their_depth_and_the_table_agrees_with_the_search() {
     for shortest in [false, true] {
         for wanted in 1..=7 {
             let mut random = Random::new(u64::from(wanted));
-            let (mut hits, mut searched) = (0, 0);
+            let (mut hits, mut searched, mut searched_charged) = (0, 0, 0);
             for _ in 0..60 {
                 let sheet = nested::sheet(wanted, shortest, &mut random);
                 assert_eq!(read(&sheet.words()), Ok(sheet.clone()));
                 let best = made(&sheet);
                 hits += u32::from(best.as_ref().is_some_and(|slot_of| depth(&sheet, slot_of) == wanted));
-                if let Some(ranked) = rank(&sheet, 100_000) {
-                    assert_eq!(ranked.map(|ranked| ranked.slot_of), best, "{sheet:?}");
-                    searched += 1;
-                }
+                searched += u32::from(is_searched(&sheet, &best));
+                let charged = Sheet { charge: Some(5 * wanted), ..sheet };
+                searched_charged += u32::from(is_searched(&charged, &made(&charged)));
             }
             assert!(hits >= 12 && searched >= 40, "depth {wanted}: {hits}, {searched}");
+            assert!(searched_charged >= 40, "depth {wanted}: {searched_charged}");
         }
     }
 }

@@ -11,14 +11,27 @@ const MOST_WORK_WORDS: u64 = 8192;
 /// Numbers from a linear congruence.
 struct Recipe {
     seed: u32,
+    /// What sheets got after their first form is drawn from a second seed, so that all else is drawn as before.
+    second: u32,
     /// The first slot's height stays where a sheet has no slots.
     first_height: u32,
 }
 
+fn next(seed: u32) -> u32 {
+    seed.wrapping_mul(1_664_525).wrapping_add(1_013_904_223)
+}
+
 impl Recipe {
     fn draw(&mut self, limit: u32) -> u32 {
-        self.seed = self.seed.wrapping_mul(1_664_525).wrapping_add(1_013_904_223);
+        self.seed = next(self.seed);
         (self.seed >> 16) % limit
+    }
+
+    /// About every second sheet has a charge word, from 0 to 7.
+    fn charge(&mut self) -> Option<u32> {
+        let has_word = next(self.second);
+        self.second = next(has_word);
+        ((has_word >> 16) % 2 == 1).then_some((self.second >> 16) % 8)
     }
 
     /// From 1 to `limit`, a low one more often.
@@ -83,7 +96,7 @@ impl Recipe {
         let bounds = (0..colours).map(|_| self.bound()).collect();
         let rows = slots.last().unwrap_or(&self.first_height) + 3;
         let sites = self.sites(n, width, rows, colours as usize - 1);
-        let mut sheet = Sheet { two_sided, shortest, gap, width, slots, bounds, sites };
+        let mut sheet = Sheet { two_sided, shortest, gap, width, charge: self.charge(), slots, bounds, sites };
         if sheet.work_words() > MOST_WORK_WORDS {
             sheet.bounds.fill(UNBOUNDED);
         }
@@ -120,23 +133,32 @@ fn spends_bound(sheet: &Sheet, found: &Found) -> bool {
     })
 }
 
+/// Whether the sheet without its charge word has other best slots.
+fn charge_alters(sheet: &Sheet, found: &Found) -> bool {
+    let uncharged = Sheet { charge: None, ..sheet.clone() };
+    find(&uncharged).is_none_or(|other| other.slot_of != found.slot_of)
+}
+
 /// What the program prints beside each count.
-const LINES: [&str; 11] = [
+const LINES: [&str; 14] = [
     "sheets",
     "two-sided, refused 18",
     "with the aim shortest",
     "with two sites at one y",
     "with a site at a slot's height",
+    "with a charge word",
+    "with a charge of 0",
     "refused 8",
     "refused 9",
     "refused 10",
     "answered",
     "answers with equals",
     "answers that spend a bound",
+    "answers that the charge alters",
 ];
 
 /// Which of the lines the next sheet and the call with it count for.
-fn met(recipe: &mut Recipe) -> [bool; 11] {
+fn met(recipe: &mut Recipe) -> [bool; LINES.len()] {
     let sheet = recipe.sheet();
     let (needed, words) = (sheet.work_words(), sheet.sites.len() as u64 + 1);
     let (short_work, short_answer) = (recipe.lent(needed) < needed, recipe.lent(words) < words);
@@ -152,19 +174,22 @@ fn met(recipe: &mut Recipe) -> [bool; 11] {
         sheet.shortest,
         has_two_sites_at_one_y(&sheet),
         has_site_at_slot(&sheet),
+        sheet.charge.is_some(),
+        sheet.charge == Some(0),
         served && short_work,
         served && !short_work && short_answer,
         lent && found.is_none(),
         answer.is_some(),
         answer.is_some_and(|found| found.equals > 1),
         answer.is_some_and(|found| spends_bound(&sheet, found)),
+        answer.is_some_and(|found| charge_alters(&sheet, found)),
     ]
 }
 
 #[test]
 fn the_counts_of_the_test_program_are_those_of_the_search() {
     let mut counts = [0; LINES.len()];
-    let mut recipe = Recipe { seed: 1, first_height: 0 };
+    let mut recipe = Recipe { seed: 1, second: 2, first_height: 0 };
     for _ in 0..SHEETS {
         counts.iter_mut().zip(met(&mut recipe)).for_each(|(count, met)| *count += usize::from(met));
     }

@@ -6,7 +6,7 @@ use model::ranked::rank;
 use model::rounding::{lay_out, rounded_length, Rounding, Unserved};
 use model::rules::Ties;
 use model::search;
-use model::sheet::Sheet;
+use model::sheet::{Sheet, MOST_CHARGE};
 
 fn made(sheet: &Sheet) -> Option<Vec<usize>> {
     let mut work = vec![0; sheet.work_words() as usize];
@@ -51,7 +51,7 @@ fn without_rounding_it_is_as_good_as_the_maker() {
 fn with_rounding_it_is_lawful_and_no_worse_by_its_own_sums() {
     for rounding in [Rounding::TenthMillimetre, Rounding::TenthPoint] {
         let mut worse = 0;
-        for sheet in sheets(10_000, 172) {
+        for sheet in sheets(15_000, 172) {
             let Some(best) = made(&sheet) else { continue };
             let rival = lay_out(&sheet, rounding).expect("there is a layout");
             assert_eq!(Ties::new(&sheet, &rival).broken(), 0, "{sheet:?}");
@@ -72,6 +72,7 @@ fn rounding_alone_makes_it_worse() {
     for mut sheet in sheets(5_000, 173).filter(|sheet| sheet.width < 1000) {
         sheet.width *= 4;
         sheet.gap *= 4;
+        sheet.charge = sheet.charge.map(|charge| 4 * charge.min(MOST_CHARGE / 4));
         sheet.slots.iter_mut().for_each(|height| *height *= 4);
         sheet.sites.iter_mut().for_each(|site| (site.x, site.y) = (site.x * 4, site.y * 4));
         let Some(best) = made(&sheet) else { continue };
@@ -91,6 +92,16 @@ fn lengths_are_rounded_to_the_nearest_tenth() {
     assert_eq!(rounded_length(&longer, &[0], Rounding::TenthMillimetre), Ok(6));
     assert_eq!(rounded_length(&longer, &[0], Rounding::TenthPoint), Ok(18), "1.75 points, the half up");
     assert_eq!(rounded_length(&longer, &[0], Rounding::None), Ok(14));
+}
+
+/// The same label at slot 6, a drop of 1 with a charge of 3: 10 + 1 + 3 units are 0.62 mm.
+#[test]
+fn charges_are_rounded_with_the_drops() {
+    let words = [0x1000_400A, 0x5000_0003, 0x2000_0005, 0x2000_0006, 0x3000_00FF, 0x4000_0005];
+    let sheet = model::sheet::read(&words).expect("a sheet");
+    assert_eq!(rounded_length(&sheet, &[1], Rounding::TenthMillimetre), Ok(6));
+    assert_eq!(rounded_length(&sheet, &[1], Rounding::None), Ok(14));
+    assert_eq!(rounded_length(&sheet, &[0], Rounding::None), Ok(10), "on its backbone it is not charged");
 }
 
 #[test]

@@ -28,11 +28,17 @@ fn sheet_a_by_hand() {
     assert_eq!((stroke_at(&stored, 4), stroke_at(&stored, 5)), (Ok(expected[4]), Err(14)));
 }
 
-/// The count and the length of a lawful layout are those of its strokes; what the judge refuses has none.
+/// The charge in a list's second word, 0 without one.
+fn charge(stored: &[u32]) -> u32 {
+    stored.get(1).filter(|word| **word >> 28 == 5).map_or(0, |word| word & 0x3FFF)
+}
+
+/// The count of a lawful layout is that of its backbones; its length is that of its strokes and of a charge for each drop.
+/// What the judge refuses has no strokes.
 #[test]
 fn strokes_add_up_to_the_stated_numbers() {
     let mut random = Random::new(330);
-    let mut met = [0; 14];
+    let (mut met, mut charged) = ([0; 14], 0);
     for _ in 0..SHEETS {
         let stored = any_stored(&mut random);
         let expected = match judge(&stored) {
@@ -51,8 +57,12 @@ fn strokes_add_up_to_the_stated_numbers() {
         assert_eq!(expected, 0, "{stored:x?}");
         let (_, _, (labels, length)) = split(&stored).unwrap();
         let units: f32 = all.iter().map(|Stroke { ends: [x, y, to_x, to_y], .. }| (to_x - x) + (to_y - y).abs()).sum();
-        assert_eq!(all.iter().filter(|stroke| !stroke.is_drop).count(), labels as usize, "{stored:x?}");
-        assert_eq!(8.0 * units, length as f32, "{stored:x?}");
+        let drops = all.iter().filter(|stroke| stroke.is_drop).count();
+        let charges = charge(&stored) * drops as u32;
+        assert_eq!(all.len() - drops, labels as usize, "{stored:x?}");
+        assert_eq!(8.0 * units, (length - charges) as f32, "{stored:x?}");
+        charged += usize::from(charges > 0);
     }
+    assert!(charged > 500, "{charged}");
     assert!([0, 1, 2, 4, 11, 13].iter().all(|refusal| met[*refusal] > 20), "{met:?}");
 }
