@@ -101,25 +101,37 @@ fn no_head(words: &[u32]) -> Vec<Cause> {
 }
 
 fn bad_words(words: &[u32]) -> Vec<Cause> {
-    let mut has_colour = false;
     let mut causes = Vec::new();
+    let mut before = Before::default();
     for (place, word) in words.iter().copied().enumerate().skip(1) {
-        if let Some(wrong) = wrong_with(word, has_colour) {
+        before.is_head = place == 1;
+        if let Some(wrong) = wrong_with(word, before) {
             causes.push(Cause::Word { place, word, wrong });
         }
-        has_colour |= word >> 28 == 3;
+        before.has_charge |= word >> 28 == 5;
+        before.has_colour |= word >> 28 == 3;
     }
     causes
 }
 
-/// What is wrong with a word after the head, where a colour stands before it or not.
-fn wrong_with(word: u32, has_colour: bool) -> Option<&'static str> {
+/// What stands before a word: the head alone or not, a charge, a colour.
+#[derive(Clone, Copy, Default)]
+struct Before {
+    is_head: bool,
+    has_charge: bool,
+    has_colour: bool,
+}
+
+/// What is wrong with a word after the head.
+fn wrong_with(word: u32, before: Before) -> Option<&'static str> {
     match (word >> 28, Word::decode(word)) {
         (1, _) => Some("a head stands after the first word"),
-        (2..=4, None) => Some("a spare bit is set"),
-        (2, _) if has_colour => Some("a slot stands after a colour"),
-        (4, _) if !has_colour => Some("a site stands before the first colour"),
-        (2..=4, _) => None,
+        (2..=5, None) => Some("a spare bit is set"),
+        (2, _) if before.has_colour => Some("a slot stands after a colour"),
+        (4, _) if !before.has_colour => Some("a site stands before the first colour"),
+        (5, _) if before.has_charge => Some("it is a second charge"),
+        (5, _) if !before.is_head => Some("a charge stands elsewhere than right after the head"),
+        (2..=5, _) => None,
         (8, _) => Some("a layout stands in the sheet"),
         (9, _) => Some("a tie stands in the sheet"),
         _ => Some("it is of no kind that a sheet has"),

@@ -10,7 +10,7 @@ pub struct Label {
     pub colour: usize,
     /// Its sites, in sheet order.
     pub sites: Vec<usize>,
-    /// Its part of the layout's length: the backbone and the drops to it.
+    /// Its part of the layout's length: the backbone, and its sites' shares.
     pub length: u32,
 }
 
@@ -19,11 +19,11 @@ impl Label {
         let (height, first) = (*sheet.slots().get(slot)?, *sites.first()?);
         let least_x = sites.iter().map(|site| sheet.sites()[*site].x).min()?;
         let left_end = if sheet.side == Side::Two { 0 } else { least_x };
-        let drops: u32 = sites.iter().map(|site| sheet.sites()[*site].y.abs_diff(height)).sum();
+        let shares: u32 = sites.iter().map(|site| sheet.share(sheet.sites()[*site].y.abs_diff(height))).sum();
         let colour = sheet.sites()[first].colour;
         // A site's x is at most the width in every sheet that the reader accepts.
         let backbone = sheet.width().saturating_sub(left_end);
-        Some(Label { slot, height, left_end, colour, sites, length: backbone + drops })
+        Some(Label { slot, height, left_end, colour, sites, length: backbone + shares })
     }
 }
 

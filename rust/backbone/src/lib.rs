@@ -31,6 +31,9 @@
 //! Two-sided sheets, whose backbones reach from edge to edge, are read and judged, but no longer laid out. [`twin`] turns
 //! a stored one into a one-sided one.
 //!
+//! Editors dislike many short drops: a sheet may have a charge ([`Sheet::set_charge`]), which each site off its backbone adds
+//! to the length. [`Sheet::share`] is a site's part of the length.
+//!
 //! One unit of length is an eighth of a printer's point. x counts from the left edge, heights downwards from the
 //! top.
 
@@ -67,6 +70,8 @@ pub const MOST_SLOTS: usize = 48;
 pub const MOST_COLOURS: usize = 8;
 /// The most sites that a sheet may have.
 pub const MOST_SITES: usize = 32;
+/// The greatest charge that a sheet may have.
+pub const MOST_CHARGE: u32 = 16_383;
 /// The most that the product of bound plus one over the bounded colours may be.
 pub const MOST_BUDGETS: u64 = 64;
 

@@ -20,6 +20,7 @@ pub struct Sheet {
     pub aim: Aim,
     gap: u32,
     width: u32,
+    charge: Option<u32>,
     slots: Vec<u32>,
     bounds: Vec<Option<u8>>,
     /// By colour; in each colour as they were added.
@@ -35,10 +36,37 @@ fn refuse_more(name: &'static str, count: usize, most: usize) -> Result<(), Form
 }
 
 impl Sheet {
-    /// A sheet without slots and colours: gap from 1 to 4,095, width from 1 to 16,383.
+    /// A sheet without a charge word, slots and colours: gap from 1 to 4,095, width from 1 to 16,383.
     pub fn new(side: Side, aim: Aim, gap: u32, width: u32) -> Result<Sheet, FormError> {
         Word::Head { side, aim, gap, width }.checked_encode()?;
-        Ok(Sheet { side, aim, gap, width, slots: Vec::new(), bounds: Vec::new(), sites: Vec::new() })
+        Ok(Sheet::of_head(side, aim, gap, width))
+    }
+
+    fn of_head(side: Side, aim: Aim, gap: u32, width: u32) -> Sheet {
+        Sheet { side, aim, gap, width, charge: None, slots: Vec::new(), bounds: Vec::new(), sites: Vec::new() }
+    }
+
+    /// Sets the charge, from 0 to 16,383, which each site off its backbone adds to the length; or takes its word away, which
+    /// is a charge of 0 too. A charge of 0 that is set has its word.
+    ///
+    /// ```
+    /// use backbone::{Aim, Sheet, Side};
+    /// let mut sheet = Sheet::new(Side::One, Aim::Shortest, 2, 8)?;
+    /// sheet.set_charge(Some(3))?;
+    /// assert_eq!(sheet.words(), [0x14008008, 0x50000003]);
+    /// sheet.set_charge(Some(0))?;
+    /// assert_eq!(sheet.words(), [0x14008008, 0x50000000]);
+    /// sheet.set_charge(None)?;
+    /// assert_eq!(sheet.words(), [0x14008008]);
+    /// assert!(sheet.set_charge(Some(16384)).is_err());
+    /// # Ok::<(), backbone::FormError>(())
+    /// ```
+    pub fn set_charge(&mut self, charge: Option<u32>) -> Result<(), FormError> {
+        if let Some(charge) = charge {
+            Word::Charge { charge }.checked_encode()?;
+        }
+        self.charge = charge;
+        Ok(())
     }
 
     /// Adds a slot, a height from 0 to 16,383 at which a backbone may lie. Slots are added from the top downwards.
@@ -87,6 +115,20 @@ impl Sheet {
         self.width
     }
 
+    /// The charge in the sheet's charge word; none where it has no such word, and the charge is 0.
+    pub fn charge(&self) -> Option<u32> {
+        self.charge
+    }
+
+    /// The share of the length of a site that lies so far from its backbone: its drop without the sign, and the charge if
+    /// that is not 0.
+    pub fn share(&self, drop: u32) -> u32 {
+        match drop {
+            0 => 0,
+            _ => drop + self.charge.unwrap_or(0),
+        }
+    }
+
     /// The heights of the slots.
     pub fn slots(&self) -> &[u32] {
         &self.slots
@@ -116,6 +158,7 @@ impl Sheet {
     pub fn words(&self) -> Vec<u32> {
         let Sheet { side, aim, gap, width, .. } = *self;
         let mut words = vec![Word::Head { side, aim, gap, width }.encode()];
+        words.extend(self.charge.map(|charge| Word::Charge { charge }.encode()));
         words.extend(self.slots.iter().map(|height| Word::Slot { height: *height }.encode()));
         for (colour, bound) in self.bounds.iter().enumerate() {
             words.push(Word::Colour { bound: bound.unwrap_or(UNBOUNDED) }.encode());
@@ -139,10 +182,10 @@ impl Sheet {
         let Some(Word::Head { side, aim, gap, width }) = words.first().and_then(|head| Word::decode(*head)) else {
             return Err(Refusal::NoHead);
         };
-        let (slots, bounds, sites) = (Vec::new(), Vec::new(), Vec::new());
-        let mut sheet = Sheet { side, aim, gap, width, slots, bounds, sites };
+        let mut sheet = Sheet::of_head(side, aim, gap, width);
         for word in &words[1..] {
             match Word::decode(*word) {
+                Some(Word::Charge { charge }) => sheet.charge = Some(charge),
                 Some(Word::Slot { height }) => sheet.slots.push(height),
                 Some(Word::Colour { bound }) => sheet.bounds.push((bound != UNBOUNDED).then_some(bound)),
                 Some(Word::Site { x, y }) => {

@@ -62,7 +62,8 @@ pub struct Strokes<'a> {
 }
 
 /// The strokes of a stored sheet, for a viewer to draw; or one of the refusals 1 to 7, 11 and 13. Backbones come first, by
-/// rising slot, then drops in sheet order. A site on its backbone has no drop; a backbone of no length is a stroke.
+/// rising slot, then drops in sheet order. A site on its backbone has no drop; a backbone of no length is a stroke. The
+/// lengths of all strokes, and the sheet's charge for each drop, add up to the length that the layout states.
 ///
 /// ```
 /// use backbone::{strokes, Refusal};

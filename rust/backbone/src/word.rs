@@ -18,12 +18,33 @@ pub enum Aim {
 /// One word of a sheet or of a layout, by its fields.
 #[derive(Clone, Copy, Debug, PartialEq, Eq)]
 pub enum Word {
-    Head { side: Side, aim: Aim, gap: u32, width: u32 },
-    Slot { height: u32 },
-    Colour { bound: u8 },
-    Site { x: u32, y: u32 },
-    Layout { labels: u32, length: u32 },
-    Tie { slot: u8 },
+    Head {
+        side: Side,
+        aim: Aim,
+        gap: u32,
+        width: u32,
+    },
+    /// What each site off its backbone adds to the length. It stands right after the head, or nowhere.
+    Charge {
+        charge: u32,
+    },
+    Slot {
+        height: u32,
+    },
+    Colour {
+        bound: u8,
+    },
+    Site {
+        x: u32,
+        y: u32,
+    },
+    Layout {
+        labels: u32,
+        length: u32,
+    },
+    Tie {
+        slot: u8,
+    },
 }
 
 const COORDINATE_BITS: u32 = 14;
@@ -58,6 +79,7 @@ pub(crate) mod range {
     pub type Range = (&'static str, u32, u32);
     pub const GAP: Range = ("gap", 1, 4095);
     pub const WIDTH: Range = ("width", 1, 16383);
+    pub const CHARGE: Range = ("charge", 0, crate::MOST_CHARGE);
     pub const HEIGHT: Range = ("height", 0, 16383);
     pub const X: Range = ("x", 0, 16383);
     pub const Y: Range = ("y", 0, 16383);
@@ -94,6 +116,7 @@ impl Word {
             2 => Word::Slot { height: right },
             3 => Word::Colour { bound: low as u8 },
             4 => Word::Site { x: left, y: right },
+            5 => Word::Charge { charge: right },
             8 => Word::Layout { labels: low >> LENGTH_BITS, length: low & 0x1F_FFFF },
             9 => Word::Tie { slot: low as u8 },
             _ => return None,
@@ -108,6 +131,7 @@ impl Word {
                 let flags = u32::from(side == Side::Two) << 27 | u32::from(aim == Aim::Shortest) << 26;
                 1 << 28 | flags | (gap & 0xFFF) << COORDINATE_BITS | width & 0x3FFF
             }
+            Word::Charge { charge } => 5 << 28 | charge & 0x3FFF,
             Word::Slot { height } => 2 << 28 | height & 0x3FFF,
             Word::Colour { bound } => 3 << 28 | u32::from(bound),
             Word::Site { x, y } => 4 << 28 | (x & 0x3FFF) << COORDINATE_BITS | y & 0x3FFF,
@@ -129,6 +153,9 @@ impl Word {
             Word::Head { gap, width, .. } => {
                 range::check(range::GAP, gap)?;
                 range::check(range::WIDTH, width)?;
+            }
+            Word::Charge { charge } => {
+                range::check(range::CHARGE, charge)?;
             }
             Word::Slot { height } => {
                 range::check(range::HEIGHT, height)?;

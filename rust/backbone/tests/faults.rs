@@ -30,11 +30,14 @@ fn parts(stored: &[u32]) -> (Sheet, Layout) {
 #[test]
 fn labels_have_the_true_numbers() {
     let mut random = Random::new(91);
+    let mut charged = 0;
     for _ in 0..20_000 {
         let Some((stored, _, numbers)) = any_stored(&mut random) else { continue };
         let (sheet, layout) = parts(&stored);
         assert_eq!(true_numbers(&labels(&sheet, &layout)), numbers);
+        charged += usize::from(sheet.charge().is_some_and(|charge| charge > 0));
     }
+    assert!(charged > 5_000, "{charged}");
 }
 
 #[test]

@@ -11,6 +11,7 @@ fn random_sheets_pass_through_the_builder() {
         let side = if sheet.two_sided { Side::Two } else { Side::One };
         let aim = if sheet.shortest { Aim::Shortest } else { Aim::Fewest };
         let mut built = Sheet::new(side, aim, sheet.gap, sheet.width).unwrap();
+        built.set_charge(sheet.charge).unwrap();
         for height in &sheet.slots {
             built.add_slot(*height).unwrap();
         }
@@ -20,7 +21,7 @@ fn random_sheets_pass_through_the_builder() {
         for site in &sheet.sites {
             built.add_site(site.colour, site.x, site.y).unwrap();
         }
-        assert_eq!(built.words(), sheet.words());
+        assert_eq!((built.words(), built.charge()), (sheet.words(), sheet.charge));
         assert_eq!(Sheet::from_words(&sheet.words()), Ok(built));
     }
 }
@@ -44,6 +45,9 @@ fn the_builder_refuses_what_the_form_cannot_hold() {
         assert!(Sheet::new(Side::One, Aim::Fewest, gap, width).is_err());
     }
     assert!(Sheet::new(Side::One, Aim::Fewest, 4095, 16383).is_ok());
+    let charge = FormError::OutOfRange { name: "charge", number: 16384, least: 0, most: 16383 };
+    assert_eq!(sheet().set_charge(Some(16384)), Err(charge));
+    assert!([None, Some(0), Some(16383)].into_iter().all(|charge| sheet().set_charge(charge).is_ok()));
     assert!(sheet().add_slot(16384).is_err());
     assert!(sheet().add_colour(Some(255)).is_err());
     assert_eq!(sheet().add_site(0, 1, 1), Err(FormError::NoSuchColour(0)));
@@ -57,6 +61,24 @@ fn the_builder_refuses_what_the_form_cannot_hold() {
     assert_eq!(full.add_colour(None), Err(FormError::TooMany { name: "colours", most: 8 }));
     assert_eq!(full.add_site(colour, 99, 0), Err(FormError::TooMany { name: "sites", most: 32 }));
     assert!(backbone::read(&full.words()).is_ok());
+}
+
+#[test]
+fn a_charge_that_is_refused_leaves_the_sheet() {
+    let mut sheet = Sheet::new(Side::One, Aim::Fewest, 1, 100).unwrap();
+    sheet.set_charge(Some(7)).unwrap();
+    assert!(sheet.set_charge(Some(u32::MAX)).is_err());
+    assert_eq!(sheet.charge(), Some(7));
+    assert_eq!([0, 1, 5].map(|drop| sheet.share(drop)), [0, 8, 12]);
+}
+
+#[test]
+fn charges_are_words() {
+    assert_eq!(Word::decode(0x50000003), Some(Word::Charge { charge: 3 }));
+    assert_eq!(Word::decode(0x50003FFF), Some(Word::Charge { charge: 16383 }));
+    assert!((14..28).all(|bit| Word::decode(0x50000003 | 1 << bit).is_none()));
+    assert!(Word::Charge { charge: 16384 }.checked_encode().is_err());
+    assert_eq!(Word::Charge { charge: 16385 }.encode(), 0x50000001, "what the field can't hold is cut off");
 }
 
 #[test]

@@ -7,7 +7,7 @@ use common::make_in_dirt;
 use model::maker;
 use model::random::{banded_sheet, Random};
 use model::rules;
-use model::sheet::Sheet;
+use model::sheet::{Sheet, MOST_CHARGE};
 
 /// Compares the library with the plain table, in dirty areas.
 fn compare(sheet: &Sheet, work_words: usize) {
@@ -27,6 +27,13 @@ fn compare(sheet: &Sheet, work_words: usize) {
 fn most_sites_and_slots() {
     compare(&banded_sheet(48, 32, &[255, 255], 4), 50 * 50 * 9 * 33);
     compare(&banded_sheet(48, 32, &[7], 5), 50 * 50 * 4 * 33 * 8);
+}
+
+#[test]
+fn the_greatest_charge() {
+    let charged = |sheet: Sheet| Sheet { charge: Some(MOST_CHARGE), ..sheet };
+    compare(&charged(banded_sheet(48, 32, &[255, 255], 4)), 50 * 50 * 9 * 33);
+    compare(&charged(banded_sheet(16, 16, &[1, 1, 1, 1, 1, 1, 255, 255], 6)), 18 * 18 * 81 * 17 * 64);
 }
 
 #[test]

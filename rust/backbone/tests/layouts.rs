@@ -5,7 +5,7 @@ mod common;
 use backbone::{judge, Refusal};
 use common::{make_in_enough, numbered};
 use model::random::{medium_sheet, small_sheet, Random};
-use model::sheet::{Sheet, UNBOUNDED};
+use model::sheet::{Sheet, MOST_CHARGE, UNBOUNDED};
 use model::{maker, rules, search};
 
 const SMALL_SHEETS: usize = 100_000;
@@ -44,6 +44,8 @@ struct Met {
     bound_shared: usize,
     equal_y: usize,
     site_on_slot: usize,
+    /// A charge word of 0, one of the greatest charge, and others.
+    charged: [usize; 3],
 }
 
 impl Met {
@@ -57,10 +59,13 @@ impl Met {
         self.equal_y += usize::from((0..sheet.sites.len()).any(level));
         self.bound_shared += usize::from(sheet.bounds.iter().enumerate().any(binds));
         self.site_on_slot += usize::from(sheet.sites.iter().any(|site| sheet.slots.contains(&site.y)));
+        if let Some(charge) = sheet.charge {
+            self.charged[[0, MOST_CHARGE].iter().position(|edge| *edge == charge).unwrap_or(2)] += 1;
+        }
     }
 
     fn least(&self) -> usize {
-        let counts = self.laid_out.into_iter().chain(self.no_layout);
+        let counts = self.laid_out.into_iter().chain(self.no_layout).chain(self.charged);
         counts.chain([self.bound_shared, self.equal_y, self.site_on_slot]).min().unwrap_or(0)
     }
 }

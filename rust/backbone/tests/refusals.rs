@@ -61,11 +61,32 @@ fn areas_without_words() {
 
 #[test]
 fn bad_word() {
-    for word in [0x10008008, 0x20004000, 0x30000100, 0x40000000, 0x50000000, 0x90000000, 0xF0000000, 0] {
+    for word in [0x10008008, 0x20004000, 0x30000100, 0x40000000, 0x60000000, 0x90000000, 0xF0000000, 0] {
         assert_eq!(refused_by_all(&[0x10008008, word]), Some(Refusal::BadWord), "{word:x}");
     }
     let late_slot = sheet(&[&[UNBOUNDED], &slots(1)]);
     assert_eq!(refused_by_all(&late_slot), Some(Refusal::BadWord));
+}
+
+/// A charge stands right after the head, once, in 14 bits; as the first word it is no head.
+#[test]
+fn charges() {
+    for charge in [0x50000000, 0x50000001, 0x50003FFF] {
+        assert_eq!(refused_by_all(&[0x10008008, charge]), None, "{charge:x}");
+        assert_eq!(refused_by_all(&sheet(&[&[charge], &slots(2), &[UNBOUNDED], &sites(2)])), None);
+        assert_eq!(refused_by_all(&[charge, 0x10008008]), Some(Refusal::NoHead));
+        assert_eq!(refused_by_all(&[charge]), Some(Refusal::NoHead));
+        for before in [&[charge][..], &slots(1), &[UNBOUNDED], &[UNBOUNDED, 0x40000000]] {
+            assert_eq!(refused_by_all(&sheet(&[before, &[charge]])), Some(Refusal::BadWord), "{before:x?}");
+        }
+    }
+    for spare in 14..28 {
+        assert_eq!(refused_by_all(&[0x10008008, 0x50000003 | 1 << spare]), Some(Refusal::BadWord), "bit {spare}");
+    }
+    // The lower refusals come first, and a charge is no slot, colour or site.
+    assert_eq!(refused_by_all(&[0x10008000, 0x5FFFFFFF]), Some(Refusal::NoHead));
+    assert_eq!(refused_by_all(&sheet(&[&[0x50000003], &slots(48)])), None);
+    assert_eq!(refused_by_all(&sheet(&[&[0x50000003], &slots(49)])), Some(Refusal::TooMany));
 }
 
 #[test]
@@ -180,6 +201,11 @@ fn bad_layout() {
     for layout in bad {
         assert_eq!(judged(layout), Err(Refusal::BadLayout), "{layout:x?}");
     }
+    assert_eq!(
+        judged(&[0x80400013, 0x50000003, 0x90000000, 0x90000000]),
+        Err(Refusal::BadLayout),
+        "a charge among ties"
+    );
     assert_eq!(judged(&[0x90000000]), Err(Refusal::BadWord), "a tie without a layout's first word");
     assert_eq!(judge(&[0x80400013]), Err(Refusal::NoHead));
 }

@@ -74,6 +74,16 @@ fn sheet_a_two_sided_by_hand() {
     assert_eq!(found[2..], all(&stored_a(0x10008008, &LAYOUT_A)).unwrap()[2..]);
 }
 
+/// A charge gives no stroke: those of sheet A with a charge of 5 are those of sheet A, and it states 3 times 5 more.
+#[test]
+fn a_charge_gives_no_stroke() {
+    let layout = [0x80400013 + 15, 0x90000000, 0x90000000, 0x90000002];
+    let charged = [&SHEET_A[..1], &[0x50000005], &SHEET_A[1..], &layout].concat();
+    assert_eq!(all(&charged), all(&stored_a(0x10008008, &LAYOUT_A)));
+    let uncharged = [&SHEET_A[..1], &[0x50000005], &SHEET_A[1..], &LAYOUT_A].concat();
+    assert_eq!(strokes(&uncharged).err(), Some(Refusal::Unlawful));
+}
+
 /// A drop of zero gives none, a backbone of no length gives one, and the head alone has none at all.
 #[test]
 fn strokes_of_no_length() {
@@ -204,7 +214,7 @@ fn total_length(found: &[Stroke], width: u32) -> u32 {
 #[test]
 fn lists_keep_their_promises() {
     let mut random = Random::new(341);
-    let (mut lawful, mut on_backbone) = ([0; 2], 0);
+    let (mut lawful, mut on_backbone, mut charged) = ([0; 2], 0, 0);
     for _ in 0..SHEETS / 2 {
         let stored = any_sort(&mut random);
         let Ok((sheet, slot_of)) = rules::lawful(&stored) else { continue };
@@ -213,12 +223,16 @@ fn lists_keep_their_promises() {
         let backbones = found.iter().take_while(|stroke| matches!(stroke, Stroke::Bone { .. })).count();
         let off = sheet.sites.iter().zip(&slot_of).filter(|(site, slot)| site.y != sheet.slots[**slot]).count();
         assert_eq!((backbones, found.len() - backbones), (labels as usize, off), "{stored:x?}");
-        assert_eq!(total_length(&found, sheet.width), length, "{stored:x?}");
+        // The second word of a sheet with a charge has it.
+        let charge = if stored[1] >> 28 == 5 { stored[1] & 0x3FFF } else { 0 };
+        assert_eq!(total_length(&found, sheet.width) + charge * off as u32, length, "{stored:x?}");
         let heights: Vec<u32> = found[..backbones].iter().map(|stroke| stroke.ends()[0].units().1).collect();
         assert!(heights.windows(2).all(|pair| pair[0] < pair[1]), "{stored:x?}");
         lawful[usize::from(sheet.two_sided)] += 1;
         on_backbone += sheet.sites.len() - off;
+        charged += usize::from(charge > 0 && off > 0);
     }
+    assert!(charged > 1_000, "{charged}");
     assert!(lawful.iter().all(|count| *count > 1_000) && on_backbone > 1_000, "{lawful:?} {on_backbone}");
 }
 

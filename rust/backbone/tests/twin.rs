@@ -51,6 +51,20 @@ fn areas_of_a_twin() {
     assert_eq!(twin_words(&[]), Err(Refusal::NoHead));
 }
 
+/// The charge word stays, one of 0 too; the twin's length has a charge for each of the three drops.
+#[test]
+fn a_charge_stays() {
+    for charge in [0, 1, 16383] {
+        let word = 0x50000000 | charge;
+        let layout = |length: u32| [0x80400000 | length + 3 * charge, 0x90000000, 0x90000000, 0x90000002];
+        let stored = [&[0x18008008, word], &SHEET_A[1..], &layout(25)].concat();
+        let expected = [&[0x10008008, word], &SHEET_A[1..], &layout(19)].concat();
+        assert_eq!(twin_in_dirt(&stored, 14, &mut Random::new(325)).as_ref(), Ok(&expected), "{charge}");
+        assert_eq!(twin_in_dirt(&stored, 13, &mut Random::new(326)), Err(Refusal::AnswerTooShort));
+        assert_eq!(Stored::from_words(&stored).map(|stored| stored.sheet.charge()), Ok(Some(charge)));
+    }
+}
+
 /// 13 comes before 9, on a sheet of either side.
 #[test]
 fn an_unlawful_layout_has_no_twin() {

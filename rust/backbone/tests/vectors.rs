@@ -1,5 +1,5 @@
-//! Every line of vectors.txt through the library, in areas that hold something before. The lines of the program run
-//! beside the program: see `program`.
+//! Every line of vectors.txt through the library, in areas that hold something before, and through the plain model, which
+//! the random tests hold the library to. The lines of the program run beside the program: see `program`.
 
 mod common;
 
@@ -7,6 +7,7 @@ use backbone::{judge, read, stroke_at, Refusal, Rule};
 use common::vectors::{cases, shown, Case};
 use common::{make_in_dirt, twin_in_dirt};
 use model::random::Random;
+use model::{maker, program, rules, strokes, twin};
 use std::collections::BTreeMap;
 
 /// A result in the words of the file.
@@ -44,15 +45,83 @@ fn answer(case: &Case, random: &mut Random) -> Option<String> {
     })
 }
 
-#[test]
-fn every_line_is_answered() {
-    let mut random = Random::new(310);
+/// Holds each line to an answer, where there is one; so many operations have some.
+fn hold(operations: usize, mut answer: impl FnMut(&Case) -> Option<String>) {
     let mut met = BTreeMap::new();
     for case in cases() {
-        if let Some(answer) = answer(&case, &mut random) {
+        if let Some(answer) = answer(&case) {
             assert_eq!(answer, case.answer, "line {}", case.line);
             *met.entry(case.operation).or_insert(0) += 1;
         }
     }
-    assert!(met.len() == 5 && met.values().all(|lines| *lines > 100), "{met:?}");
+    assert!(met.len() == operations && met.values().all(|lines| *lines > 100), "{met:?}");
+}
+
+#[test]
+fn every_line_is_answered() {
+    let mut random = Random::new(310);
+    hold(5, |case| answer(case, &mut random));
+}
+
+fn plain_sizes(words: &[u32]) -> String {
+    let sizes = model::sheet::sizes(words);
+    if sizes.refusal != 0 {
+        return format!("refused {}", sizes.refusal);
+    }
+    let mut numbers: Vec<u32> = [sizes.sites, sizes.slots, sizes.colours, sizes.budgets].map(u32::from).to_vec();
+    numbers.push(sizes.work);
+    numbers.extend(sizes.each_colour.iter().flat_map(|(bound, sites)| [*bound, *sites].map(u32::from)));
+    numbers.iter().map(u32::to_string).collect::<Vec<_>>().join(" ")
+}
+
+/// What an area holds from its start, or the refusal.
+fn written(refusal: u32, words: &[u32]) -> String {
+    if refusal == 0 {
+        shown(words)
+    } else {
+        format!("refused {refusal}")
+    }
+}
+
+/// What the program prints for these words, as a line of the file has it.
+fn printed(words: &[u32]) -> String {
+    let bytes: Vec<u8> = words.iter().flat_map(|word| word.to_le_bytes()).collect();
+    program::prints(&bytes).trim_end_matches('\n').replace('\n', "/")
+}
+
+/// What the plain model answers to a line.
+fn plain_answer(case: &Case) -> Option<String> {
+    let words = &case.words[..];
+    Some(match (case.operation, &case.numbers[..]) {
+        ("read", []) => plain_sizes(words),
+        ("make", [work, answer]) => {
+            let mut area = vec![0; *answer];
+            let refusal = maker::make(words, &mut vec![0; *work], &mut area);
+            area.truncate(usize::from(model::sheet::sizes(words).sites) + 1);
+            written(refusal, &area)
+        }
+        ("judge", []) => match rules::judge(words) {
+            (0, rule) => rule.to_string(),
+            (refusal, _) => written(u32::from(refusal), &[]),
+        },
+        ("twin", [area]) => {
+            let mut area = vec![0; *area];
+            let (refusal, count) = twin::twin(words, &mut area);
+            written(u32::from(refusal), &area[..count])
+        }
+        ("stroke", [place]) => match strokes::stroke_at(words, *place) {
+            Ok(stroke) => {
+                let kind = if stroke.is_drop { "drop" } else { "bone" };
+                format!("{kind} {}", shown(&stroke.ends.map(f32::to_bits)))
+            }
+            Err(refusal) => written(u32::from(refusal), &[]),
+        },
+        ("program", []) => printed(words),
+        _ => return None,
+    })
+}
+
+#[test]
+fn the_plain_model_answers_every_line() {
+    hold(6, plain_answer);
 }

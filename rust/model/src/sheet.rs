@@ -65,7 +65,7 @@ impl Sheet {
     pub fn share(&self, drop: u32) -> u32 {
         match drop {
             0 => 0,
-            drop => drop + self.charge.unwrap_or(0),
+            _ => drop + self.charge.unwrap_or(0),
         }
     }
 
