@@ -12,7 +12,8 @@
 //! }
 //! ```
 //!
-//! A bound of null, or none, is "unbounded"; names may be left out. `"refused": 10` in place of the layout says that
+//! A charge word is `"charge": 3` after the width. A bound of null, or none, is "unbounded"; names may be left out.
+//! `"refused": 10` in place of the layout says that
 //! its writer found none. A list of words that is not in the order of a stored sheet is `{"words": ["0x20000005", ..]}`,
 //! with `"names": {"colours": [..], "sites": [..]}` where there are any.
 
@@ -50,10 +51,12 @@ fn show_sheet(record: &Record) -> Option<Vec<String>> {
     let (Word::Head { side, aim, gap, width }, rest) = words.split_first()? else { return None };
     let side = if *side == Side::Two { "two-sided" } else { "one-sided" };
     let aim = if *aim == Aim::Shortest { "shortest" } else { "fewest" };
+    let (charge, rest) = split_charge(rest);
+    let charge = charge.map_or_else(String::new, |charge| format!(", \"charge\": {charge}"));
     let (slots, rest) = split(rest, |word| matches!(word, Word::Slot { .. }));
     let (colours, rest) = split(rest, |word| matches!(word, Word::Colour { .. } | Word::Site { .. }));
     let mut parts = vec![
-        format!("\"side\": \"{side}\", \"aim\": \"{aim}\", \"gap\": {gap}, \"width\": {width}"),
+        format!("\"side\": \"{side}\", \"aim\": \"{aim}\", \"gap\": {gap}, \"width\": {width}{charge}"),
         format!("\"slots\": [{}]", numbers(slots)),
         format!("\"colours\": [{}]", show_colours(colours, &record.names)?),
     ];
@@ -64,6 +67,14 @@ fn show_sheet(record: &Record) -> Option<Vec<String>> {
         return rest.is_empty().then_some(parts);
     }
     rest.is_empty().then_some(parts)
+}
+
+/// The charge that stands at the front, and the words from there on.
+fn split_charge(words: &[Word]) -> (Option<u32>, &[Word]) {
+    match words.split_first() {
+        Some((Word::Charge { charge }, rest)) => (Some(*charge), rest),
+        _ => (None, words),
+    }
 }
 
 /// The words up to the first that is of another kind, and those from there on.
@@ -124,7 +135,7 @@ pub fn parse_json(text: &str) -> Result<Record, TextError> {
         only(&json, &["words", "names", "refused"])?;
         parse_words(&json, &mut record)?;
     } else {
-        only(&json, &["side", "aim", "gap", "width", "slots", "colours", "layout", "refused"])?;
+        only(&json, &["side", "aim", "gap", "width", "charge", "slots", "colours", "layout", "refused"])?;
         parse_sheet(&json, &mut record)?;
     }
     if let Some(claim) = json.member("refused") {
@@ -220,6 +231,10 @@ fn parse_sheet(json: &Json, record: &mut Record) -> Result<(), TextError> {
     let gap = number(wanted(json, "gap")?, "gap", |gap| head(gap, 1))?;
     let width = number(wanted(json, "width")?, "width", |width| head(1, width))?;
     record.push(head(gap, width).encode(), None);
+    if let Some(charge) = json.member("charge") {
+        let charge = number(charge, "charge", |charge| Word::Charge { charge })?;
+        record.push(Word::Charge { charge }.encode(), None);
+    }
     for slot in items(json, "slots")? {
         let height = number(slot, "height", |height| Word::Slot { height })?;
         record.push(Word::Slot { height }.encode(), None);

@@ -2,11 +2,12 @@
 //!
 //! ```text
 //! head one-sided fewest gap 2 width 8
+//! charge 3
 //! slot 5
 //! colour unbounded "screws"
 //! site 6 4 "front weight"
 //! colour bound 2
-//! layout labels 1 length 3
+//! layout labels 1 length 6
 //! tie 0
 //! ```
 //!

@@ -10,10 +10,11 @@ pub const CLAIM: &str = "refused 10\n";
 /// The text of a list of words.
 ///
 /// ```
-/// assert_eq!(sheet::show(&[0x10008008, 0x20000005, 0x50000000]), "\
+/// assert_eq!(sheet::show(&[0x10008008, 0x50000003, 0x20000005, 0x60000000]), "\
 /// head one-sided fewest gap 2 width 8
+/// charge 3
 /// slot 5
-/// 0x50000000
+/// 0x60000000
 /// ");
 /// ```
 pub fn show(words: &[u32]) -> String {
@@ -53,6 +54,7 @@ fn show_word(word: u32) -> String {
             let aim = if aim == Aim::Shortest { "shortest" } else { "fewest" };
             format!("head {side} {aim} gap {gap} width {width}")
         }
+        Some(Word::Charge { charge }) => format!("charge {charge}"),
         Some(Word::Slot { height }) => format!("slot {height}"),
         Some(Word::Colour { bound: 255 }) => "colour unbounded".to_string(),
         Some(Word::Colour { bound }) => format!("colour bound {bound}"),
@@ -100,7 +102,7 @@ pub fn parse(text: &str) -> Result<Record, TextError> {
 }
 
 fn parse_line(tokens: &mut Tokens, record: &mut Record) -> Result<(), TextError> {
-    const NAMES: &str = "a line begins with head, slot, colour, site, layout, tie, refused or 0x";
+    const NAMES: &str = "a line begins with head, charge, slot, colour, site, layout, tie, refused or 0x";
     let (column, name) = tokens.next(NAMES)?;
     if record.claims_no_layout {
         return Err(tokens.error(column, "nothing follows the line 'refused 10'".to_string()));
@@ -112,6 +114,7 @@ fn parse_line(tokens: &mut Tokens, record: &mut Record) -> Result<(), TextError>
             gap: tokens.named_number("gap", |gap| head(gap, 1))?,
             width: tokens.named_number("width", |width| head(1, width))?,
         },
+        "charge" => Word::Charge { charge: tokens.number("charge", |charge| Word::Charge { charge })? },
         "slot" => Word::Slot { height: tokens.number("height", |height| Word::Slot { height })? },
         "colour" => parse_colour(tokens)?,
         "site" => Word::Site {

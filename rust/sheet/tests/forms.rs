@@ -153,6 +153,34 @@ fn json_of_sheet_a() {
     assert_eq!(record.names.colours, [None, None]);
 }
 
+/// A charge word is a member after the width, one of 0 too; without the word there is no member. Where the word is out of
+/// its place, the list is shown as words.
+#[test]
+fn json_of_charges() {
+    let rest = [0x20000002, 0x300000FF, 0x40008004];
+    let shown = |words: &[u32]| sheet::show_json(&Record::of_words(words.to_vec()));
+    for (word, member) in [(0x50000000, ", \"charge\": 0,\n"), (0x50003FFF, ", \"charge\": 16383,\n")] {
+        let words = [&[0x10008008, word], &rest[..]].concat();
+        assert!(shown(&words).contains(&format!("\"width\": 8{member}")), "{}", shown(&words));
+        assert_eq!(parse_json(&shown(&words)).map(|record| record.words), Ok(words));
+    }
+    assert!(!shown(&[&[0x10008008], &rest[..]].concat()).contains("charge"));
+    let out_of_place: [&[u32]; 5] = [
+        &[0x10008008, 0x50000003, 0x50000003],
+        &[0x10008008, 0x20000002, 0x50000003],
+        &[0x10008008, 0x50004003],
+        &[0x10008008, 0x300000FF, 0x50000003, 0x40008004],
+        &[0x50000003, 0x10008008],
+    ];
+    for words in out_of_place {
+        assert!(shown(words).starts_with("{\n  \"words\": ["), "{}", shown(words));
+        for form in FORMS {
+            let record = Record::of_words(words.to_vec());
+            assert_eq!(read_as(form, &write(&record, form).unwrap()), Ok(record), "{form:?}");
+        }
+    }
+}
+
 #[test]
 fn errors_in_json_say_where_they_are() {
     let at = |text: &str| parse_json(text).map_err(|error| (error.line, error.column));
@@ -167,6 +195,10 @@ fn errors_in_json_say_where_they_are() {
     assert_eq!(at(&(head.replace("\"slots\": []", "\n\"slots\": [2.5]") + "}")), Err((2, 11)));
     assert_eq!(at(&(head.replace("\"slots\": []", "\n\"slots\": [-1]") + "}")), Err((2, 11)));
     assert_eq!(at(&(head.replace("\"slots\"", "\n\"slot\"") + "}")), Err((2, 9)));
+    for charge in ["16384", "-1", "2.5", "null", "\"3\""] {
+        assert_eq!(at(&format!("{head},\n\"charge\": {charge}}}")), Err((2, 11)), "{charge}");
+    }
+    assert!(at(&format!("{head}, \"charge\": 0}}")).is_ok());
     assert_eq!(at(&format!("{head},\n\"gap\": 3}}")), Err((2, 1)), "twice");
     assert_eq!(at(&format!("{head},\n\"refused\": 9}}")), Err((2, 12)));
     assert_eq!(at(&format!("{head}}}\nx")), Err((2, 1)));

@@ -37,15 +37,21 @@ fn stored_sheets_survive_the_text() {
 fn names_of_all_words() {
     let text = "\
 head two-sided shortest gap 4095 width 16383
+charge 16383
 slot 0
 colour bound 2
 site 6 4
 colour unbounded
 layout labels 2 length 19
 tie 47
-0x50000001
+charge 0
+0x50004000
+0x60000001
 ";
-    let words = [0x1FFFFFFF, 0x20000000, 0x30000002, 0x40018004, 0x300000FF, 0x80400013, 0x9000002F, 0x50000001];
+    let words = [
+        0x1FFFFFFF, 0x50003FFF, 0x20000000, 0x30000002, 0x40018004, 0x300000FF, 0x80400013, 0x9000002F, 0x50000000,
+        0x50004000, 0x60000001,
+    ];
     assert_eq!(encode(text).as_deref(), Ok(&words[..]));
     assert_eq!(show(&words), text);
 }
@@ -60,6 +66,10 @@ fn blanks_and_remarks_are_left_out() {
 fn errors_say_where_they_are() {
     let at = |text: &str| encode(text).map_err(|error| (error.line, error.column));
     assert_eq!(at("slot 5\n\nslto 5"), Err((3, 1)));
+    assert_eq!(at("charge"), Err((1, 7)));
+    assert_eq!(at("charge 16384"), Err((1, 8)));
+    assert_eq!(at("charge -1"), Err((1, 8)));
+    assert_eq!(at("charge 5 \"name\""), Err((1, 10)));
     assert_eq!(at("slot"), Err((1, 5)));
     assert_eq!(at("slot  # none"), Err((1, 5)));
     assert_eq!(at("slot 16384"), Err((1, 6)));
@@ -86,6 +96,7 @@ fn errors_say_where_they_are() {
 fn errors_say_what_is_wrong() {
     let message = |text: &str| encode(text).unwrap_err().to_string();
     assert_eq!(message("slot 20000"), "line 1, column 6: height must be from 0 to 16383, not '20000'");
+    assert_eq!(message("charge 16384"), "line 1, column 8: charge must be from 0 to 16383, not '16384'");
     assert_eq!(message("head both fewest"), "line 1, column 6: one-sided or two-sided should stand here, not 'both'");
     assert_eq!(message("site 4"), "line 1, column 7: y is missing");
 }
