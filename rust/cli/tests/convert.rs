@@ -16,7 +16,7 @@ fn convert(to: &str, input: &[u8]) -> Vec<u8> {
 
 #[test]
 fn every_form_to_every_form() {
-    let stored = SHEET_A.to_string() + "layout labels 2 length 19\ntie 0\ntie 0\ntie 2\n0x50000000\n";
+    let stored = SHEET_A.to_string() + "layout labels 2 length 19\ntie 0\ntie 0\ntie 2\n0x60000000\n";
     let refused = "0x20000005\nslot 5\n".to_string();
     for text in [SHEET_A.to_string(), stored, refused, String::new()] {
         let record = Record::of_words(sheet::encode(&text).unwrap());

@@ -74,6 +74,7 @@ fn texts_with_errors_are_3_with_line_and_column() {
     let cases: &[(&[u8], &str)] = &[
         (b"head one-sided fewest gap 2 width 8\nslot five\n", "line 2, column 6"),
         (b"head one-sided fewest gap 0 width 8\n", "line 1, column 27"),
+        (b"head one-sided fewest gap 2 width 8\ncharge 16384\n", "line 2, column 8"),
         (b"slot 5\nrefused 9\n", "line 2, column 9"),
         (b"hello\n", "line 1, column 1"),
         (b"0x123456789\n", "line 1, column 1"),

@@ -60,7 +60,10 @@ fn facts(plan: &Plan) -> String {
     let side = if plan.sheet.side == Side::Two { "two-sided" } else { "one-sided" };
     let aim = if plan.sheet.aim == Aim::Shortest { "shortest" } else { "fewest" };
     let length = |name: &str, units: u32| format!("{name} {units} ({})", millimetres(units));
-    format!("{side}, {aim}, {}, {}", length("gap", plan.sheet.gap()), length("width", plan.sheet.width()))
+    let charge = plan.sheet.charge().map(|charge| length("charge", charge));
+    let lengths = [length("gap", plan.sheet.gap()), length("width", plan.sheet.width())];
+    let facts = [side.to_string(), aim.to_string()].into_iter().chain(lengths).chain(charge);
+    facts.collect::<Vec<_>>().join(", ")
 }
 
 /// The broken rule, and what is wrong.

@@ -35,9 +35,14 @@ fn thickness(pixels: f64, unit: f64) -> String {
 fn title(plan: &Plan, label: &Label, names: &Names) -> String {
     let name = names.colour(label.colour).map_or_else(|| format!("colour {}", label.colour), str::to_string);
     let backbone = plan.sheet.width() - label.left_end;
-    let drops = label.length - backbone;
+    let heights = label.sites.iter().map(|site| plan.sheet.sites()[*site].y);
+    let drops: u32 = heights.map(|y| y.abs_diff(label.height)).sum();
+    let charges = match plan.sheet.charge() {
+        None => String::new(),
+        Some(_) => format!(", charges {}", label.length - backbone - drops),
+    };
     format!(
-        "{name}, slot {}: {}; backbone {backbone}, drops {drops}, length {}",
+        "{name}, slot {}: {}; backbone {backbone}, drops {drops}{charges}, length {}",
         label.slot,
         listed_sites(&label.sites),
         label.length

@@ -262,6 +262,26 @@ fn each_label_has_its_length() {
     assert!(drawn.contains(">labels 2, length 19 (0.838 mm)<"));
 }
 
+/// The example by hand: backbones of 720 and 660; four drops of the rivets, 218 together, and one of the pins, 22; 24 for each.
+#[test]
+fn a_charge_is_told_and_counted() {
+    let drawn = example_picture("charge");
+    assert!(drawn.contains(">one-sided, fewest, gap 30 (1.32 mm), width 800 (35.3 mm), charge 24 (1.06 mm)<"));
+    assert!(drawn.contains(">labels 2, length 1740 (76.7 mm)<"));
+    assert!(drawn.contains(">slot 0, length 1034<") && drawn.contains(">slot 2, length 706<"));
+    assert!(drawn.contains("; backbone 720, drops 218, charges 96, length 1034<"));
+    assert!(drawn.contains("; backbone 660, drops 22, charges 24, length 706<"));
+    let plain = example_picture("uncharged");
+    assert!(plain.contains("; backbone 720, drops 178, length 898<") && !plain.contains("charge"));
+    let of_0 = std::fs::read_to_string(folder().join("a.txt")).unwrap().replacen("slot", "charge 0\nslot", 1);
+    let (sheet, layout) = sheet_and_layout(&sheet::encode(&of_0).unwrap()).unwrap();
+    let drawn = picture(&sheet, layout.as_ref(), &Options::default()).unwrap();
+    assert!(
+        drawn.contains(", charge 0 (") && drawn.contains(", charges 0, length 12<"),
+        "a charge of 0 that has its word"
+    );
+}
+
 #[test]
 fn broken_rules_say_what_is_wrong_in_red() {
     const RED: &str = "#d4001a";

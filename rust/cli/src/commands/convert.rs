@@ -19,15 +19,16 @@ Text (--to text) is UTF-8, one line a word; blank lines and what follows a # are
 colour or a site, in quotes; \\\", \\\\, \\n, \\r, \\t and \\u{..} stand for characters. Names are no part of the words.
 
     head one-sided fewest gap 2 width 8
+    charge 3
     slot 2
     colour bound 3 \"screws\"
     site 2 4 \"front weight\"
     colour unbounded
-    layout labels 1 length 8
+    layout labels 1 length 11
     tie 0
 
-In place of the layout may stand the line 'refused 10': the sheet's writer found no layout. Words without a line of
-their own are numbers, 0x50000000.
+The charge may be left out, which is a charge of 0; a line 'charge 0' is kept. In place of the layout may stand the line
+'refused 10': the sheet's writer found no layout. Words without a line of their own are numbers, 0x60000000.
 
 Hexadecimal words (--to words) are numbers as 0x20000002, one a line; they may also share a line, with blanks or commas
 between them. 'refused 10' is a line of its own here too.
@@ -35,12 +36,12 @@ between them. 'refused 10' is a line of its own here too.
 Words in bytes (--to bin) are four bytes each, the lowest first, as the program reads them. They have no place for
 'refused 10', so a sheet with it can't be converted (exit 3), and none for names.
 
-JSON (--to json) is an object. A bound of null is unbounded; names, layout and refused may be left out, and refused
-stands in the layout's place. A list of words that is not in a stored sheet's order is {\"words\": [\"0x50000000\"]}.
+JSON (--to json) is an object. A bound of null is unbounded; charge, names, layout and refused may be left out, and refused
+stands in the layout's place. A list of words that is not in a stored sheet's order is {\"words\": [\"0x60000000\"]}.
 
-    {\"side\": \"one-sided\", \"aim\": \"fewest\", \"gap\": 2, \"width\": 8, \"slots\": [2],
+    {\"side\": \"one-sided\", \"aim\": \"fewest\", \"gap\": 2, \"width\": 8, \"charge\": 3, \"slots\": [2],
      \"colours\": [{\"bound\": 3, \"name\": \"screws\", \"sites\": [{\"x\": 2, \"y\": 4, \"name\": \"front weight\"}]}],
-     \"layout\": {\"labels\": 1, \"length\": 8, \"slots\": [0]}}",
+     \"layout\": {\"labels\": 1, \"length\": 11, \"slots\": [0]}}",
     settings: &[Setting { name: "--to", value: "FORM", about: "text, words, bin or json" }],
     exits: &[(Exit::Done, "converted")],
     run,

@@ -8,7 +8,7 @@ use crate::output::{message, write_file, Output};
 use crate::progress::Progress;
 use crate::shard::{self, Shard};
 use crate::subcommand::Subcommand;
-use backbone::Layout;
+use backbone::{Layout, MOST_CHARGE};
 use model::nested::MOST_DEPTH;
 use model::rounding::Rounding;
 use model::sheet::Sheet;
@@ -30,14 +30,17 @@ With --round 0.1mm or 0.1pt only sheets are kept on which an engine that rounds 
 layout; that layout stands in FOLDER/rounded under the same name. Where the manifest's sum_of_rounded is below
 sum_of_best, every such engine errs; where they are equal, one that takes the lowest slots of its equals.
 
-One seed gives one corpus, and each of its sheets depends on the seed, the depth, the aim, the step and its number alone:
-shares made with --shard are together the corpus made without.",
+With --charge every sheet has that charge, and its best layout and all lengths are those with it.
+
+One seed gives one corpus, and each of its sheets depends on the seed, the depth, the aim, the step, the charge and its
+number alone: shares made with --shard are together the corpus made without.",
     settings: &[
         Setting { name: "--depth", value: "A..B", about: "the depths, from 1 to 12; one number for one depth" },
         Setting { name: "--count", value: "N", about: "sheets of each depth; 100 where it is not given" },
         Setting { name: "--seed", value: "S", about: "a whole number; 1 where it is not given" },
         Setting { name: "--round", value: "STEP", about: "none (where it is not given), 0.1mm or 0.1pt" },
         Setting { name: "--aim", value: "AIM", about: "fewest or shortest; by turns where it is not given" },
+        Setting { name: "--charge", value: "N", about: "from 0 to 16383; no charge word where it is not given" },
         Setting { name: "--out", value: "FOLDER", about: "where to write; it is made where it is missing" },
         shard::SETTING,
     ],
@@ -53,6 +56,7 @@ struct Plan {
     rounding: Rounding,
     /// By turns where it is none.
     shortest: Option<bool>,
+    charge: Option<u32>,
     folder: PathBuf,
     shard: Shard,
 }
@@ -97,6 +101,8 @@ impl Plan {
                 true => Some(arguments.choice("--aim", &[("fewest", false), ("shortest", true)])?),
                 false => None,
             },
+            // It fits: the greatest charge has 14 bits.
+            charge: arguments.number("--charge", 0, u64::from(MOST_CHARGE))?.map(|charge| charge as u32),
             folder: arguments.path("--out").ok_or_else(|| missing("--out"))?,
             shard: Shard::of(arguments)?,
         })
@@ -125,7 +131,7 @@ impl Plan {
         for number in (0..self.count).filter(|number| self.shard.has(first + number)) {
             // The aims take turns, and each counts its own sheets.
             let shortest = self.shortest.unwrap_or(number % 2 == 0);
-            let wanted = Wanted { depth, shortest, rounding: self.rounding };
+            let wanted = Wanted { depth, shortest, charge: self.charge, rounding: self.rounding };
             let Some(entry) = find(wanted, self.seed, number, &mut maker)? else {
                 message(&self.not_found(wanted, number));
                 return Ok(false);
@@ -138,10 +144,10 @@ impl Plan {
 
     fn not_found(&self, wanted: Wanted, number: u64) -> String {
         let aim = if wanted.shortest { "shortest" } else { "fewest" };
-        let kind = match wanted.rounding {
-            Rounding::None => String::new(),
-            rounding => format!(" on which rounding to {} errs", rounding.name()),
-        };
+        let mut kind = wanted.charge.map_or_else(String::new, |charge| format!(" with charge {charge}"));
+        if wanted.rounding != Rounding::None {
+            kind += &format!(" on which rounding to {} errs", wanted.rounding.name());
+        }
         format!(
             "depth {}: {number} of {} sheets; no {aim} sheet of this depth{kind} was found in {MOST_TRIES} tries",
             wanted.depth, self.count

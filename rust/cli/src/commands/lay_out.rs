@@ -16,7 +16,8 @@ pub const SUBCOMMAND: Subcommand = Subcommand {
     text: "\
 Lays out the sheet in FILE, or on standard input for -, with the proved maker. Of a stored sheet the sheet is laid out
 anew. The form of the input, text, hexadecimal words, words in bytes or JSON, is told by what it holds. Prints the
-number of labels and the length, then each site's number, colour and slot:
+number of labels and the length, to which each site off its backbone adds the sheet's charge if it has one, then each
+site's number, colour and slot:
 
     labels 2 length 19
     site 0 colour 0 slot 0

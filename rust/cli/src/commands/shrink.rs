@@ -19,8 +19,9 @@ pub const SUBCOMMAND: Subcommand = Subcommand {
     text: "\
 Lays FILE's sheet out with an engine and checks the answer, as `backbone check --engine` does. Where the engine is at
 fault, the sheet is made smaller as long as the engine has the same finding, by the same rule if a rule is broken: fewest
-sites, then slots, then colours, then the smallest numbers. What comes out is smallest in this sense: no site, slot or colour can be left out, no two colours
-can be made one, no number can be lowered and nothing moved closer, each by itself, without the finding going.
+sites, then slots, then colours, then no charge, then the smallest numbers. What comes out is smallest in this sense: no
+site, slot or colour and not the charge can be left out, no two colours can be made one, no number can be lowered and
+nothing moved closer, each by itself, without the finding going.
 
 The sheet is written as the engine answered it, a stored sheet, with the finding in a comment: `backbone check` tells the
 finding of it, and `backbone draw` shows it.

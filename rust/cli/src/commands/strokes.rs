@@ -24,7 +24,8 @@ top, both in printer's points. A point is eight units, so every number is exact 
     drop 0.5 0.625 0.5 1
 
 Backbones come first, by rising slot, each from its left end to the right edge; then drops in sheet order, each from its
-site to its backbone. A site on its backbone has no drop; a backbone of no length is a stroke.
+site to its backbone. A site on its backbone has no drop; a backbone of no length is a stroke. The lengths of all strokes,
+and the sheet's charge for each drop, add up to the length that the layout states.
 
 JSON (--format json) is an object:
 

@@ -21,11 +21,11 @@ pub const SUBCOMMAND: Subcommand = Subcommand {
     text: "\
 For a sheet without a layout (refusal 10): a smallest set of sites for which there is still none, so that leaving out any
 one of them gives a layout; and what would help: the largest gap that has a layout, bounds that are raised, heights at
-which one more slot gives a layout. Each claim is a call of the proved maker, not a guess.
+which one more slot gives a layout. Each claim is a call of the proved maker, not a guess. A charge plays no part: it
+alters lengths alone.
 
 For the other refusals of a sheet, that of a two-sided sheet (18) among them: the words, slots, colours or sites that they
-come from. The layout of a stored sheet is
-left aside; `backbone check` judges it.",
+come from. The layout of a stored sheet is left aside; `backbone check` judges it.",
     settings: &[Setting { name: "-o", value: "OUT.svg", about: "draw the sheet with the set of sites marked" }],
     exits: &[(Exit::Done, "the sheet has a layout"), (Exit::Found, "the sheet is refused")],
     run,

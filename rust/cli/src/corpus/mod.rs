@@ -33,6 +33,8 @@ fn tries_for_sure(rounding: Rounding) -> u32 {
 pub struct Wanted {
     pub depth: u32,
     pub shortest: bool,
+    /// None: without a charge word.
+    pub charge: Option<u32>,
     /// With a step: only sheets on which the rival that rounds to it takes a worse layout.
     pub rounding: Rounding,
 }
@@ -71,7 +73,8 @@ pub fn find(wanted: Wanted, seed: u64, number: u64, maker: &mut Maker) -> Result
     let mut tries_left = MOST_TRIES;
     while tries_left > 0 {
         tries_left -= 1;
-        let sheet = nested::sheet(wanted.depth, wanted.shortest, &mut random);
+        let drawn = nested::sheet(wanted.depth, wanted.shortest, &mut random);
+        let sheet = Sheet { charge: wanted.charge, ..drawn };
         let Some(entry) = entry(sheet, wanted, maker)? else { continue };
         if entry.rival.as_ref().is_none_or(Rival::is_sure) {
             found = Some(entry);

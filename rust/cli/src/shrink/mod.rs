@@ -1,4 +1,5 @@
-//! The smallest sheet that keeps a property: fewest sites, then slots, then colours, then the smallest numbers.
+//! The smallest sheet that keeps a property: fewest sites, then slots, then colours, then no charge word, then the smallest
+//! numbers.
 //!
 //! A sheet is made smaller step by step as long as it keeps the property; each step that a list of candidates offers is
 //! tried, and the first that keeps it is taken. So what comes out is smallest in this sense: no step of these makes it
@@ -12,15 +13,16 @@ use model::sheet::{Sheet, UNBOUNDED};
 use std::collections::HashSet;
 
 /// What makes one sheet smaller than another: compared from the first number on.
-pub type Size = (usize, usize, usize, usize, u64);
+pub type Size = (usize, usize, usize, usize, usize, u64);
 
-/// Sites, slots, colours, bounded colours, and the sum of all numbers.
+/// Sites, slots, colours, bounded colours, charge words, and the sum of all numbers.
 pub fn size(sheet: &Sheet) -> Size {
     let bounded = sheet.bounds.iter().copied().filter(|bound| *bound != UNBOUNDED);
     let points = sheet.sites.iter().flat_map(|site| [site.x, site.y]);
-    let numbers = [sheet.gap, sheet.width].into_iter().chain(sheet.slots.iter().copied()).chain(points);
-    let sum = numbers.chain(bounded.clone()).map(u64::from).sum();
-    (sheet.sites.len(), sheet.slots.len(), sheet.bounds.len(), bounded.count(), sum)
+    let numbers = [sheet.gap, sheet.width].into_iter().chain(sheet.charge).chain(sheet.slots.iter().copied());
+    let sum = numbers.chain(points).chain(bounded.clone()).map(u64::from).sum();
+    let charges = usize::from(sheet.charge.is_some());
+    (sheet.sites.len(), sheet.slots.len(), sheet.bounds.len(), bounded.count(), charges, sum)
 }
 
 /// The smallest sheet that the steps reach. `keeps` says whether a sheet has the property; this one has it.

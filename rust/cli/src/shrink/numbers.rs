@@ -31,6 +31,7 @@ fn divided(sheet: &Sheet, by: u32) -> Sheet {
     let mut other = sheet.clone();
     other.gap /= by;
     other.width /= by;
+    other.charge = other.charge.map(|charge| charge / by);
     other.slots.iter_mut().for_each(|height| *height /= by);
     other.sites.iter_mut().for_each(|site| (site.x, site.y) = (site.x / by, site.y / by));
     other
@@ -69,9 +70,9 @@ fn moved_left_from(sheet: &Sheet, from: u32, by: u32) -> Sheet {
     other
 }
 
-/// How many numbers can be lowered one by one: gap, bounds, slots, and both of each site.
+/// How many numbers can be lowered one by one: gap, bounds, slots, both of each site, and the charge if there is one.
 fn lowered_count(sheet: &Sheet) -> usize {
-    1 + sheet.bounds.len() + sheet.slots.len() + 2 * sheet.sites.len()
+    1 + sheet.bounds.len() + sheet.slots.len() + 2 * sheet.sites.len() + usize::from(sheet.charge.is_some())
 }
 
 /// The sheet with one number lowered: to 0, by halves, by 1.
@@ -92,7 +93,7 @@ fn lowered(sheet: &Sheet, number: usize) -> Vec<Sheet> {
 
 /// The number of this place, in the order of `lowered_count`.
 fn number_at(sheet: &mut Sheet, number: usize) -> Option<&mut u32> {
-    let Sheet { gap, bounds, slots, sites, .. } = sheet;
+    let Sheet { gap, charge, bounds, slots, sites, .. } = sheet;
     let points = sites.iter_mut().flat_map(|site| [&mut site.x, &mut site.y]);
-    std::iter::once(gap).chain(bounds).chain(slots).chain(points).nth(number)
+    std::iter::once(gap).chain(bounds).chain(slots).chain(points).chain(charge).nth(number)
 }

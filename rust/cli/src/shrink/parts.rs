@@ -1,4 +1,4 @@
-//! Sheets with fewer sites, slots or colours.
+//! Sheets with fewer sites, slots or colours, or without their charge word.
 
 use model::sheet::{Sheet, UNBOUNDED};
 
@@ -23,6 +23,7 @@ pub fn candidates(sheet: &Sheet) -> Vec<Sheet> {
         }
     }
     found.extend(colours.filter(|colour| sheet.bounds[*colour] != UNBOUNDED).map(|colour| unbounded(sheet, colour)));
+    found.push(Sheet { charge: None, ..sheet.clone() });
     found
 }
 

@@ -60,6 +60,21 @@ fn colours_and_bounds_stay_where_they_are_needed() {
     assert!(met > 2, "{met}");
 }
 
+/// A charge that is not needed goes with its word; one that is needed is as low as it may be, 0 too.
+#[test]
+fn charges_stay_where_they_are_needed() {
+    for (least, seed) in [(0, 5), (1, 6), (37, 7)] {
+        for sheet in sheets(seed).into_iter().map(|sheet| Sheet { charge: Some(1_000), ..sheet }) {
+            let found = shrunk(sheet, |sheet| sheet.charge.is_some_and(|charge| charge >= least));
+            let smallest = Sheet { charge: Some(least), slots: vec![], bounds: vec![], sites: vec![], ..found.clone() };
+            assert_eq!((&found, found.gap, found.width), (&smallest, 1, 1));
+        }
+    }
+    for sheet in sheets(8).into_iter().map(|sheet| Sheet { charge: Some(0), ..sheet }) {
+        assert_eq!(shrunk(sheet, |sheet| sheet.sites.len() >= 2).charge, None);
+    }
+}
+
 /// Each sheet that is tried on the way is accepted by the reader, and none is tried twice.
 #[test]
 fn only_accepted_sheets_are_tried() {

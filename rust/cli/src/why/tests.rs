@@ -86,6 +86,7 @@ fn known() -> Sheet {
         shortest: false,
         gap: 5,
         width: 100,
+        charge: None,
         slots: vec![10, 50, 90],
         bounds: vec![UNBOUNDED, UNBOUNDED],
         sites: vec![site(10, 10, 0), site(20, 48, 0), site(30, 90, 0), site(40, 48, 1)],

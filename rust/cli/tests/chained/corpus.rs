@@ -24,7 +24,7 @@ fn one_seed_gives_one_corpus() {
 #[test]
 fn shards_are_together_the_whole() {
     let folder = Folder::new();
-    let wanted = ["--depth", "3..5", "--count", "5", "--round", "0.1mm"];
+    let wanted = ["--depth", "3..5", "--count", "5", "--round", "0.1mm", "--charge", "9"];
     corpus(&folder.at("whole"), &wanted).ends(0);
     for shard in ["1/4", "2/4", "3/4", "4/4"] {
         corpus(&folder.at("shards"), &[&wanted[..], &["--shard", shard]].concat()).ends(0);
@@ -48,9 +48,20 @@ struct Line<'a> {
 /// Every line of a manifest, against the plain judge, the depth, the search and the rival.
 #[test]
 fn manifests_say_what_is_true() {
+    hold_manifest(&[], None);
+}
+
+#[test]
+fn manifests_of_charged_sheets_say_what_is_true() {
+    hold_manifest(&["--charge", "40"], Some(40));
+    hold_manifest(&["--charge", "0"], Some(0));
+}
+
+fn hold_manifest(more: &[&str], charge: Option<u32>) {
     let folder = Folder::new();
     let out = folder.at("corpus");
-    corpus(&out, &["--depth", "1..7", "--count", "8", "--seed", "3", "--round", "0.1mm"]).ends(0);
+    let wanted = ["--depth", "1..7", "--count", "8", "--seed", "3", "--round", "0.1mm"];
+    corpus(&out, &[&wanted, more].concat()).ends(0);
     let (rows, place) = rows(&std::fs::read_to_string(folder.at("corpus/manifest.tsv")).expect("a manifest"));
     assert_eq!(rows.len(), 56);
     let mut searched = 0;
@@ -61,18 +72,18 @@ fn manifests_say_what_is_true() {
             sheet::encode(&text).expect("a stored sheet")
         };
         let line = Line { field: &field, best: read("best"), rounded: read("rounded") };
-        hold_best(&line);
+        hold_best(&line, charge);
         hold_rounded(&line);
         searched += u32::from(is_searched(&line));
     }
     assert!(searched > 40, "{searched}");
 }
 
-/// The layout is lawful, and its numbers are those of the line.
-fn hold_best(line: &Line) {
+/// The sheet has this charge, the layout is lawful, and its numbers are those of the line.
+fn hold_best(line: &Line, charge: Option<u32>) {
     let field = line.field;
     let (sheet, slot_of, (labels, length)) = split(&line.best).expect("a stored sheet");
-    assert_eq!(judge(&line.best), (0, 0));
+    assert_eq!((judge(&line.best), sheet.charge), ((0, 0), charge));
     assert_eq!(field("depth"), depth(&sheet, &slot_of).to_string());
     assert_eq!((field("labels"), field("length")), (labels.to_string(), length.to_string()));
     assert_eq!(field("slots_by_site"), slot_of.iter().map(usize::to_string).collect::<Vec<_>>().join(","));
@@ -146,6 +157,9 @@ fn wrong_use_and_what_can_not_be_written() {
         &["corpus", "--depth", "3", "--out", &out, "--seed", "-1"],
         &["corpus", "--depth", "3", "--out", &out, "--round", "0.1"],
         &["corpus", "--depth", "3", "--out", &out, "--aim", "best"],
+        &["corpus", "--depth", "3", "--out", &out, "--charge", "16384"],
+        &["corpus", "--depth", "3", "--out", &out, "--charge", "-1"],
+        &["corpus", "--depth", "3", "--out", &out, "--charge"],
         &["corpus", "--depth", "3", "--out", &out, "--shard", "3/2"],
         &["corpus", "--depth", "3", "--out", &out, "more"],
     ] {
@@ -163,5 +177,18 @@ fn sheets_that_are_not_found_are_told() {
     let folder = Folder::new();
     let wanted = ["--depth", "1", "--count", "3", "--round", "0.1pt", "--aim", "fewest"];
     let run = corpus(&folder.at("corpus"), &wanted).ends(1);
-    assert!(run.said.contains("depth 1: 0 of 3 sheets; no fewest sheet"), "{}", run.said);
+    assert!(run.said.contains("depth 1: 0 of 3 sheets; no fewest sheet of this depth on which"), "{}", run.said);
+}
+
+/// What is drawn is the same with every charge of a seed; a charge of 0 keeps the sheets, each with its word.
+#[test]
+fn a_charge_of_0_gives_the_corpus_without_one() {
+    let folder = Folder::new();
+    let wanted = ["--depth", "2..4", "--count", "4"];
+    corpus(&folder.at("plain"), &wanted).ends(0);
+    corpus(&folder.at("charged"), &[&wanted[..], &["--charge", "0"]].concat()).ends(0);
+    let uncharged = |(name, text): (String, String)| (name, text.replace("charge 0\n", ""));
+    let charged = files(&folder.at("charged"));
+    assert_eq!(charged.iter().filter(|(_, text)| text.contains("\ncharge 0\nslot ")).count(), 12);
+    assert_eq!(charged.into_iter().map(uncharged).collect::<Vec<_>>(), files(&folder.at("plain")));
 }

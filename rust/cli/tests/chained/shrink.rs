@@ -67,6 +67,33 @@ fn one_less(sheet: &Sheet) -> Vec<Sheet> {
     found
 }
 
+/// The engine does not know of charges: it lays out the sheet without that line, and gives the layout alone. The smallest
+/// sheet on which its length is false has one site off one backbone, and a charge of 1.
+#[test]
+fn a_charge_stays_in_the_smallest_sheet_of_an_engine_that_forgets_it() {
+    let folder = Folder::new();
+    let out = folder.at("corpus");
+    backbone(&["corpus", "--out", &out, "--depth", "5", "--count", "1", "--seed", "21", "--charge", "35"]).ends(0);
+    let engine = format!("grep -v '^charge' | {} | sed -n '/^layout/,$p'", rounding_engine("none"));
+    let run = backbone(&["shrink", &format!("{out}/best/depth-05/1.txt"), "--with", &engine]).ends(1);
+    let (first, sheet) = run.out.split_once('\n').expect("a comment and a sheet");
+    assert!(first.starts_with("# unlawful: rule 6: the layout states 1 label and length "), "{first}");
+    let words = sheet::encode(sheet).expect("a stored sheet");
+    let (sheet, slot_of, stated) = split(&words).expect("a stored sheet");
+    assert_eq!((sheet.sites.len(), sheet.slots.len(), sheet.bounds.len(), sheet.charge), (1, 1, 1, Some(1)));
+    let (labels, length) = Ties::new(&sheet, &slot_of).numbers();
+    assert_eq!(stated, (labels, length - 1), "{sheet:?}");
+}
+
+/// What has nothing to do with the charge is found in a sheet without one.
+#[test]
+fn a_charge_that_is_not_needed_goes() {
+    let folder = Folder::new();
+    let text = "head one-sided fewest gap 1 width 9\ncharge 7\nslot 3\ncolour unbounded\nsite 2 1\nsite 4 5\n";
+    let run = backbone(&["shrink", &folder.write("sheet.txt", text), "--with", "echo refused 10"]).ends(1);
+    assert!(run.out.starts_with("# false no layout: ") && !run.out.contains("\ncharge "), "{}", run.out);
+}
+
 #[test]
 fn an_engine_without_a_fault_leaves_nothing_to_shrink() {
     let folder = Folder::new();
