@@ -2,7 +2,11 @@
  *
  * A sheet, a layout and a stored sheet are lists of 32-bit words. No function keeps a pointer, allocates or
  * touches anything but the areas that it is given. Areas must not overlap and are aligned as uint32_t is.
- * A pointer may be null where its length is 0. */
+ * A pointer may be null where its length is 0.
+ *
+ * Right after a sheet's head may stand a charge word, of kind 5: 5 << 28 | charge, the charge from 0 to
+ * BACKBONE_MOST_CHARGE. Without it the charge is 0. Each site that is not on its backbone adds the charge to the length
+ * of a layout, beside its drop. */
 #ifndef BACKBONE_H
 #define BACKBONE_H
 
@@ -17,6 +21,7 @@ enum {
     BACKBONE_MOST_SLOTS = 48,
     BACKBONE_MOST_COLOURS = 8,
     BACKBONE_MOST_SITES = 32,
+    BACKBONE_MOST_CHARGE = 16383,
     /* Answer words that serve for every sheet. */
     BACKBONE_ANSWER_WORDS = BACKBONE_MOST_SITES + 1,
     /* The bound of a colour without one. */
@@ -27,7 +32,8 @@ enum {
 enum {
     BACKBONE_ACCEPTED = 0,
     BACKBONE_NO_HEAD = 1,           /* empty, or the first word is no head, or its width or gap is 0 */
-    BACKBONE_BAD_WORD = 2,          /* a word of another kind, out of its order, or with a spare bit set */
+    BACKBONE_BAD_WORD = 2,          /* a word of another kind, out of its order (a charge elsewhere than right after the
+                                       head), or with a spare bit set */
     BACKBONE_TOO_MANY = 3,          /* more than 48 slots, 8 colours or 32 sites */
     BACKBONE_SLOTS_NOT_RISING = 4,  /* slot heights are not strictly rising */
     BACKBONE_SITE_BEYOND_WIDTH = 5, /* a site's x is above the width */
@@ -90,7 +96,8 @@ typedef struct {
 /* Reads a sheet, one-sided or two-sided: refusals 1 to 7. */
 backbone_sizes backbone_read(const uint32_t *sheet, size_t len);
 
-/* Judges a stored sheet, which is a sheet followed by a layout: refusals 1 to 7 and 11. */
+/* Judges a stored sheet, which is a sheet followed by a layout: refusals 1 to 7 and 11. A length that is stated without the
+ * charges breaks rule 6. */
 backbone_verdict backbone_judge(const uint32_t *stored, size_t len);
 
 /* Lays out a one-sided sheet: refusals 1 to 7, then 18, then 8 to 10, or 0 with the best layout in the first n + 1 words
@@ -100,13 +107,14 @@ uint32_t backbone_make(const uint32_t *sheet, size_t len, uint32_t *work, size_t
 
 /* Writes the one-sided twin of a stored sheet, as many words as it has, to the start of out: refusals 1 to 7 and 11 as the
  * judge gives them, then 13, then 9 where out is shorter than the stored sheet. Of a lawful two-sided sheet only the side
- * and the length differ, and the length is the true one; a lawful one-sided sheet comes back word for word. A refusal
- * changes nothing in out; words past the twin stay as they were. */
+ * and the length differ, and the length is the true one; a charge word stays. A lawful one-sided sheet comes back word for
+ * word. A refusal changes nothing in out; words past the twin stay as they were. */
 backbone_written backbone_twin(const uint32_t *stored, size_t len, uint32_t *out, size_t out_len);
 
 /* The stroke of a stored sheet at a place, for a viewer to draw: refusals 1 to 7 and 11 as the judge gives them, then 13,
  * then 14. Backbones come first, by rising slot, then drops in sheet order; a site on its backbone has none. Places count
- * from 0: who draws all strokes asks for 0, 1, 2 and so on until 14 comes back. */
+ * from 0: who draws all strokes asks for 0, 1, 2 and so on until 14 comes back. The lengths of all strokes, eight units a
+ * point, and the charge for each drop add up to the length that the layout states. */
 backbone_stroke backbone_stroke_at(const uint32_t *stored, size_t len, size_t place);
 
 #ifdef __cplusplus

@@ -1,6 +1,6 @@
 /* The areas of the C interface: null pointers, lengths on both sides of what is needed, and every word of the areas
- * afterwards; and the strokes of a stored sheet, which they leave as it is. Prints what does not hold, and ends with 1 if
- * anything does not. */
+ * afterwards; the strokes of a stored sheet, which they leave as it is; and a sheet with a charge. Prints what does not
+ * hold, and ends with 1 if anything does not. */
 #include "backbone.h"
 
 #include <stdio.h>
@@ -18,6 +18,11 @@ static const uint32_t best[ANSWER] = {0x80400013, 0x90000000, 0x90000000, 0x9000
 static const uint32_t two_sided[WORDS + ANSWER] = {0x18008008, 0x20000002, 0x20000005, 0x20000008, 0x300000FF,
                                                    0x40008004, 0x40018006, 0x300000FF, 0x40010005, 0x80400019,
                                                    0x90000000, 0x90000000, 0x90000002};
+
+/* Sheet A with a charge: no layout of it has a site on its backbone and as few labels, so the best is the same, and its
+ * length is greater by three charges. */
+enum { CHARGE = 5, CHARGED = WORDS + 1 };
+static const uint32_t charge_word = 0x50000000 | CHARGE;
 
 /* The strokes of sheet A with its best layout, by hand. */
 static const backbone_stroke strokes[] = {
@@ -141,6 +146,53 @@ static void refused_twins(void) {
     free(area);
 }
 
+/* The stored sheet with the charge after its head, and its length with three charges, in an area that ends with it. */
+static uint32_t *charged(const uint32_t *words, const uint32_t *layout) {
+    uint32_t *stored = dirty(CHARGED + ANSWER);
+    stored[0] = words[0];
+    stored[1] = charge_word;
+    memcpy(stored + 2, words + 1, (WORDS - 1) * sizeof *words);
+    memcpy(stored + CHARGED, layout, ANSWER * sizeof *layout);
+    stored[CHARGED] += 3 * CHARGE;
+    return stored;
+}
+
+static void charged_sheet(void) {
+    uint32_t *stored = charged(sheet, best), *work = dirty(WORK), *answer = dirty(ANSWER);
+    expect(backbone_read(stored, CHARGED).work == WORK, "a charge asks for no work words");
+    expect(backbone_make(stored, CHARGED, work, WORK, answer, ANSWER) == BACKBONE_ACCEPTED, "a layout of a charged sheet");
+    expect(memcmp(answer, stored + CHARGED, sizeof best) == 0, "the best layout of sheet A with a charge");
+    expect(all_are(work, 0, WORK, 0), "the needed work words are zero after a charged sheet");
+    expect(backbone_judge(stored, CHARGED + ANSWER).rule == 0, "the charged layout is lawful");
+    stored[CHARGED] -= 3 * CHARGE;
+    expect(backbone_judge(stored, CHARGED + ANSWER).rule == 6, "a length without charges breaks rule 6");
+    free(stored);
+    free(work);
+    free(answer);
+}
+
+static void charged_twin(void) {
+    uint32_t *stored = charged(two_sided, two_sided + WORDS), *twin = charged(sheet, best);
+    uint32_t *area = dirty(CHARGED + ANSWER);
+    backbone_written made = backbone_twin(stored, CHARGED + ANSWER, area, CHARGED + ANSWER);
+    expect(made.refusal == BACKBONE_ACCEPTED && made.written == CHARGED + ANSWER, "the twin has a charge as its sheet has");
+    expect(memcmp(area, twin, (CHARGED + ANSWER) * sizeof *twin) == 0, "the twin of A two-sided with a charge");
+    free(stored);
+    free(twin);
+    free(area);
+}
+
+static void refused_charges(void) {
+    const uint32_t twice[] = {0x10008008, charge_word, charge_word}, late[] = {0x10008008, 0x20000002, charge_word};
+    const uint32_t most[] = {0x10008008, 0x50000000 | BACKBONE_MOST_CHARGE};
+    const uint32_t spare[] = {0x10008008, 0x50000000 | (BACKBONE_MOST_CHARGE + 1)};
+    expect(backbone_read(twice, 3).refusal == BACKBONE_BAD_WORD, "a second charge is refused with 2");
+    expect(backbone_read(late, 3).refusal == BACKBONE_BAD_WORD, "a charge after a slot is refused with 2");
+    expect(backbone_read(spare, 2).refusal == BACKBONE_BAD_WORD, "a charge with a spare bit is refused with 2");
+    expect(backbone_read(twice + 1, 2).refusal == BACKBONE_NO_HEAD, "a charge as the first word is refused with 1");
+    expect(backbone_read(most, 2).refusal == BACKBONE_ACCEPTED, "the greatest charge");
+}
+
 static int same(backbone_stroke one, backbone_stroke other) {
     const float ends[] = {one.x0, one.y0, one.x1, one.y1}, wanted[] = {other.x0, other.y0, other.x1, other.y1};
     return one.refusal == other.refusal && one.kind == other.kind && memcmp(ends, wanted, sizeof ends) == 0;
@@ -179,6 +231,16 @@ static void strokes_of_two_sided(void) {
     }
 }
 
+/* A charge gives no stroke. */
+static void strokes_of_charged(void) {
+    uint32_t *stored = charged(sheet, best);
+    for (size_t place = 0; place < STROKES; place++) {
+        expect(same(backbone_stroke_at(stored, CHARGED + ANSWER, place), strokes[place]), "a stroke of A with a charge");
+    }
+    expect(is_refused(backbone_stroke_at(stored, CHARGED + ANSWER, STROKES), BACKBONE_PAST_LAST_STROKE), "14 with a charge");
+    free(stored);
+}
+
 int main(void) {
     null_lists();
     no_words();
@@ -192,5 +254,9 @@ int main(void) {
     refused_twins();
     strokes_of_a();
     strokes_of_two_sided();
+    charged_sheet();
+    charged_twin();
+    refused_charges();
+    strokes_of_charged();
     return failures == 0 ? 0 : 1;
 }
