@@ -164,8 +164,8 @@ def twin(stored: Words, area: Optional[Area] = None) -> Tuple[int, ...]:
     """The words of a stored sheet's one-sided twin; refusals 1 to 7, 11, 13 and 9.
 
     Of a lawful two-sided sheet only the side and the length differ, and the length is the true one of the same ties; a
-    lawful one-sided sheet comes back as it is. In an area of the caller the twin's words are the first, and the others
-    stay.
+    charge word stays. A lawful one-sided sheet comes back as it is. In an area of the caller the twin's words are the
+    first, and the others stay.
     """
     words = _copied(stored)
     area_words = _own(len(words)) if area is None else _lent("answer", area)
@@ -193,7 +193,8 @@ def stroke_at(stored: Words, place: int) -> Stroke:
 def strokes(stored: Words) -> List[Stroke]:
     """The strokes of a stored sheet, for a viewer to draw; refusals 1 to 7, 11 and 13.
 
-    Backbones come first, by rising slot, then drops in sheet order. A site on its backbone has no drop.
+    Backbones come first, by rising slot, then drops in sheet order. A site on its backbone has no drop. The lengths of all
+    strokes, eight units a point, and the sheet's charge for each drop add up to the length that the layout states.
     """
     words = _copied(stored)
     found: List[Stroke] = []

@@ -21,6 +21,12 @@ def head(gap: int, width: int, two_sided: bool = False, shortest: bool = False) 
     return 1 << 28 | flags | _held("gap", gap, 1, 4095) << _COORDINATE_BITS | _held("width", width, 1, 16383)
 
 
+def charge(units: int) -> int:
+    """What each site that is not on its backbone adds to the length. It stands right after the head; without it the charge
+    is 0."""
+    return 5 << 28 | _held("charge", units, 0, 16383)
+
+
 def slot(height: int) -> int:
     """A height at which a backbone may lie. Slots come by rising height."""
     return 2 << 28 | _held("height", height, 0, 16383)

@@ -23,12 +23,14 @@ class Sheet(NamedTuple):
     shortest: bool
     gap: int
     width: int
+    charge: Optional[int]
     slots: Tuple[int, ...]
     bounds: Tuple[int, ...]
     sites: Tuple[Site, ...]
 
     def words(self) -> List[int]:
         words = [1 << 28 | self.two_sided << 27 | self.shortest << 26 | self.gap << 14 | self.width]
+        words += [] if self.charge is None else [5 << 28 | self.charge]
         words += [2 << 28 | height for height in self.slots]
         for colour, bound in enumerate(self.bounds):
             words.append(3 << 28 | bound)
@@ -81,12 +83,17 @@ def clears_sites(sheet: Sheet, ties: Ties) -> bool:
     return True
 
 
+def share(sheet: Sheet, site: Site, slot: int) -> int:
+    """A site's part of the length: its drop, and the charge unless that is zero."""
+    drop = abs(sheet.slots[slot] - site.y)
+    return drop + (sheet.charge or 0) if drop else 0
+
+
 def count_and_length(sheet: Sheet, ties: Ties) -> Tuple[int, int]:
     """The true numbers of rule 6."""
     used = set(ties)
     backbones = sum(sheet.width - left_end(sheet, ties, slot) for slot in used)
-    drops = sum(abs(sheet.slots[slot] - site.y) for site, slot in zip(sheet.sites, ties))
-    return len(used), backbones + drops
+    return len(used), backbones + sum(share(sheet, site, slot) for site, slot in zip(sheet.sites, ties))
 
 
 def strokes(sheet: Sheet, ties: Ties) -> List[Tuple[str, float, float, float, float]]:

@@ -93,6 +93,27 @@ class Drawn(unittest.TestCase):
         for place, error in ((-1, OverflowError), (2**64, OverflowError), (0.0, TypeError), ("0", TypeError)):
             self.assertRaises(error, stroke_at, STORED_A, place)
 
+    def test_charges(self):
+        # Three sites off their backbones, so a charge adds three times itself; strokes stay.
+        for charge in (0, 5, 16383):
+            sheet, layout = [HEAD, 5 << 28 | charge] + REST, Layout(2, 19 + 3 * charge, (0, 0, 2))
+            stored = sheet + list(layout.words())
+            self.assertEqual(read(sheet), read(SHEET_A))
+            self.assertEqual(make(sheet), layout)
+            self.assertIsNone(judge(stored))
+            self.assertEqual(strokes(stored), BONES_A + DROPS_A)
+            two_sided = [0x18008008] + sheet[1:] + list(Layout(2, 25 + 3 * charge, (0, 0, 2)).words())
+            self.assertEqual(twin(two_sided), tuple(stored))
+        self.assertEqual(judge([HEAD, 0x50000005] + STORED_A[1:]), Rule.TRUE_NUMBERS)
+
+    def test_charges_out_of_place(self):
+        charge = 0x50000005
+        self.assert_refused(Refusal.NO_HEAD, read, [charge] + SHEET_A)
+        for words in ([HEAD, charge, charge], [HEAD, REST[0], charge], SHEET_A + [charge], [HEAD, charge | 1 << 14]):
+            self.assert_refused(Refusal.BAD_WORD, read, words)
+            self.assert_refused(Refusal.BAD_WORD, make, words)
+            self.assert_refused(Refusal.BAD_WORD, judge, words + [0x80000000])
+
     def test_no_layout(self):
         self.assert_refused(Refusal.NO_LAYOUT, make, [0x10010008] + REST)
         no_labels = SHEET_A[:7] + [0x30000000, 0x40010005]

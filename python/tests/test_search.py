@@ -20,7 +20,9 @@ def tiny_sheet(random):
     bounds = tuple(random.choice((UNBOUNDED, UNBOUNDED, 0, 1, 1, 2)) for _ in range(random.randint(1, 3)))
     xs = random.sample(range(width + 1), random.randint(0, 5))
     sites = sorted((Site(x, random.randint(0, 12), random.randrange(len(bounds))) for x in xs), key=lambda site: site.colour)
-    return Sheet(random.random() < 0.4, random.random() < 0.5, random.randint(1, 3), width, slots, bounds, tuple(sites))
+    two_sided, shortest, gap = random.random() < 0.4, random.random() < 0.5, random.randint(1, 3)
+    charge = random.choice((None, None, 0, 1, 2, random.randint(0, 12), 16383))
+    return Sheet(two_sided, shortest, gap, width, charge, slots, bounds, tuple(sites))
 
 
 class Search(unittest.TestCase):
@@ -35,8 +37,10 @@ class Search(unittest.TestCase):
                 made = None
             if not sheet.two_sided:
                 self.assertEqual(made, best(sheet), sheet)
+                met["altered"] += made is not None and made[2] != best(sheet._replace(charge=None))[2]
             met[sheet.two_sided, made is None] += 1
         self.assertEqual(met[True, False], 0, met)
+        self.assertGreater(met["altered"], SHEETS // 200, met)
         self.assertGreater(min(met[False, False], met[False, True], met[True, True]), SHEETS // 50, met)
 
     def test_twin(self):
@@ -73,7 +77,9 @@ class Search(unittest.TestCase):
             found = strokes(stored)
             self.assertEqual(found, plain_search.strokes(sheet, ties), sheet)
             lengths = (abs(stroke.x1 - stroke.x0) + abs(stroke.y1 - stroke.y0) for stroke in found)
-            self.assertEqual((sum(stroke.kind == "bone" for stroke in found), 8 * sum(lengths)), numbers, sheet)
+            drops = sum(stroke.kind == "drop" for stroke in found)
+            length = 8 * sum(lengths) + (sheet.charge or 0) * drops
+            self.assertEqual((len(found) - drops, length), numbers, sheet)
         self.assertGreater(min(met.values()), STORED // 300, met)
 
     def test_judge(self):

@@ -8,7 +8,7 @@ from pathlib import Path
 from typing import get_type_hints
 
 import backbone
-from backbone import Layout, Refusal, Rule, colour, head, site, slot
+from backbone import Layout, Refusal, Rule, charge, colour, head, site, slot
 
 ROOT = Path(__file__).resolve().parents[2]
 RUST = ROOT / "rust" / "backbone" / "src"
@@ -30,16 +30,19 @@ class Words(unittest.TestCase):
         self.assertEqual(head(gap=2, width=8), 0x10008008)
         self.assertEqual(head(gap=2, width=8, shortest=True), 0x14008008)
         self.assertEqual(head(gap=2, width=8, two_sided=True), 0x18008008)
+        self.assertEqual((charge(0), charge(3)), (0x50000000, 0x50000003))
         self.assertEqual((slot(5), colour(), colour(0), site(6, 6)), (0x20000005, 0x300000FF, 0x30000000, 0x40018006))
 
     def test_ranges(self):
         self.assertEqual((head(4095, 16383), slot(16383), colour(254)), (0x13FFFFFF, 0x20003FFF, 0x300000FE))
-        self.assertEqual(site(16383, 16383), 0x4FFFFFFF)
+        self.assertEqual((site(16383, 16383), charge(16383)), (0x4FFFFFFF, 0x50003FFF))
         for make, numbers in (
             (head, (0, 8)),
             (head, (4096, 8)),
             (head, (2, 0)),
             (head, (2, 16384)),
+            (charge, (-1,)),
+            (charge, (16384,)),
             (slot, (-1,)),
             (slot, (16384,)),
             (colour, (255,)),
@@ -63,7 +66,7 @@ class Words(unittest.TestCase):
 
     def test_every_open_function_is_typed(self):
         operations = (backbone.read, backbone.make, backbone.judge, backbone.twin, backbone.stroke_at, backbone.strokes)
-        for function in operations + (head, slot, colour, site, Layout.from_words, Layout.words):
+        for function in operations + (head, charge, slot, colour, site, Layout.from_words, Layout.words):
             with self.subTest(function=function.__name__):
                 names = [name for name in inspect.signature(function).parameters if name != "self"]
                 self.assertEqual(sorted(get_type_hints(function)), sorted(names + ["return"]))
