@@ -115,7 +115,8 @@ impl<'a> Program<'a> {
     /// What one unit of the first number weighs: more than the second number can be.
     fn weight(&self) -> u32 {
         let deepest = self.sheet.slots.iter().chain(self.sheet.sites.iter().map(|site| &site.y)).max();
-        let longest = (self.sheet.width + deepest.unwrap_or(&0)) * self.sheet.sites.len() as u32;
+        let longest_of_site = self.sheet.width + self.sheet.share(*deepest.unwrap_or(&0));
+        let longest = longest_of_site * self.sheet.sites.len() as u32;
         if self.sheet.shortest {
             self.sheet.sites.len() as u32 + 1
         } else {
@@ -170,8 +171,8 @@ impl<'a> Program<'a> {
         let mut terms = String::new();
         for slot in 0..self.sheet.slots.len() {
             for (rank, site) in self.order.iter().enumerate() {
-                let drop = sites[*site].y.abs_diff(self.sheet.slots[slot]);
-                let _ = write!(terms, " + {} tie_{site}_{slot}", length * drop);
+                let share = self.sheet.share(sites[*site].y.abs_diff(self.sheet.slots[slot]));
+                let _ = write!(terms, " + {} tie_{site}_{slot}", length * share);
                 let next = self.order.get(rank + 1).map_or(self.sheet.width, |next| sites[*next].x);
                 let reach = next - sites[*site].x;
                 let weight = length * reach + if rank + 1 == sites.len() { label } else { 0 };
@@ -240,4 +241,20 @@ impl<'a> Program<'a> {
             }
         }
     }
+}
+
+/// Two sites and two slots, shortest: a label weighs 1, a unit of length 3. Site 0 at (2,4) is the first by x; a drop of 2
+/// costs 3 * (2 + 5) with the charge, one of 0 nothing.
+#[test]
+fn the_cost_of_a_tie_has_the_charge() {
+    let words = [0x14008008, 0x50000005, 0x20000002, 0x20000004, 0x300000FF, 0x40008004, 0x40018005];
+    let sheet = model::sheet::read(&words).expect("a sheet");
+    let program = Program::new(&sheet).text();
+    let costs = program.lines().take_while(|line| *line != "Subject To").collect::<Vec<_>>().join(" ");
+    for term in [" + 21 tie_0_0 ", " + 0 tie_0_1 ", " + 24 tie_1_0 ", " + 18 tie_1_1 "] {
+        assert!(costs.contains(term), "{term}: {costs}");
+    }
+    // Both sites at slot 1: a label, 8 - 2 for its backbone, and 1 + 5 for site 1.
+    assert_eq!(Program::new(&sheet).numbers(f64::from(3 * (6 + 6) + 1)), (1, 12));
+    assert_eq!(model::rules::Ties::new(&sheet, &[1, 1]).numbers(), (1, 12));
 }

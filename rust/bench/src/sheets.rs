@@ -36,6 +36,7 @@ pub fn by_size() -> Vec<Named> {
         banded("shortest", 6, 8, &[2, FREE, FREE]),
         example("eight sites", include_str!("eight_sites.txt")),
         fewest(banded("fewest", 10, 12, &[3, 1, FREE])),
+        example("charge of 24, fewest", include_str!("../../../examples/charge.txt")),
         example("gearbox, shortest", include_str!("../../../examples/gearbox_twin.txt")),
         banded("shortest", 16, 24, &[7, FREE, FREE, FREE]),
         example("tractor, fewest", include_str!("../../../examples/tractor.txt")),
@@ -136,7 +137,7 @@ fn bars(name: &'static str, two_sided: bool, below: fn(u32) -> u32) -> NamedStor
     let slot_of: Vec<usize> = sites.iter().map(|(slot, _)| *slot).collect();
     let sites = sites.into_iter().map(|(_, site)| site).collect();
     let (bounds, width) = (colours.to_vec(), 600);
-    let sheet = Sheet { two_sided, shortest: true, gap: 3, width, slots, bounds, sites };
+    let sheet = Sheet { two_sided, shortest: true, gap: 3, width, charge: None, slots, bounds, sites };
     let words = [sheet.words(), layout_words(&sheet, &slot_of)].concat();
     NamedStored { name, sheet, words }
 }

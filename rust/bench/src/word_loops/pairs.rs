@@ -1,11 +1,13 @@
 //! Tests of a tied site beside another.
 
-/// What the head says, and the place of the first word after the slots.
+/// What the head and the charge say, and the places of the first slot and of the first word after the slots.
 #[derive(Clone, Copy)]
 pub struct Head {
     pub two_sided: bool,
     pub gap: u32,
     pub width: u32,
+    pub charge: u32,
+    pub slots: usize,
     pub body: usize,
 }
 

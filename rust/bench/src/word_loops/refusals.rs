@@ -1,6 +1,6 @@
 //! Refusals 1 to 7, each by a loop of its own over the words after the head.
 
-use super::fields::{byte, gap, high, kind, low, COLOUR, HEAD, SITE, SLOT};
+use super::fields::{byte, gap, high, kind, low, CHARGE, COLOUR, HEAD, SITE, SLOT};
 
 /// The first refusal that applies, 0 if none does.
 pub fn sheet_fault(sheet: &[u32]) -> u8 {
@@ -36,13 +36,14 @@ fn is_head(sheet: &[u32]) -> bool {
 /// What may stand next in a sheet.
 #[derive(Clone, Copy, PartialEq)]
 enum Stage {
+    Charge,
     Slots,
     Colours,
     OutOfOrder,
 }
 
 fn in_order(body: &[u32]) -> bool {
-    let mut stage = Stage::Slots;
+    let mut stage = Stage::Charge;
     for word in body {
         stage = stage_after(stage, *word);
         if stage == Stage::OutOfOrder {
@@ -54,7 +55,8 @@ fn in_order(body: &[u32]) -> bool {
 
 fn stage_after(stage: Stage, word: u32) -> Stage {
     match kind(word) {
-        SLOT if high(word) == 0 && stage == Stage::Slots => Stage::Slots,
+        CHARGE if high(word) == 0 && stage == Stage::Charge => Stage::Slots,
+        SLOT if high(word) == 0 && stage != Stage::Colours => Stage::Slots,
         COLOUR if word >> 8 & 0xF_FFFF == 0 => Stage::Colours,
         SITE if stage == Stage::Colours => Stage::Colours,
         _ => Stage::OutOfOrder,

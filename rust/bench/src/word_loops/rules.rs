@@ -1,6 +1,6 @@
 //! Rules 1 to 6 by loops over the sheet's words after the slots, a loop within a loop for every two sites.
 
-use super::fields::{byte, gap, high, is_two_sided, kind, low, COLOUR, SITE, SLOT};
+use super::fields::{byte, gap, high, is_two_sided, kind, low, CHARGE, COLOUR, SITE, SLOT};
 use super::pairs::{first_in_pass, first_pass, Head, TiedSite};
 
 /// A sheet that is not refused and a layout of its sites.
@@ -35,8 +35,11 @@ impl Place {
 impl<'a> Stored<'a> {
     pub fn new(sheet: &'a [u32], layout: &'a [u32]) -> Stored<'a> {
         let (two_sided, gap, width) = (is_two_sided(sheet[0]), gap(sheet[0]), low(sheet[0]));
-        let body = 1 + sheet[1..].iter().take_while(|word| kind(**word) == SLOT).count();
-        Stored { head: Head { two_sided, gap, width, body }, sheet, layout }
+        let charge = sheet.get(1).filter(|word| kind(**word) == CHARGE).map(|word| low(*word));
+        let slots = 1 + usize::from(charge.is_some());
+        let body = slots + sheet[slots..].iter().take_while(|word| kind(**word) == SLOT).count();
+        let charge = charge.unwrap_or(0);
+        Stored { head: Head { two_sided, gap, width, charge, slots, body }, sheet, layout }
     }
 
     fn slot_at(&self, place: Place) -> u32 {
@@ -45,7 +48,7 @@ impl<'a> Stored<'a> {
 
     fn tied_at(&self, place: Place, word: u32) -> TiedSite {
         let slot = self.slot_at(place);
-        let height = low(self.sheet[slot as usize + 1]);
+        let height = low(self.sheet[slot as usize + self.head.slots]);
         TiedSite { number: place.tie, x: high(word), y: low(word), colour: place.colours - 1, slot, height }
     }
 
@@ -126,13 +129,21 @@ impl<'a> Stored<'a> {
         length
     }
 
-    /// A site's drop, and its backbone if it is the first of its label.
+    /// A site's share, and its backbone if it is the first of its label.
     fn site_length(&self, site: TiedSite) -> u32 {
-        let drop = site.height.abs_diff(site.y);
+        let share = self.share(site);
         if !self.all_pass(first_pass, site) {
-            return drop;
+            return share;
         }
-        drop + self.head.width - self.left_end(site.slot)
+        share + self.head.width - self.left_end(site.slot)
+    }
+
+    /// A site's drop, and the charge if that is not 0.
+    fn share(&self, site: TiedSite) -> u32 {
+        match site.height.abs_diff(site.y) {
+            0 => 0,
+            drop => drop + self.head.charge,
+        }
     }
 
     fn left_end(&self, slot: u32) -> u32 {

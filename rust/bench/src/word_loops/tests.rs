@@ -53,7 +53,7 @@ fn invented_and_damaged_layouts() {
 #[test]
 fn lawful_layouts_and_damage_to_them() {
     let mut random = Random::new(72);
-    let mut lawful = [0; 2];
+    let (mut lawful, mut charged) = ([0; 2], 0);
     while lawful.iter().sum::<usize>() < LAWFUL_SHEETS {
         let sheet = medium_sheet(&mut random);
         let Some(mut stored) = stored_with_best(&sheet) else {
@@ -61,18 +61,23 @@ fn lawful_layouts_and_damage_to_them() {
         };
         assert_eq!(judged_alike(&stored), (0, 0));
         lawful[usize::from(sheet.two_sided)] += 1;
+        charged += usize::from(sheet.charge.is_some_and(|charge| charge > 0));
         for _ in 0..4 {
             damage(&mut stored, &mut random);
             judged_alike(&stored);
         }
     }
     assert!(lawful.iter().all(|count| *count > LAWFUL_SHEETS / 5), "one-sided, two-sided: {lawful:?}");
+    assert!(charged > LAWFUL_SHEETS / 5, "{charged}");
 }
 
 #[test]
 fn largest_sheets_and_each_word_twice() {
-    let one_sided = stored_with_best(&banded_sheet(24, 32, &[3, 255, 255], 32)).expect("a banded sheet has a layout");
-    for stored in [wide_bars().words, one_sided] {
+    let one_sided = banded_sheet(24, 32, &[3, 255, 255], 32);
+    let charged = Sheet { charge: Some(5), ..one_sided.clone() };
+    let [one_sided, charged] =
+        [one_sided, charged].map(|sheet| stored_with_best(&sheet).expect("a banded sheet has a layout"));
+    for stored in [wide_bars().words, one_sided, charged] {
         assert_eq!(judged_alike(&stored), (0, 0));
         for place in 0..stored.len() {
             let mut longer = stored.clone();
