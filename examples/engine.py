@@ -5,13 +5,15 @@ It ties each site, by rising x, to the nearest slot that no other colour has: qu
 """
 import sys
 
-width = 0
+width = charge = 0
 slots, sites = [], []  # heights; (x, y, colour) in sheet order
 colour = -1
 lines = [line.split("#")[0].rstrip() for line in sys.stdin]
 for words in map(str.split, lines):
     if words[:1] == ["head"]:
         width = int(words[words.index("width") + 1])
+    elif words[:1] == ["charge"]:
+        charge = int(words[1])
     elif words[:1] == ["slot"]:
         slots.append(int(words[1]))
     elif words[:1] == ["colour"]:
@@ -28,7 +30,8 @@ for x, y, colour, site in sorted((*site, number) for number, site in enumerate(s
         print("refused 10")
         sys.exit()
     tie[site] = min(free, key=lambda slot: abs(slots[slot] - y))
-    length += abs(slots[tie[site]] - y)
+    drop = abs(slots[tie[site]] - y)
+    length += drop + charge if drop else 0
     left_end.setdefault(tie[site], x)
     colour_of[tie[site]] = colour
 length += sum(width - x for x in left_end.values())
