@@ -27,6 +27,35 @@ fn sheet_a_and_its_heads() {
     assert_eq!(laid_out(&[0x10008008]), Ok((0, 0, vec![])), "head alone");
 }
 
+/// No layout of sheet A with as few labels has a site on its backbone: a charge adds three times itself, and the same is
+/// first among the equals.
+#[test]
+fn sheet_a_with_charges() {
+    for charge in [0, 1, 16383] {
+        let charged = |head: u32| [&[head, 0x50000000 | charge], &SHEET_A[1..]].concat();
+        assert_eq!(laid_out(&charged(0x10008008)), Ok((2, 19 + 3 * charge, vec![0, 0, 2])));
+        assert_eq!(laid_out(&charged(0x18008008)), Err(Refusal::TwoSided), "two-sided");
+        assert_eq!(laid_out(&charged(0x10010008)), Err(Refusal::NoLayout), "gap 4");
+    }
+    assert_eq!(laid_out(&[0x10008008, 0x50003FFF]), Ok((0, 0, vec![])), "head and charge alone");
+}
+
+/// Sites at heights 4, 7 and 7, slots at 4 and 6, a backbone of 7: at slot 0 two drops, 6 together, at slot 1 three, 4
+/// together. With a charge of 2 they are equals, and the lower slot comes first.
+#[test]
+fn a_charge_alters_the_best_layout() {
+    let rest = [0x20000004, 0x20000006, 0x300000FF, 0x40004004, 0x40008007, 0x4000C007];
+    for head in [0x10008008, 0x14008008] {
+        let with = |charge: u32| laid_out(&[&[head, 0x50000000 | charge], &rest[..]].concat());
+        assert_eq!(laid_out(&[&[head], &rest[..]].concat()), Ok((1, 7 + 4, vec![1, 1, 1])));
+        assert_eq!(with(0), Ok((1, 7 + 4, vec![1, 1, 1])));
+        assert_eq!(with(1), Ok((1, 7 + 4 + 3, vec![1, 1, 1])));
+        assert_eq!(with(2), Ok((1, 7 + 6 + 2 * 2, vec![0, 0, 0])));
+        assert_eq!(with(3), Ok((1, 7 + 6 + 2 * 3, vec![0, 0, 0])));
+        assert_eq!(with(16383), Ok((1, 7 + 6 + 2 * 16383, vec![0, 0, 0])));
+    }
+}
+
 #[test]
 fn first_answer_word_of_a() {
     assert_eq!(make_in_enough(&SHEET_A, &mut Random::new(1)).map(|words| words[0]), Ok(0x80400013));

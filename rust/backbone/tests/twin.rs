@@ -56,7 +56,7 @@ fn areas_of_a_twin() {
 fn a_charge_stays() {
     for charge in [0, 1, 16383] {
         let word = 0x50000000 | charge;
-        let layout = |length: u32| [0x80400000 | length + 3 * charge, 0x90000000, 0x90000000, 0x90000002];
+        let layout = |length: u32| [0x80400000 | (length + 3 * charge), 0x90000000, 0x90000000, 0x90000002];
         let stored = [&[0x18008008, word], &SHEET_A[1..], &layout(25)].concat();
         let expected = [&[0x10008008, word], &SHEET_A[1..], &layout(19)].concat();
         assert_eq!(twin_in_dirt(&stored, 14, &mut Random::new(325)).as_ref(), Ok(&expected), "{charge}");

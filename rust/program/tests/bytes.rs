@@ -91,6 +91,19 @@ fn sheet_a_is_printed_as_drawn() {
     });
 }
 
+/// Its three sites are off their backbones, so a charge of 5 adds 15; a second charge is refused.
+#[test]
+fn sheet_a_with_a_charge() {
+    with_runner(|runner| {
+        let lines = "labels 2 length 34\nsite 0 colour 0 slot 0\nsite 1 colour 0 slot 0\nsite 2 colour 1 slot 2\n";
+        let charged = [&SHEET_A[..1], &[0x50000005], &SHEET_A[1..]].concat();
+        assert_eq!(runner.run(&bytes(&charged)).as_deref(), Ok(lines));
+        let twice = [&charged[..2], &charged[1..]].concat();
+        assert_eq!(runner.run(&bytes(&twice)).as_deref(), Ok("refused 2\n"));
+        assert_eq!(runner.run(&bytes(&charged[1..])).as_deref(), Ok("refused 1\n"));
+    });
+}
+
 /// The lines of the program in vectors.txt, where / stands for a line feed and the last one is left out.
 #[test]
 fn vectors_are_printed() {
