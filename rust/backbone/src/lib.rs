@@ -31,8 +31,8 @@
 //! Two-sided sheets, whose backbones reach from edge to edge, are read and judged, but no longer laid out. [`twin`] turns
 //! a stored one into a one-sided one.
 //!
-//! Editors dislike many short drops: a sheet may have a charge ([`Sheet::set_charge`]), which each site off its backbone adds
-//! to the length. [`Sheet::share`] is a site's part of the length.
+//! Editors dislike many short drops: a sheet may have a charge ([`Sheet::set_charge`]), which each site off its backbone
+//! adds to the length. [`Sheet::share`] is a site's part of the length.
 //!
 //! One unit of length is an eighth of a printer's point. x counts from the left edge, heights downwards from the
 //! top.

@@ -170,8 +170,7 @@ pub fn lay_out(sheet: &[u32]) -> Result<Layout, Refusal> {
 ///
 /// A lawful two-sided sheet's twin differs from it in the side and in the length, which is the true one of the same ties
 /// on the one-sided sheet, and is not greater; a charge word stays. The twin is lawful. A lawful one-sided sheet is its own
-/// twin. A refusal
-/// leaves the area as it was, and places past the twin keep what they hold.
+/// twin. A refusal leaves the area as it was, and places past the twin keep what they hold.
 ///
 /// ```
 /// use backbone::{twin, Refusal};

@@ -46,8 +46,8 @@ impl Sheet {
         Sheet { side, aim, gap, width, charge: None, slots: Vec::new(), bounds: Vec::new(), sites: Vec::new() }
     }
 
-    /// Sets the charge, from 0 to 16,383, which each site off its backbone adds to the length; or takes its word away, which
-    /// is a charge of 0 too. A charge of 0 that is set has its word.
+    /// Sets the charge, from 0 to 16,383, which each site off its backbone adds to the length; a charge of 0 has its word too.
+    /// None takes the word away.
     ///
     /// ```
     /// use backbone::{Aim, Sheet, Side};
@@ -125,7 +125,7 @@ impl Sheet {
     pub fn share(&self, drop: u32) -> u32 {
         match drop {
             0 => 0,
-            _ => drop + self.charge.unwrap_or(0),
+            _ => drop.saturating_add(self.charge.unwrap_or(0)),
         }
     }
 

@@ -15,36 +15,17 @@ pub enum Aim {
     Shortest,
 }
 
-/// One word of a sheet or of a layout, by its fields.
+/// One word of a sheet or of a layout, by its fields. A charge, which each site off its backbone adds to the length, stands
+/// right after the head or nowhere.
 #[derive(Clone, Copy, Debug, PartialEq, Eq)]
 pub enum Word {
-    Head {
-        side: Side,
-        aim: Aim,
-        gap: u32,
-        width: u32,
-    },
-    /// What each site off its backbone adds to the length. It stands right after the head, or nowhere.
-    Charge {
-        charge: u32,
-    },
-    Slot {
-        height: u32,
-    },
-    Colour {
-        bound: u8,
-    },
-    Site {
-        x: u32,
-        y: u32,
-    },
-    Layout {
-        labels: u32,
-        length: u32,
-    },
-    Tie {
-        slot: u8,
-    },
+    Head { side: Side, aim: Aim, gap: u32, width: u32 },
+    Charge { charge: u32 },
+    Slot { height: u32 },
+    Colour { bound: u8 },
+    Site { x: u32, y: u32 },
+    Layout { labels: u32, length: u32 },
+    Tie { slot: u8 },
 }
 
 const COORDINATE_BITS: u32 = 14;

@@ -13,9 +13,8 @@
 //! ```
 //!
 //! A charge word is `"charge": 3` after the width. A bound of null, or none, is "unbounded"; names may be left out.
-//! `"refused": 10` in place of the layout says that
-//! its writer found none. A list of words that is not in the order of a stored sheet is `{"words": ["0x20000005", ..]}`,
-//! with `"names": {"colours": [..], "sites": [..]}` where there are any.
+//! `"refused": 10` in place of the layout says that its writer found none. A list of words that is not in the order of a
+//! stored sheet is `{"words": ["0x20000005", ..]}`, with `"names": {"colours": [..], "sites": [..]}` where there are any.
 
 use crate::json::{quote, Json, Value};
 use crate::{show_number, Names, Record, TextError};

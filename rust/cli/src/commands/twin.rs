@@ -17,8 +17,8 @@ pub const SUBCOMMAND: Subcommand = Subcommand {
     text: "\
 Two-sided sheets, whose backbones reach from edge to edge, are read, judged, drawn and converted, but no longer laid
 out. Reads a stored sheet in any form and writes its one-sided twin: the side is another, the length is the true one of
-the same ties on the one-sided sheet, and all else is as it was, charge and names too. The twin is lawful, has as many labels,
-and its length is not greater. A lawful one-sided sheet comes back as it is.
+the same ties on the one-sided sheet, and all else is as it was, charge and names too. The twin is lawful, has as many
+labels, and its length is not greater. A lawful one-sided sheet comes back as it is.
 
 Whether the twin is the best layout of its sheet is not said here: `backbone check` says it, and `backbone lay-out` lays
 the sheet out anew. Its best layout is never worse than the best two-sided one was.
