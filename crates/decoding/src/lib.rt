@@ -7,7 +7,7 @@ ghost use lib.Dec.{eqb};
 ghost use Prim.Native.Nat.{_+_, _<_, _≤_};
 ghost use lib.ListN.{length, drop};
 ghost use Rattle.sheet.specs.Limits.{mostSlots, mostColours, mostSites, topWord};
-ghost use Rattle.sheet.specs.Sheet.{coloursIn, sheetIn, sheetFault};
+ghost use Rattle.sheet.specs.Sheet.{slotsIn, coloursIn, sitesIn, sheetIn, sheetFault};
 ghost use Rattle.sheet.specs.Words.{countKind};
 ghost use Rattle.decoding.specs.Decoding.{numbersBy, noNumbers, headBy, boundsOf, siteCountsOf, xsOf, ysOf, coloursOf, collected, siteColours};
 use words::BYTE_TOP;
@@ -106,63 +106,63 @@ fn count_sites(body: &[u32], out: &mut [u32])
     }
 }
 
-// ---- the arrays of an accepted sheet, whole: zeros past its numbers
+// ---- the arrays of an accepted sheet's body, whole: zeros past its numbers
 
 // All slots' heights.
-fn heights_of(sheet: &[u32]) -> [u32; MOST_SLOTS]
-    requires { ⌜ sheetFault (now sheet) ≡ 0 ⌝ }
-    ensures { λ r. ⌜ r ≡ padded mostSlots (sheetIn (now (sheet .entry)) .slots) ⌝ }
+fn heights_of(body: &[u32]) -> [u32; MOST_SLOTS]
+    requires { ⌜ countKind 2 (now body) ≤ mostSlots ⌝ }
+    ensures { λ r. ⌜ r ≡ padded mostSlots (slotsIn (now (body .entry))) ⌝ }
 {
     let mut out = [0u32; MOST_SLOTS];
-    collect(body_of(sheet), SLOT, 1, NUMBER_TOP, &mut out);
+    collect(body, SLOT, 1, NUMBER_TOP, &mut out);
     out
 }
 
 // All colours' bounds.
-fn bounds_of(sheet: &[u32]) -> [u32; MOST_COLOURS]
-    requires { ⌜ sheetFault (now sheet) ≡ 0 ⌝ }
-    ensures { λ r. ⌜ r ≡ padded mostColours (boundsOf (sheetIn (now (sheet .entry)) .colours)) ⌝ }
+fn bounds_of(body: &[u32]) -> [u32; MOST_COLOURS]
+    requires { ⌜ countKind 3 (now body) ≤ mostColours ⌝ }
+    ensures { λ r. ⌜ r ≡ padded mostColours (boundsOf (coloursIn (now (body .entry)))) ⌝ }
 {
     let mut out = [0u32; MOST_COLOURS];
-    collect(body_of(sheet), COLOUR, 1, BYTE_TOP, &mut out);
+    collect(body, COLOUR, 1, BYTE_TOP, &mut out);
     out
 }
 
 // How many sites each colour has.
-fn site_counts_of(sheet: &[u32]) -> [u32; MOST_COLOURS]
-    requires { ⌜ sheetFault (now sheet) ≡ 0 ⌝ }
-    ensures { λ r. ⌜ r ≡ padded mostColours (siteCountsOf (sheetIn (now (sheet .entry)) .colours)) ⌝ }
+fn site_counts_of(body: &[u32]) -> [u32; MOST_COLOURS]
+    requires { ⌜ (countKind 3 (now body) ≤ mostColours) × (countKind 4 (now body) ≤ mostSites) ⌝ }
+    ensures { λ r. ⌜ r ≡ padded mostColours (siteCountsOf (coloursIn (now (body .entry)))) ⌝ }
 {
     let mut out = [0u32; MOST_COLOURS];
-    count_sites(body_of(sheet), &mut out);
+    count_sites(body, &mut out);
     out
 }
 
 // All sites' x, y and colours, in sheet order.
-fn xs_of(sheet: &[u32]) -> [u32; MOST_SITES]
-    requires { ⌜ sheetFault (now sheet) ≡ 0 ⌝ }
-    ensures { λ r. ⌜ r ≡ padded mostSites (xsOf (sheetIn (now (sheet .entry)) .sites)) ⌝ }
+fn xs_of(body: &[u32]) -> [u32; MOST_SITES]
+    requires { ⌜ countKind 4 (now body) ≤ mostSites ⌝ }
+    ensures { λ r. ⌜ r ≡ padded mostSites (xsOf (sitesIn 0 (now (body .entry)))) ⌝ }
 {
     let mut out = [0u32; MOST_SITES];
-    collect(body_of(sheet), SITE, NUMBER_TOP, NUMBER_TOP, &mut out);
+    collect(body, SITE, NUMBER_TOP, NUMBER_TOP, &mut out);
     out
 }
 
-fn ys_of(sheet: &[u32]) -> [u32; MOST_SITES]
-    requires { ⌜ sheetFault (now sheet) ≡ 0 ⌝ }
-    ensures { λ r. ⌜ r ≡ padded mostSites (ysOf (sheetIn (now (sheet .entry)) .sites)) ⌝ }
+fn ys_of(body: &[u32]) -> [u32; MOST_SITES]
+    requires { ⌜ countKind 4 (now body) ≤ mostSites ⌝ }
+    ensures { λ r. ⌜ r ≡ padded mostSites (ysOf (sitesIn 0 (now (body .entry)))) ⌝ }
 {
     let mut out = [0u32; MOST_SITES];
-    collect(body_of(sheet), SITE, 1, NUMBER_TOP, &mut out);
+    collect(body, SITE, 1, NUMBER_TOP, &mut out);
     out
 }
 
-fn colours_of(sheet: &[u32]) -> [u32; MOST_SITES]
-    requires { ⌜ sheetFault (now sheet) ≡ 0 ⌝ }
-    ensures { λ r. ⌜ r ≡ padded mostSites (coloursOf (sheetIn (now (sheet .entry)) .sites)) ⌝ }
+fn colours_of(body: &[u32]) -> [u32; MOST_SITES]
+    requires { ⌜ (countKind 4 (now body) ≤ mostSites) × (countKind 3 (now body) ≤ mostColours) ⌝ }
+    ensures { λ r. ⌜ r ≡ padded mostSites (coloursOf (sitesIn 0 (now (body .entry)))) ⌝ }
 {
     let mut out = [0u32; MOST_SITES];
-    site_colours(body_of(sheet), &mut out);
+    site_colours(body, &mut out);
     out
 }
 
@@ -216,12 +216,12 @@ pub fn numbers_of(sheet: &[u32]) -> Numbers
     let slots = count_kind(body, SLOT);
     let kinds = count_kind(body, COLOUR);
     let sites = count_kind(body, SITE);
-    let heights = heights_of(sheet);
-    let bounds = bounds_of(sheet);
-    let site_counts = site_counts_of(sheet);
-    let xs = xs_of(sheet);
-    let ys = ys_of(sheet);
-    let colours = colours_of(sheet);
+    let heights = heights_of(body);
+    let bounds = bounds_of(body);
+    let site_counts = site_counts_of(body);
+    let xs = xs_of(body);
+    let ys = ys_of(body);
+    let colours = colours_of(body);
     Numbers {
         head: head,
         slots: slots,

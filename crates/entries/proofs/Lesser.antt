@@ -8,9 +8,12 @@ use borrow.Author.Tests.{lt-ltb, le-ltb}
 use Rattle.search.specs.Cost.{plus}
 use Rattle.optimum.specs.OneSided.{topWord}
 
+pub lesser-uncapped : (old a b : ℕ) → old ≤ topWord → min old (a + b) ≡ min old (plus topWord a b)
+unfolding plus
+lesser-uncapped old a b h = omega arith
+
 pub opened-past : (old u n x : ℕ) → old ≤ topWord → n ≤ u → old ≡ min old (cond (ltb u n) x topWord)
 opened-past old u n x h l = rw (le-ltb u n l) (omega arith)
 
-pub opened-by : (old u n c x : ℕ) → old ≤ topWord → u < n → min old (c + x) ≡ min old (cond (ltb u n) (plus topWord c x) topWord)
-unfolding plus
-opened-by old u n c x h l = rw (lt-ltb u n l) (omega arith)
+pub opened-by : (old u n x : ℕ) → u < n → min old x ≡ min old (cond (ltb u n) x topWord)
+opened-by old u n x l = rw (lt-ltb u n l)

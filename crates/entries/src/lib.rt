@@ -18,8 +18,18 @@ use strips::Window;
 use words::NONE;
 use words::both;
 use words::either;
-use words::lesser;
 use words::same;
+
+// The lesser of a cost and of the sum of two. The sum needs no cap: what is above every cost is not the lesser.
+fn lesser_sum(old: u32, a: u32, b: u32) -> u32
+    ensures { λ r. ⌜ r ≡ min old (plus topWord a b) ⌝ }
+{
+    let t = (a as u64) + (b as u64);
+    if t < old as u64 {
+        return t as u32;
+    }
+    old
+}
 
 // A row's n words are those of the row at `from`.
 fn copy_row(work: &mut [u32], base: usize, from: usize, n: usize)
@@ -40,10 +50,7 @@ fn start_row(work: &mut [u32], base: usize, up: usize, rise: u32, down: usize, f
 {
     let mut v: usize = 0;
     while v < n {
-        let t = lesser(
-            words::plus_of(rise, work[up + v]),
-            words::plus_of(fall, work[down + v]),
-        );
+        let t = lesser_sum(words::plus_of(rise, work[up + v]), fall, work[down + v]);
         work[base + v] = t;
         v += 1;
     }
@@ -90,11 +97,11 @@ fn opened(
     if n <= u {
         return old;
     }
-    let t = (cost as u64) + (least_split(parts, counts, work, upper, work, lower, u) as u64);
-    if t < old as u64 {
-        return t as u32;
-    }
-    old
+    lesser_sum(
+        old,
+        cost,
+        least_split(parts, counts, work, upper, work, lower, u),
+    )
 }
 
 // Opens a label that costs `cost` in a row; `left` says what it leaves of each budget, which the rows at `upper` and `lower` share.
@@ -209,7 +216,7 @@ fn least_open(
         let cost = strips::open_cost(q, heights, s, k);
         let turn = strips::turn_at(heights, s, k);
         let parts = parts::parts_cost(work, q, m, p, s, low, k, turn);
-        best = lesser(best, words::plus_of(cost, parts));
+        best = lesser_sum(best, cost, parts);
         k += 1;
     }
     best

@@ -39,9 +39,8 @@ pub fn share_of(charge: u32, h: u32, y: u32) -> u32
     requires { ⌜ (charge < signTop) × (h < signTop) × (y < signTop) ⌝ }
     ensures { λ r. ⌜ r ≡ shareBy charge h y ⌝ }
 {
-    let size = magnitude(drop_of(h, y));
-    if size == 0 {
+    if h == y {
         return 0;
     }
-    size + charge
+    magnitude(drop_of(h, y)) + charge
 }

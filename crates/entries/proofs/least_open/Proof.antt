@@ -38,28 +38,25 @@ parts-cost-requires c κs =
     let p = c .before .before .before .before .before .before .before .pre in
     ((p .fits, p .lies), (p .site .colourLow, omega (arith, p .high, c .before .before .if1 .taken), rw (c .turn-at .ensures) (turn-low _ _ _)))
 
-plus-of-requires : tie.Need-plus-of-requires Inv-loop μ-loop
-plus-of-requires c κs = search needs
-
-lesser-requires : tie.Need-lesser-requires Inv-loop μ-loop
-lesser-requires c κs = search needs
+lesser-sum-requires : tie.Need-lesser-sum-requires Inv-loop μ-loop
+lesser-sum-requires c κs = search needs
 
 add-k : tie.Need-add-k Inv-loop μ-loop
 add-k c =
-    omega (arith, c .before .before .before .before .before .if1 .taken)
+    omega (arith, c .before .before .before .before .if1 .taken)
 
 loop-less : tie.Need-loop-less Inv-loop μ-loop
 loop-less c =
-    omega (arith, c .before .before .before .before .before .if1 .taken)
+    omega (arith, c .before .before .before .before .if1 .taken)
 
 loop-again : tie.Need-loop-again Inv-loop μ-loop
 loop-again c =
-    let a = c .before .before .before .before .before .before .before .before .before .before .args in
-    let l = c .before .before .before .before .before .before .before .loop in
+    let a = c .before .before .before .before .before .before .before .before .before .args in
+    let l = c .before .before .before .before .before .before .loop in
     let f : l .k + 1 - a .window .from ≡ l .k - a .window .from + 1 = omega (arith, l .inv .0) in
     let g : a .window .from + (l .k - a .window .from) ≡ l .k = omega (arith, l .inv .0) in
-    let t = c .before .plus-of .ensures ∙ ap₂ (plus topWord) (c .before .before .before .before .open-cost .ensures) (rw (c .before .before .before .turn-at .ensures) at (c .before .before .parts-cost .ensures)) in
-    (omega (arith, l .inv .0), omega (arith, c .before .before .before .before .before .if1 .taken), rw f (c .lesser .ensures ∙ single-more (a .old) (l .best) _ (l .k - a .window .from) _ (l .inv .2) (rw g t)))
+    let t = ap₂ (plus topWord) (c .before .before .before .open-cost .ensures) (rw (c .before .before .turn-at .ensures) at (c .before .parts-cost .ensures)) in
+    (omega (arith, l .inv .0), omega (arith, c .before .before .before .before .if1 .taken), rw f (c .lesser-sum .ensures ∙ single-more (a .old) (l .best) _ (l .k - a .window .from) _ (l .inv .2) (rw g t)))
 
 returns : tie.Need-returns Inv-loop μ-loop
 returns c =
@@ -78,8 +75,7 @@ least-open-spec =
     open-cost-requires
     turn-at-requires
     parts-cost-requires
-    plus-of-requires
-    lesser-requires
+    lesser-sum-requires
     add-k
     loop-less
     loop-again

@@ -31,49 +31,46 @@ slice-read-plus-of c = omega (arith, c .before .before .before .before .pre .upp
 plus-of-requires : tie.Need-plus-of-requires Inv-loop μ-loop
 plus-of-requires c κs = search needs
 
-add-plus-of-2 : tie.Need-add-plus-of-2 Inv-loop μ-loop
-add-plus-of-2 c = omega (arith, c .before .before .before .before .before .pre .lowerIn, c .before .before .before .loop .inv .1 .long)
+add-lesser-sum : tie.Need-add-lesser-sum Inv-loop μ-loop
+add-lesser-sum c = omega (arith, c .before .before .before .before .before .pre .lowerIn, c .before .before .before .loop .inv .1 .long)
 
-mul-plus-of-2 : tie.Need-mul-plus-of-2 Inv-loop μ-loop
-mul-plus-of-2 c = omega (arith, c .before .before .before .before .before .pre .lowerIn, c .before .before .before .loop .inv .1 .long)
+mul-lesser-sum : tie.Need-mul-lesser-sum Inv-loop μ-loop
+mul-lesser-sum c = omega (arith, c .before .before .before .before .before .pre .lowerIn, c .before .before .before .loop .inv .1 .long)
 
-slice-read-plus-of-2 : tie.Need-slice-read-plus-of-2 Inv-loop μ-loop
-slice-read-plus-of-2 c = omega (arith, c .before .before .before .before .before .before .pre .lowerIn, c .before .before .before .before .loop .inv .1 .long)
+slice-read-lesser-sum : tie.Need-slice-read-lesser-sum Inv-loop μ-loop
+slice-read-lesser-sum c = omega (arith, c .before .before .before .before .before .before .pre .lowerIn, c .before .before .before .before .loop .inv .1 .long)
 
-plus-of-requires-2 : tie.Need-plus-of-requires-2 Inv-loop μ-loop
-plus-of-requires-2 c κs = search needs
-
-lesser-requires : tie.Need-lesser-requires Inv-loop μ-loop
-lesser-requires c κs = search needs
+lesser-sum-requires : tie.Need-lesser-sum-requires Inv-loop μ-loop
+lesser-sum-requires c κs = search needs
 
 -- the word that is written stands before both rows
-before-both : (c : tie.After-lesser Inv-loop μ-loop) → c .before .before .before .before .before .before .before .before .args .base + c .before .before .before .before .before .before .loop .v + 1 ≤ c .before .before .before .before .before .before .before .before .args .up
-before-both c = omega (arith, c .before .before .before .before .before .before .before .before .pre .upperApart, c .before .before .before .before .before .loop-test .taken)
+before-both : (c : tie.After-lesser-sum Inv-loop μ-loop) → c .before .before .before .before .before .before .before .args .base + c .before .before .before .before .before .loop .v + 1 ≤ c .before .before .before .before .before .before .before .args .up
+before-both c = omega (arith, c .before .before .before .before .before .before .before .pre .upperApart, c .before .before .before .before .loop-test .taken)
 
 add-work : tie.Need-add-work Inv-loop μ-loop
-add-work c = omega (arith, before-both c, c .before .before .before .before .before .before .before .before .pre .upperIn, c .before .before .before .before .before .before .loop .inv .1 .long)
+add-work c = omega (arith, before-both c, c .before .before .before .before .before .before .before .pre .upperIn, c .before .before .before .before .before .loop .inv .1 .long)
 
 mul-work : tie.Need-mul-work Inv-loop μ-loop
-mul-work c = omega (arith, before-both c, c .before .before .before .before .before .before .before .before .pre .upperIn, c .before .before .before .before .before .before .loop .inv .1 .long)
+mul-work c = omega (arith, before-both c, c .before .before .before .before .before .before .before .pre .upperIn, c .before .before .before .before .before .loop .inv .1 .long)
 
 slice-write-work : tie.Need-slice-write-work Inv-loop μ-loop
-slice-write-work c = omega (arith, before-both c, c .before .before .before .before .before .before .before .before .pre .upperIn, c .before .before .before .before .before .before .loop .inv .1 .long)
+slice-write-work c = omega (arith, before-both c, c .before .before .before .before .before .before .before .pre .upperIn, c .before .before .before .before .before .loop .inv .1 .long)
 
 add-v : tie.Need-add-v Inv-loop μ-loop
-add-v c = omega (arith, before-both c, c .before .before .before .before .before .before .before .before .pre .upperIn, c .before .before .before .before .before .before .loop .inv .1 .long)
+add-v c = omega (arith, before-both c, c .before .before .before .before .before .before .before .pre .upperIn, c .before .before .before .before .before .loop .inv .1 .long)
 
 loop-less : tie.Need-loop-less Inv-loop μ-loop
 loop-less c = search needs
 
 loop-again : tie.Need-loop-again Inv-loop μ-loop
 loop-again c =
-    let l = c .before .before .before .before .before .before .loop in
-    let a = c .before .before .before .before .before .before .before .before .args in
-    let p = c .before .before .before .before .before .before .before .before .pre in
-    let u = c .before .before .before .plus-of .ensures ∙ ap (plus topWord (a .rise)) (l .inv .1 .after (a .up + l .v) (omega (arith, p .upperApart, c .before .before .before .before .before .loop-test .taken))) in
-    let d = c .before .plus-of2 .ensures ∙ ap (plus topWord (a .fall)) (l .inv .1 .after (a .down + l .v) (omega (arith, p .lowerApart, c .before .before .before .before .before .loop-test .taken))) in (
-      omega (arith, c .before .before .before .before .before .loop-test .taken),
-      written-more (a .work .now) (l .work) (a .base) (l .v) _ _ (omega (arith, before-both c, p .upperIn, l .inv .1 .long)) (c .lesser .ensures ∙ ap₂ (λ (x y : ℕ). min x y) u d) (l .inv .1),
+    let l = c .before .before .before .before .before .loop in
+    let a = c .before .before .before .before .before .before .before .args in
+    let p = c .before .before .before .before .before .before .before .pre in
+    let u = c .before .before .plus-of .ensures ∙ ap (plus topWord (a .rise)) (l .inv .1 .after (a .up + l .v) (omega (arith, p .upperApart, c .before .before .before .before .loop-test .taken))) in
+    let d = ap (plus topWord (a .fall)) (l .inv .1 .after (a .down + l .v) (omega (arith, p .lowerApart, c .before .before .before .before .loop-test .taken))) in (
+      omega (arith, c .before .before .before .before .loop-test .taken),
+      written-more (a .work .now) (l .work) (a .base) (l .v) _ _ (omega (arith, before-both c, p .upperIn, l .inv .1 .long)) (c .lesser-sum .ensures ∙ ap₂ (λ (x y : ℕ). min x y) u d) (l .inv .1),
     )
 
 same-length : tie.Need-same-length Inv-loop μ-loop
@@ -98,11 +95,10 @@ start-row-spec =
     mul-plus-of
     slice-read-plus-of
     plus-of-requires
-    add-plus-of-2
-    mul-plus-of-2
-    slice-read-plus-of-2
-    plus-of-requires-2
-    lesser-requires
+    add-lesser-sum
+    mul-lesser-sum
+    slice-read-lesser-sum
+    lesser-sum-requires
     add-work
     mul-work
     slice-write-work
