@@ -172,7 +172,12 @@ sum-firsts p f js m (suc n) h = ap (λ (z : ℕ). z + cond (isFirst p js n) (f j
         (by-test (t j) (λ q. rw q (omega (arith, where-same (λ k. t k || eqb j k) t f 0 m (λ k l. again q k))))
         λ q. rw q (omega (arith, where-more t f j 0 m (omega arith) (omega (arith, h n (omega arith))) q)))
 
--- front of a sum
+-- a sum of sums, and the front of one
+pub sum-plus : (f g : ℕ → ℕ) (n : ℕ) → sumBefore (λ i. f i + g i) n ≡ sumBefore f n + sumBefore g n
+unfolding sumBefore
+sum-plus f g zero = refl
+sum-plus f g (suc n) = omega (arith, sum-plus f g n)
+
 pub sum-front : (f : ℕ → ℕ) (n : ℕ) → sumBefore f (suc n) ≡ f 0 + sumBefore (λ i. f (suc i)) n
 unfolding sumBefore
 sum-front f zero = omega arith

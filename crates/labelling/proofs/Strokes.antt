@@ -1,5 +1,5 @@
--- THE STROKES' PROMISES, KEPT: as many backbones as labels, as many drops as sites off their backbone, lengths that add up to the stated one,
--- and no end right of W. And the refusal of who asks for a stroke, by its causes. Assumes nothing.
+-- THE STROKES' PROMISES, KEPT: as many backbones as labels, as many drops as sites off their backbone, lengths that with the charges of these
+-- add up to the stated one, and no end right of W. And the refusal of who asks for a stroke, by its causes. Assumes nothing.
 use mathlib.Core.Path.{_≡_, refl, sym, _∙_, ap, ap₂, fun-ext}
 use mathlib.Core.Bool.{Bool, true, false, cond}
 use mathlib.Core.List.{List, [], _∷_, _++_}
@@ -16,7 +16,7 @@ use Rattle.labelling.specs.Lawful.{RuleSix}
 use Rattle.labelling.specs.Strokes.{Stroke, boneOf, dropOf, isOff, listed, bonesOf, dropsOf, strokesOf, strokesIn, noStroke, strokeFault, sumOf, oneBone, oneDrop, unitsOf, sitesOff, chargesOff, EndsInside, StrokesAddUp}
 use Rattle.labelling.proofs.Distances.{off-none, off-some, share-on, share-off}
 use Rattle.labelling.proofs.Members.{all-at, leastX-width}
-use Rattle.labelling.proofs.Counted.{sumWhere, over-used, length-over, backbones-over, sum-front, drops-counted}
+use Rattle.labelling.proofs.Counted.{sumWhere, over-used, length-over, backbones-over, sum-front, sum-plus, drops-counted}
 use Rattle.labelling.proofs.Refusals.{stroke-chain}
 use Rattle.labelling.proofs.Stored.{stored-accepted, stored-layout, stored-lawful}
 use Rattle.labelling.proofs.Words.{formed, formed-long}
@@ -60,12 +60,6 @@ where-before t f h a (suc n) e =
 
 where-all : (t : ℕ → Bool) (f h : ℕ → ℕ) (n : ℕ) → ((i : ℕ) → cond (t i) (f i) 0 ≡ h i) → sumWhere t f 0 n ≡ sumBefore h n
 where-all t f h n e = where-before t f h 0 n (λ i. let z : 0 + i ≡ i = omega arith in ap (λ (k : ℕ). cond (t k) (f k) 0) z ∙ e i)
-
--- of two numbers for each
-sum-two : (f g h : ℕ → ℕ) → ((i : ℕ) → f i + g i ≡ h i) → (n : ℕ) → sumBefore f n + sumBefore g n ≡ sumBefore h n
-unfolding sumBefore
-sum-two f g h e zero = refl
-sum-two f g h e (suc n) = omega (arith, sum-two f g h e n, e n)
 
 -- EACH listed stroke
 each-listed : (P : Stroke → Type 0) (t : ℕ → Bool) (f : ℕ → Stroke) (a n : ℕ) → ((k : ℕ) → k < a + n → P (f k)) →
@@ -149,7 +143,8 @@ module _ (s : Sheet) (js : List ℕ) where
       let bones-units =
       ap (λ (f : ℕ → ℕ). sumWhere used f 0 (length (s .slots))) (fun-ext bone-units) ∙ sym (over-used (λ k. s .width - leftEnd s js k) 0 (length (s .slots)) js) ∙
       sym (backbones-over s js (usedOf s js)) in
-      let shares = sum-two (λ i. cond (off i) (unitsOf (drop i)) 0) (λ i. cond (off i) (s .charge) 0) share drop-units n in
+      let shares =
+      sym (sum-plus (λ i. cond (off i) (unitsOf (drop i)) 0) (λ i. cond (off i) (s .charge) 0) n) ∙ ap (λ (f : ℕ → ℕ). sumBefore f n) (fun-ext drop-units) in
       omega (arith, sum-both unitsOf, drops-units, bones-units, charges-before n, shares, drops-counted s js long)
 
   -- NO STROKE leaves the drawing

@@ -14,7 +14,7 @@ use borrow.Author.Tests.{eq-eqb, ne-eqb, lt-leb, le-leb}
 use Rattle.lists.proofs.Tests.{by-test, by-order, by-equal}
 use Rattle.sheet.specs.Limits.{lengthTop, countTop}
 use Rattle.sheet.specs.Refusals.{given}
-use Rattle.sheet.specs.Sheet.{kindOf, bits, Sheet, headIn, isCharge, chargeAt, sheetIn, sheetFault}
+use Rattle.sheet.specs.Sheet.{kindOf, bits, Sheet, isCharge, chargeAt, sheetIn, sheetFault}
 use Rattle.sheet.proofs.Accepted.{Sound, sound, some-words}
 use Rattle.sheet.proofs.Charge.{body-kept}
 use Rattle.labelling.specs.Layout.{Tied, siteAt, heightOf, leftEnd, counts, siteShare, backbones, drops, lengthOf, usedOf, tied, firstNumber, secondNumber, best, firstWord, statedCount, statedLength, tiesAt, layoutTies, isLayout, sheetPart, layoutPart, judgeFault, judged, storedFault, shareBy}

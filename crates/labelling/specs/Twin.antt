@@ -2,10 +2,10 @@
 -- of words, and what is promised of it; a proof of a promise's type is the theorem (proofs/Twin). Assumes nothing: these are definitions.
 use mathlib.Core.Path.{_≡_}
 use mathlib.Core.Logic.{_⊎_}
-use mathlib.Core.Bool.{true, false, not, cond}
+use mathlib.Core.Bool.{true, false, cond}
 use mathlib.Core.List.{List, _∷_, _++_, []}
 use Prim.Native.Nat.{ℕ, _*_, _-_, _≤_, _<_}
-use lib.Dec.{ltb, eqb, leb}
+use lib.Dec.{eqb, leb}
 use lib.ListN.{length, drop}
 use Rattle.sheet.specs.Limits.{sidePlace}
 use Rattle.sheet.specs.Refusals.{Refusal, unless, given}

@@ -12,7 +12,7 @@ use Rattle.sheet.specs.Sheet.{all, insideBy, Site, Sheet, Colour}
 use Rattle.labelling.specs.Layout.{noSite, siteAt, Tied, tieAt, tiedOf, tied, heightOf, usedOf, leastX, leftEnd, colourKept, coloursKept, slotsOf, boundsKept, gapKept, gapsKept, missesAll, clearsAll, countOf, lengthOf, statedCount, statedLength, brokenBy, layoutTies, shareBy}
 use Rattle.labelling.specs.Pairs.{missesPair, clearsPair}
 use Rattle.labelling.specs.Counted.{allBefore, sumBefore, isFirst, anySite}
-use Rattle.labelling.proofs.Counted.{tied-is, count-counted, colour-counted, backbones-counted, drops-counted}
+use Rattle.labelling.proofs.Counted.{tied-is, sum-plus, count-counted, colour-counted, backbones-counted, drops-counted}
 use Rattle.labelling.proofs.Pairs.{rule-four-pairs, rule-five-pairs}
 use Rattle.labelling.proofs.Best.{lowTies}
 use Rattle.labelling.proofs.Rules.{lesser-min}
@@ -70,11 +70,6 @@ bounds-are s js f c (k ∷ ks) e =
     all-front (λ i. boundKept (f i) (getD (boundsOf (k ∷ ks)) i 0)) (length ks) ∙
     ap₂ (λ (n : ℕ) (b : Bool). boundKept n (k .bound) && b) h
     (bounds-are s js (λ i. f (suc i)) (suc c) ks (λ i. let q : c + suc i ≡ suc c + i = omega arith in e (suc i) ∙ ap (λ (n : ℕ). length (usedOf s (slotsOf n (tied s js)))) q))
-
-sum-plus : (f g : ℕ → ℕ) (n : ℕ) → sumBefore (λ i. f i + g i) n ≡ sumBefore f n + sumBefore g n
-unfolding sumBefore
-sum-plus f g zero = refl
-sum-plus f g (suc n) = omega (arith, sum-plus f g n)
 
 -- the first of six tests
 chain : (a b c d e f : Bool) →

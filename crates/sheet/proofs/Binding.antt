@@ -9,7 +9,7 @@ use native.Mathlib.Omega.{arith}
 use lib.Dec.{ltb, leb, eqb}
 use lib.ListN.{length, getD, drop}
 use borrow.Author.Tests.{eqb-true, eq-eqb, ne-eqb, le-leb, leb-true}
-use Rattle.lists.proofs.Tests.{by-test, and-l, and-r, tests}
+use Rattle.lists.proofs.Tests.{by-test, and-l, and-r}
 use Rattle.sheet.specs.Limits.{unbounded, mostBudgets}
 use Rattle.sheet.specs.Refusals.{given}
 use Rattle.sheet.specs.Sheet.{kindOf, bits, hasSpare, inOrder, Site, Colour, Sheet, slotsIn, sitesRun, coloursIn, sitesIn, headIn, isCharge, hasCharge, chargeIn, bodyAt, bodyOf, sheetIn, productOf, isHead, sheetFault, workFor}

@@ -1,15 +1,15 @@
 -- The charge of a sheet and where its body begins: what of the words they depend on. Assumes nothing.
 use mathlib.Core.Path.{_≡_, refl}
-use mathlib.Core.Bool.{true, _&&_}
-use mathlib.Core.List.{List, [], _∷_}
+use mathlib.Core.Bool.{true}
+use mathlib.Core.List.{List, _∷_}
 use Prim.Native.Nat.{ℕ, _≤_, _<_}
 use native.Mathlib.Omega.{arith}
 use lib.Dec.{eqb}
-use lib.ListN.{getD, drop}
+use lib.ListN.{getD}
 use borrow.Author.Tests.{eqb-true}
 use Rattle.lists.proofs.Tests.{by-test, and-l}
 use Rattle.sheet.specs.Limits.{numberTop}
-use Rattle.sheet.specs.Sheet.{kindOf, bits, isCharge, chargeAt, hasCharge, chargeIn, bodyAt, bodyOf}
+use Rattle.sheet.specs.Sheet.{kindOf, bits, isCharge, hasCharge, chargeIn, bodyAt, bodyOf}
 
 pub charge-kind : (w : ℕ) → isCharge w ≡ true → kindOf w ≡ 5
 unfolding isCharge
@@ -19,10 +19,7 @@ charge-kind w h = eqb-true (kindOf w) 5 (and-l (eqb (kindOf w) 5) (eqb (bits w 1
 pub charge-low : (ws : List ℕ) → chargeIn ws < numberTop
 charge-low ws = by-test (hasCharge ws) (λ e. rw e (omega arith)) λ e. rw e (omega arith)
 
--- the body begins after one word or after two
-pub body-some : (ws : List ℕ) → 1 ≤ bodyAt ws
-body-some ws = by-test (hasCharge ws) (λ e. rw e (omega arith)) λ e. rw e (omega arith)
-
+-- the body begins after two words at most
 pub body-near : (ws : List ℕ) → bodyAt ws ≤ 2
 body-near ws = by-test (hasCharge ws) (λ e. rw e (omega arith)) λ e. rw e (omega arith)
 

@@ -34,7 +34,8 @@ pub fn magnitude(d: i32) -> u32
     d as u32
 }
 
-// A site's share of the length, by the charge, the height of its slot and its own: its drop without the sign, and the charge if that isn't zero.
+// A site's share of the length, by the charge, the height of its slot and its own: none on its backbone, else its drop without the sign and the
+// charge.
 pub fn share_of(charge: u32, h: u32, y: u32) -> u32
     requires { ⌜ (charge < signTop) × (h < signTop) × (y < signTop) ⌝ }
     ensures { λ r. ⌜ r ≡ shareBy charge h y ⌝ }

@@ -3,7 +3,6 @@ use Rattle.labelling.specs.Layout.{apart}
 use Rattle.labelling.proofs.Distances.{share-on, share-off}
 use mathlib.Core.Path.{_≡_, sym, _∙_}
 use native.Mathlib.Omega.{arith}
-use borrow.Author.Needs.{needs}
 use Rattle.words.proofs.drops.share_of.Statement.{statement}
 use Rattle.words.proofs.drops.share_of.Tie as tie
 
