@@ -127,9 +127,28 @@ fn places_past_the_last_stroke_have_their_cause() {
     assert!(met > 200, "{met}");
 }
 
+fn first(words: &[u32], refusal: Refusal) -> String {
+    causes(words, refusal)[0].to_string()
+}
+
+#[test]
+fn causes_of_charges_in_words() {
+    let after_colour = [0x10008008, 0x300000FF, 0x50000003];
+    let text = "word 2 is 0x50000003: a charge stands elsewhere than right after the head";
+    assert_eq!(first(&after_colour, Refusal::BadWord), text);
+    let charges = [0x10008008, 0x50004003, 0x50000003];
+    assert_eq!(first(&charges, Refusal::BadWord), "word 1 is 0x50004003: a spare bit is set");
+    let twice = [0x10008008, 0x50000003, 0x50000003];
+    assert_eq!(first(&twice, Refusal::BadWord), "word 2 is 0x50000003: it is a second charge");
+    assert_eq!(causes(&charges, Refusal::BadWord)[1..], causes(&twice, Refusal::BadWord)[..]);
+    assert_eq!(first(&charges[1..], Refusal::NoHead), "word 0 is 0x50004003, no head");
+    let uncharged = [0x10008008, 0x50000003, 0x20000002, 0x300000FF, 0x40008004, 0x80200008, 0x90000000];
+    let text = "rule 6: the layout states 1 label and length 8, but has 1 label and length 11";
+    assert_eq!(first(&uncharged, Refusal::Unlawful), text);
+}
+
 #[test]
 fn causes_in_words() {
-    let first = |words: &[u32], refusal: Refusal| causes(words, refusal)[0].to_string();
     assert_eq!(first(&[], Refusal::NoHead), "there is no word");
     assert_eq!(first(&[0x20000002], Refusal::NoHead), "word 0 is 0x20000002, no head");
     assert_eq!(first(&[0x10008000], Refusal::NoHead), "the head's width is 0");
@@ -139,13 +158,6 @@ fn causes_in_words() {
     assert_eq!(after(0x30000100), "word 2 is 0x30000100: a spare bit is set");
     assert_eq!(after(0x10008008), "word 2 is 0x10008008: a head stands after the first word");
     assert_eq!(after(0x60000000), "word 2 is 0x60000000: it is of no kind that a sheet has");
-    assert_eq!(after(0x50000003), "word 2 is 0x50000003: a charge stands elsewhere than right after the head");
-    let charges = [0x10008008, 0x50004003, 0x50000003];
-    assert_eq!(first(&charges, Refusal::BadWord), "word 1 is 0x50004003: a spare bit is set");
-    let twice = [0x10008008, 0x50000003, 0x50000003];
-    assert_eq!(first(&twice, Refusal::BadWord), "word 2 is 0x50000003: it is a second charge");
-    assert_eq!(causes(&charges, Refusal::BadWord)[1..], causes(&twice, Refusal::BadWord)[..]);
-    assert_eq!(first(&charges[1..], Refusal::NoHead), "word 0 is 0x50004003, no head");
     let site = [0x10008008, 0x40008004];
     assert_eq!(first(&site, Refusal::BadWord), "word 1 is 0x40008004: a site stands before the first colour");
     let sites = [0x10008008, 0x300000FF, 0x40024004, 0x40024005];
@@ -163,9 +175,6 @@ fn causes_in_words() {
     assert_eq!(first(&two_sided[..4], Refusal::TwoSided), "word 0 is 0x18008008, a two-sided head");
     let text = "rule 6: the layout states 1 label and length 8, but has 1 label and length 10";
     assert_eq!(first(&two_sided, Refusal::Unlawful), text);
-    let uncharged = [0x10008008, 0x50000003, 0x20000002, 0x300000FF, 0x40008004, 0x80200008, 0x90000000];
-    let text = "rule 6: the layout states 1 label and length 8, but has 1 label and length 11";
-    assert_eq!(first(&uncharged, Refusal::Unlawful), text);
     assert_eq!(causes(&two_sided[..4], Refusal::Unlawful), []);
     assert_eq!(causes(&stored, Refusal::TwoSided), []);
     let lawful = [&stored[..5], &[0x90000000]].concat();
