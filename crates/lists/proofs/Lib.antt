@@ -2,3 +2,4 @@ pub mod Tests
 pub mod Places
 pub mod Grown
 pub mod Arrays
+pub mod Signed

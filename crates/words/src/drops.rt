@@ -3,7 +3,7 @@ ghost use mathlib.Core.Path.{_≡_};
 ghost use Prim.Native.Nat.{_<_};
 ghost use lib.IntN.{pos, natAbs, _-ℤ_};
 ghost use Rattle.labelling.specs.Layout.{apart, shareBy};
-ghost use Rattle.words.specs.Signs.{signTop};
+ghost use Rattle.lists.specs.Signs.{signTop};
 
 // How far two heights lie apart.
 pub fn apart_of(a: u32, b: u32) -> u32

@@ -21,7 +21,7 @@ impl Random {
         Random(state)
     }
 
-    /// A stream of its own beside this one, which goes on as if nothing had been drawn: for what sheets got later.
+    /// A stream of its own beside this one, which goes on as if nothing had been drawn: a charge alters no other draw.
     fn beside(&self) -> Random {
         Random::of(&[self.0])
     }

@@ -11,7 +11,7 @@ const MOST_WORK_WORDS: u64 = 8192;
 /// Numbers from a linear congruence.
 struct Recipe {
     seed: u32,
-    /// What sheets got after their first form is drawn from a second seed, so that all else is drawn as before.
+    /// Charges are drawn from a second seed, so that they alter no other draw.
     second: u32,
     /// The first slot's height stays where a sheet has no slots.
     first_height: u32,

@@ -1,5 +1,6 @@
 use lib.IntN.{pos, _-ℤ_}
-use Rattle.plain_search.proofs.rules.Signed.{height, diff, fits, back}
+use Rattle.lists.proofs.Signed.{back, diff-size, diff-fits, diff-back}
+use native.Mathlib.Omega.{arith}
 use borrow.Author.Needs.{needs}
 use Rattle.plain_search.proofs.rules.drop_of.Statement.{statement}
 use Rattle.plain_search.proofs.rules.drop_of.Tie as tie
@@ -13,12 +14,12 @@ cast-result-2 c = search needs
 sub-result : tie.Need-sub-result
 sub-result c =
     let h = c .args .label in let y = c .args .y in
-    rw (height h (c .pre .0), height y (c .pre .1)) (fits (pos h -ℤ pos y) (diff h y (c .pre .0) (c .pre .1)))
+    rw (back h (omega arith), back y (omega arith)) (diff-fits h y (omega arith) (omega arith))
 
 returns : tie.Need-returns
 returns c =
-    let h = c .args .label in let y = c .args .y in let d = diff h y (c .pre .0) (c .pre .1) in
-    rw (height h (c .pre .0), height y (c .pre .1), back (pos h -ℤ pos y) d) d
+    let h = c .args .label in let y = c .args .y in
+    rw (back h (omega arith), back y (omega arith), diff-back h y (omega arith) (omega arith)) (omega (arith, diff-size h y))
 
 pub drop-of-spec : {M : Type 1} → statement M
 drop-of-spec = tie.close (tie.spec cast-result cast-result-2 sub-result returns)

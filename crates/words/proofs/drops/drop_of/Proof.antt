@@ -1,4 +1,4 @@
-use Rattle.words.proofs.drops.Signed.{small, back, diff-fits}
+use Rattle.lists.proofs.Signed.{small, back, diff-fits}
 use mir.Syntax.{w32}
 use mir.ValLaws.{toZ-ofZ}
 use lib.IntN.{pos, _-ℤ_}

@@ -1,5 +1,5 @@
 use mir.Val.{toZ, ofZ}
-use Rattle.words.proofs.drops.Signed.{small, neg-of, pos-of}
+use Rattle.lists.proofs.Signed.{small, neg-of, pos-of}
 use mir.Syntax.{w32}
 use mir.ValLaws.{toZ-ofZ}
 use lib.IntN.{pos, natAbs, _-ℤ_}

@@ -1,4 +1,4 @@
-use Rattle.words.proofs.drops.Signed.{diff-size, diff-back}
+use Rattle.lists.proofs.Signed.{diff-size, diff-back}
 use Rattle.labelling.specs.Layout.{apart}
 use Rattle.labelling.proofs.Distances.{share-on, share-off}
 use mathlib.Core.Path.{_≡_, sym, _∙_}

@@ -1,7 +1,7 @@
--- Drops at 32 bits: small numbers there and back, a difference, its size. Assumes nothing.
+-- Numbers with a sign at 32 bits: small numbers there and back, a difference, its size. Assumes nothing.
 use mathlib.Core.Path.{_≡_, refl, ap}
 use mathlib.Core.Bool.{Bool, true, false, true≢false}
-use Prim.Native.Nat.{ℕ, zero, suc, _<_, _≤_}
+use Prim.Native.Nat.{ℕ, zero, suc, _+_, _-_, _<_, _≤_}
 use native.Mathlib.Nat.{zero-add}
 use native.Mathlib.Omega.{arith}
 use borrow.Author.Tests.{ltb-true, ltb-false}
@@ -11,8 +11,7 @@ use lib.Signed.{mag, ltZ}
 use mir.Syntax.{w32}
 use mir.Val.{SFits, toZ, ofZ}
 use mir.ValLaws.{toZ-pos, toZ-ofZ}
-use Rattle.labelling.specs.Layout.{apart}
-use Rattle.words.specs.Signs.{signTop}
+use Rattle.lists.specs.Signs.{signTop}
 
 pub small : (n : ℕ) → n < signTop → SFits w32 (pos n)
 small n h = record { sfits = h }
@@ -20,12 +19,12 @@ small n h = record { sfits = h }
 pub back : (n : ℕ) → n < signTop → toZ w32 n ≡ pos n
 back n h = toZ-pos w32 n h
 
-diff-by : (b : Bool) (h k : ℕ) → ltb h (suc k) ≡ b → natAbs (subℕ h (suc k)) ≡ apart h (suc k)
+diff-by : (b : Bool) (h k : ℕ) → ltb h (suc k) ≡ b → natAbs (subℕ h (suc k)) ≡ (h - suc k) + (suc k - h)
 diff-by true h k e = rw e (omega (arith, ltb-true h (suc k) e))
 diff-by false h k e = rw e (omega (arith, ltb-false h (suc k) e))
 
 -- the size of a difference is how far the two lie apart
-pub diff-size : (h y : ℕ) → natAbs (pos h -ℤ pos y) ≡ apart h y
+pub diff-size : (h y : ℕ) → natAbs (pos h -ℤ pos y) ≡ (h - y) + (y - h)
 diff-size h zero = omega arith
 diff-size h (suc k) = diff-by (ltb h (suc k)) h k refl
 

@@ -1,4 +1,4 @@
--- What drops need of 32-bit numbers with a sign. Assumes nothing: this is a definition.
+-- Whole numbers as 32-bit numbers with a sign. Assumes nothing: this is a definition.
 use Prim.Native.Nat.{ℕ}
 
 -- 2^31: a number below it is the same number as an i32. Heights are far below
