@@ -1,10 +1,10 @@
 // Which budgets may be taken from a budget: one by one, and as the bits of a mask.
 ghost use mathlib.Core.Path.{_≡_};
-ghost use mathlib.Core.Bool.{cond};
 ghost use Prim.Native.Nat.{_<_};
 ghost use Rattle.sheet.specs.Limits.{mostBudgets};
 ghost use Rattle.search.specs.Radix.{below, maskOf};
 ghost use Rattle.costs.specs.Masks.{Divides};
+use words::bit_of;
 
 // w may be taken from the budget v.
 pub fn is_below(radices: &[u32], w: u32, v: u32) -> bool
@@ -24,15 +24,6 @@ pub fn is_below(radices: &[u32], w: u32, v: u32) -> bool
         i += 1;
     }
     a <= b
-}
-
-fn bit_of(t: bool) -> u64
-    ensures { λ r. ⌜ r ≡ cond t 1 0 ⌝ }
-{
-    if t {
-        return 1;
-    }
-    0
 }
 
 // The budgets that may be taken from v, as bits.

@@ -2,6 +2,7 @@ pub mod Cost
 pub mod Semi
 pub mod Split
 pub mod Strips
+pub mod Masks
 pub mod Radix
 pub mod Walk
 pub mod Plan

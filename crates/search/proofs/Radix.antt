@@ -1,4 +1,4 @@
--- Laws of budgets in mixed radix: the digits' order is a way to split; a digit of what is left; the mask of what may be taken.
+-- Laws of budgets in mixed radix: the digits' order is a way to split; a digit of what is left.
 use mathlib.Core.Path.{_≡_, refl, ap, ap₂, _∙_}
 use mathlib.Core.Bool.{Bool, true, false, cond}
 use mathlib.Core.List.{List, [], _∷_}
@@ -11,7 +11,7 @@ use lib.Arith.{digits-div, digits-mod}
 use borrow.Author.Tests.{leb-true, le-leb, eq-eqb, ne-eqb}
 use Rattle.lists.proofs.Tests.{and-both, and-of}
 use Rattle.search.specs.Split.{Splitting}
-use Rattle.search.specs.Radix.{below, digitOf, maskBy, maskFrom, maskOf, maskBits, maskTop}
+use Rattle.search.specs.Radix.{below, digitOf}
 
 -- the digits, one by one
 digit : (r : ℕ) (rs : List ℕ) (w v : ℕ) → below (r ∷ rs) w v ≡ true → (w % r ≤ v % r) × (below rs (w / r) (v / r) ≡ true)
@@ -103,61 +103,3 @@ digit-sub (r ∷ rs) (suc c) w v h =
     let d = digit r rs w v h in
     let m = minus r w v (d .0) (fits rs (w / r) (v / r) (d .1)) in
     rw (m .1) (digit-sub rs c (w / r) (v / r) (d .1))
-
--- ---- the mask of a budget
-
-half : (m : ℕ) (t : Bool) → (m * 2 + cond t 1 0) / 2 ≡ m
-half m true = omega arith
-half m false = omega arith
-
-low-bit : (m : ℕ) (t : Bool) → eqb ((m * 2 + cond t 1 0) % 2) 1 ≡ t
-low-bit m true = let e : (m * 2 + 1) % 2 ≡ 1 = omega arith in eq-eqb _ _ e
-low-bit m false = ne-eqb _ _ (λ (e : (m * 2 + 0) % 2 ≡ 1). omega arith)
-
-pub bit-small : (t : Bool) → cond t 1 0 < 2
-bit-small true = omega arith
-bit-small false = omega arith
-
-mask-small : (t : ℕ → Bool) (n : ℕ) → maskBy t n < 2 ^ n
-unfolding maskBy
-mask-small t zero = rw pow-zero (omega arith)
-mask-small t (suc n) = rw pow-succ' (omega (arith, mask-small (λ k. t (suc k)) n, bit-small (t 0)))
-
--- tests that say the same give the same mask
-mask-cong : (s t : ℕ → Bool) (n : ℕ) → ((k : ℕ) → s k ≡ t k) → maskBy s n ≡ maskBy t n
-unfolding maskBy
-mask-cong s t zero h = refl
-mask-cong s t (suc n) h = ap₂ (λ (m : ℕ) (b : Bool). m * 2 + cond b 1 0) (mask-cong (λ k. s (suc k)) (λ k. t (suc k)) n (λ k. h (suc k))) (h 0)
-
--- the mask of v without its lowest w bits: nothing is left of it past v, its lowest bit is that of w, all of it is the mask
-pub mask-none : (rs : List ℕ) (v : ℕ) → 0 ≡ maskFrom rs v (v + 1)
-unfolding maskFrom maskBy
-mask-none rs v = let e : v + 1 - (v + 1) ≡ 0 = omega arith in rw e refl
-
-pub mask-more : (rs : List ℕ) (v w : ℕ) → w ≤ v → maskFrom rs v (w + 1) * 2 + cond (below rs w v) 1 0 ≡ maskFrom rs v w
-unfolding maskFrom maskBy
-mask-more rs v w h =
-    let e : v + 1 - w ≡ suc (v + 1 - (w + 1)) = omega arith in
-    rw e
-    (ap₂ (λ (m : ℕ) (b : Bool). m * 2 + cond b 1 0)
-    (mask-cong _ _ (v + 1 - (w + 1)) (λ k. ap (λ (z : ℕ). below rs z v) (omega arith)))
-    (ap (λ (z : ℕ). below rs z v) (omega arith)))
-
-pub mask-low : (rs : List ℕ) (v w : ℕ) → w ≤ v → eqb (maskFrom rs v w % 2) 1 ≡ below rs w v
-mask-low rs v w h = rw (← (mask-more rs v w h)) (low-bit (maskFrom rs v (w + 1)) (below rs w v))
-
-pub mask-half : (rs : List ℕ) (v w : ℕ) → w ≤ v → maskFrom rs v w / 2 ≡ maskFrom rs v (w + 1)
-mask-half rs v w h = rw (← (mask-more rs v w h)) (half (maskFrom rs v (w + 1)) (below rs w v))
-
-pub mask-all : (rs : List ℕ) (v : ℕ) → maskFrom rs v 0 ≡ maskOf rs v
-unfolding maskFrom maskOf
-mask-all rs v =
-    let e : v + 1 - 0 ≡ suc v = omega arith in
-    rw e (mask-cong _ _ (suc v) (λ k. ap (λ (z : ℕ). below rs z v) (omega arith)))
-
--- it is one word, of 64 bits
-pub mask-word : (rs : List ℕ) (v w : ℕ) → v < maskBits → maskFrom rs v w < maskTop
-unfolding maskFrom
-mask-word rs v w h =
-    let p : 2 ^ (v + 1 - w) ≤ 2 ^ maskBits = pow-mono {i = v + 1 - w} {j = maskBits} (omega arith) in
-    omega (arith, mask-small (λ i. below rs (w + i) v) (v + 1 - w))

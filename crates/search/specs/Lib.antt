@@ -3,6 +3,7 @@ pub mod Strips
 pub mod Cost
 pub mod Walk
 pub mod Split
+pub mod Masks
 pub mod Radix
 pub mod Plan
 pub mod Sums

@@ -206,6 +206,16 @@ pub fn less(a: u32, b: u32) -> bool
     a < b
 }
 
+// A bit of a mask.
+pub fn bit_of(t: bool) -> u64
+    ensures { λ r. ⌜ r ≡ cond t 1 0 ⌝ }
+{
+    if t {
+        return 1;
+    }
+    0
+}
+
 pub fn choose(t: bool, a: u32, b: u32) -> u32
     ensures { λ r. ⌜ r ≡ cond t a b ⌝ }
 {

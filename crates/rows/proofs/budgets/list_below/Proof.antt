@@ -1,6 +1,7 @@
 use lib.Seq.{getD-set-same, getD-set-other}
-use Rattle.search.specs.Radix.{maskFrom}
-use Rattle.search.proofs.Radix.{mask-all, mask-low, mask-half}
+use Rattle.search.specs.Masks.{maskFrom}
+use Rattle.search.specs.Radix.{below, maskOf}
+use Rattle.search.proofs.Masks.{mask-all, mask-low, mask-half}
 use Rattle.rows.specs.Budgets.{Listed, Others, splitsLength}
 use Rattle.sheet.specs.Limits.{mostBudgets}
 use Rattle.rows.proofs.Lists.{listed-none, listed-next, others-none, others-set}
@@ -17,7 +18,7 @@ use Rattle.rows.proofs.budgets.counted.Reads as counted-reads
 use Rattle.costs.proofs.masks.mask_below.Reads as mask-below-reads
 
 abbrev Inv-loop : tie.InvT-loop
-Inv-loop radices v parts₀ base mask₀ count₀ w₀ parts mask count w = (length parts ≡ splitsLength) × (w ≤ v + 1) × (mask ≡ maskFrom radices v w) × Listed radices v w count (λ i. getD parts (v * mostBudgets + i) 0) × Others parts₀ parts (v * mostBudgets) mostBudgets
+Inv-loop radices v parts₀ base mask₀ count₀ w₀ parts mask count w = (length parts ≡ splitsLength) × (w ≤ v + 1) × (mask ≡ maskFrom (λ u. below radices u v) (v + 1) w) × Listed radices v w count (λ i. getD parts (v * mostBudgets + i) 0) × Others parts₀ parts (v * mostBudgets) mostBudgets
 
 abbrev μ-loop : tie.MeasureT-loop
 μ-loop radices v parts₀ base mask₀ count₀ w₀ parts mask count w = v + 1 - w
@@ -32,6 +33,7 @@ mask-below-requires : tie.Need-mask-below-requires Inv-loop μ-loop
 mask-below-requires c κs = search needs
 
 loop-holds : tie.Need-loop-holds Inv-loop μ-loop
+unfolding maskOf
 loop-holds c =
     (c .before .before .before .pre .1 .1, omega arith, c .mask-below .ensures ∙ sym (mask-all _ _), listed-none _ _ _, others-none _ _ _)
 
@@ -65,8 +67,8 @@ loop-again c =
     let m = l .inv .2 in (
       simp length-set (l .inv .0),
       omega arith,
-      ap (λ (z : ℕ). z / 2) m ∙ mask-half (a .radices .now) (a .v) (l .w) (omega arith),
-      rw (c .counted .ensures, m, mask-low (a .radices .now) (a .v) (l .w) (omega arith))
+      ap (λ (z : ℕ). z / 2) m ∙ mask-half (λ u. below (a .radices .now) u (a .v)) (a .v + 1) (l .w) (omega arith),
+      rw (c .counted .ensures, m, mask-low (λ u. below (a .radices .now) u (a .v)) (a .v + 1) (l .w) (omega arith))
           (listed-next (a .radices .now) (a .v) (l .w) (l .count) _ _ (λ i h. getD-set-other (l .parts) x (a .v * mostBudgets + i) (l .w) 0 (λ e. omega arith)) (getD-set-same (l .parts) x (l .w) 0 (omega (arith, l .inv .0))) (l .inv .3)),
       others-set (a .parts .now) (l .parts) (a .v * mostBudgets) mostBudgets (l .count) (l .w) n (l .inv .4),
     )
