@@ -10,15 +10,17 @@ use lib.Seq.{ext-getD}
 use Rattle.lists.proofs.Tests.{by-order}
 use Rattle.sheet.specs.Limits.{unbounded}
 use Rattle.sheet.specs.Sheet.{Colour, Sheet}
+use Rattle.sheet.proofs.Accepted.{Sound}
 use Rattle.search.proofs.Sums.{listing-first, listing-past}
 use Rattle.labelling.specs.Layout.{noColour}
 use Rattle.optimum.specs.Slots.{farEnough, sheetSlots}
-use Rattle.optimum.specs.OneSided.{leadOf, mayOpen, barredOf, hasSlot, markCount, turnOf, heldOf, radicesOf, drawsOf, wordOf, topWord, instanceOf, pointAt, pointsAt}
+use Rattle.optimum.specs.OneSided.{leadOf, mayOpen, hasSlot, markCount, turnOf, heldOf, radicesOf, drawsOf, wordOf, topWord, instanceOf, order, pointAt, pointsAt}
 use Rattle.optimum.specs.Reached.{noPoint}
 use Rattle.decoding.proofs.Places.{bounds-at, xs-at, ys-at, colours-at}
-use Rattle.arrays.specs.Arrays.{measuresOf, boundsOf, drawsList, xsOf, ysOf, coloursOf, gathered, turnBy, heldBy, instanceBy, barredBy, pointBy, pointsBy}
+use Rattle.arrays.specs.Arrays.{measuresOf, boundsOf, drawsList, xsOf, ysOf, coloursOf, gathered, turnBy, heldBy, instanceBy, pointBy, pointsBy}
 use Rattle.arrays.proofs.Ordered.{gathered-long, gathered-word}
 use Rattle.arrays.proofs.Points.{points-long, point-at}
+use Rattle.arrays.proofs.Barred.{barred-by}
 
 past : (ks : List Colour) (c : ℕ) → length ks ≤ c → (getD ks c noColour) .bound ≡ unbounded
 past [] c h = refl
@@ -60,19 +62,17 @@ point-of s [] j h = absurd (omega arith)
 point-of s (i ∷ is) zero h = refl
 point-of s (i ∷ is) (suc j) h = point-of s is j (omega arith)
 
--- the slots that are barred are the sheet's
-barred-by : (s : Sheet) (is : List ℕ) (j : ℕ) → barredBy (measuresOf s) (s .slots) (gathered (xsOf (s .sites)) is) (gathered (ysOf (s .sites)) is) j ≡ barredOf s (getD is j 0)
-unfolding barredBy barredOf
-barred-by s is j = refl
-
-pub points-by : (s : Sheet) (is : List ℕ)
-    → pointsBy (measuresOf s) (s .slots) (gathered (xsOf (s .sites)) is) (gathered (ysOf (s .sites)) is) (gathered (coloursOf (s .sites)) is) ≡ pointsAt s is
-points-by s is =
+pub points-by : (s : Sheet) → Sound s →
+    pointsBy (measuresOf s) (s .slots) (gathered (xsOf (s .sites)) (order s)) (gathered (ysOf (s .sites)) (order s)) (gathered (coloursOf (s .sites)) (order s)) ≡ pointsAt s (order s)
+points-by s o =
     ext-getD noPoint _ _ (long ∙ sym (at-long s is)) (λ j h.
     let l : j < length is = omega (arith, long) in
     point-at (measuresOf s) (s .slots) (gathered (xsOf (s .sites)) is) _ _ j (omega (arith, gathered-long (xsOf (s .sites)) is))
     ∙ same j l ∙ sym (point-of s is j l))
   where
+    is : List ℕ
+    is = order s
+
     long : length (pointsBy (measuresOf s) (s .slots) (gathered (xsOf (s .sites)) is) (gathered (ysOf (s .sites)) is) (gathered (coloursOf (s .sites)) is)) ≡ length is
     long = points-long (measuresOf s) (s .slots) (gathered (xsOf (s .sites)) is) _ _ ∙ gathered-long (xsOf (s .sites)) is
 
@@ -82,5 +82,5 @@ points-by s is =
       x = (gathered-word (xsOf (s .sites)) is j l ∙ xs-at (s .sites) (getD is j 0)) t;
       y = (gathered-word (ysOf (s .sites)) is j l ∙ ys-at (s .sites) (getD is j 0)) t;
       c = (gathered-word (coloursOf (s .sites)) is j l ∙ colours-at (s .sites) (getD is j 0)) t;
-      barred = barred-by s is j t;
+      barred = barred-by s o j l t;
     }

@@ -3,4 +3,5 @@ pub mod Ordered
 pub mod Standing
 pub mod Marks
 pub mod Points
+pub mod Barred
 pub mod Narrowed

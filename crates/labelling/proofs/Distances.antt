@@ -1,21 +1,22 @@
 -- Laws of what rules 3 and 5 and the length ask by numbers: heights far enough apart, a label clear of a site, a site that counts, a
--- site's share. No other proof spells these out, but Document03, which holds them to document 03's. Assumes nothing.
+-- site's share. No other proof spells these out. Assumes nothing.
 use mathlib.Core.Path.{_≡_, _∙_}
 use mathlib.Core.Bool.{true, false}
-use Prim.Native.Nat.{ℕ, _+_, _≤_, _<_}
+use Prim.Native.Nat.{ℕ, _+_, _-_, _≤_, _<_}
+use lib.Dec.{leb, ltb}
 use native.Mathlib.Omega.{arith}
-use borrow.Author.Tests.{leb-true, le-leb, eq-eqb, ne-eqb}
-use Rattle.lists.proofs.Tests.{by-equal}
+use borrow.Author.Tests.{leb-true, ltb-true, le-leb, lt-ltb, eq-eqb, ne-eqb}
+use Rattle.lists.proofs.Tests.{by-test, by-equal, by-either, or-e}
 use Rattle.sheet.specs.Limits.{numberTop, mostShare}
 use Rattle.labelling.specs.Layout.{apart, farBy, countsBy, clearBy, offBy, shareBy}
 
 -- ---- two labels
 
-pub far-e : (d a b : ℕ) → farBy d a b ≡ true → d ≤ apart a b
+far-e : (d a b : ℕ) → farBy d a b ≡ true → d ≤ apart a b
 unfolding farBy
 far-e d a b f = leb-true d (apart a b) f
 
-pub far-i : (d a b : ℕ) → d ≤ apart a b → farBy d a b ≡ true
+far-i : (d a b : ℕ) → d ≤ apart a b → farBy d a b ≡ true
 unfolding farBy
 far-i d a b h = le-leb d (apart a b) h
 
@@ -59,24 +60,22 @@ clear-below d a b y p q f = clear-i d a y (omega (arith, clear-e d b y f))
 pub clear-off : (d h y : ℕ) → 0 < d → clearBy d h y ≡ true → h ≡ y → ⊥
 clear-off d h y g f e = omega (arith, clear-e d h y f)
 
--- ---- a site that counts against a label: it counts against one further left too, and every site against one at the left edge
+-- ---- a site that counts against a label: it counts against one further left too; every site against one at the left edge; a site at a
+-- left end or right of it
 
 pub counts-left : (d c e x : ℕ) → c ≤ e → countsBy d e x ≡ true → countsBy d c x ≡ true
 unfolding countsBy
-counts-left d c e x l f = le-leb c x (omega (arith, leb-true e x f))
+counts-left d c e x l f =
+    by-either (or-e (leb e x) (ltb (e - x) d) f)
+    (λ h. rw (le-leb c x (omega (arith, leb-true e x h))))
+    (λ h. by-test (leb c x) (λ g. rw g) (λ g. rw (g, lt-ltb (c - x) d (omega (arith, ltb-true (e - x) d h)))))
 
-pub counts-all : (d x : ℕ) → countsBy d 0 x ≡ true
-unfolding countsBy
-counts-all d x = le-leb 0 x (omega arith)
-
--- a site at a left end or right of it counts, and no other: the second goes with document 02's clearance at the tip
 pub counts-right : (d e x : ℕ) → e ≤ x → countsBy d e x ≡ true
 unfolding countsBy
-counts-right d e x l = le-leb e x l
+counts-right d e x l = rw (le-leb e x l)
 
-pub right-counts : (d e x : ℕ) → countsBy d e x ≡ true → e ≤ x
-unfolding countsBy
-right-counts d e x f = leb-true e x f
+pub counts-all : (d x : ℕ) → countsBy d 0 x ≡ true
+counts-all d x = counts-right d 0 x (omega arith)
 
 -- ---- a site's share
 
@@ -96,10 +95,6 @@ share-on c h y e = rw (off-none h y e) (omega arith)
 pub share-off : (c h y : ℕ) → (h ≡ y → ⊥) → shareBy c h y ≡ apart h y + c
 unfolding shareBy
 share-off c h y n = rw (off-some h y n)
-
--- without a charge it is the distance
-pub share-free : (h y : ℕ) → shareBy 0 h y ≡ apart h y
-share-free h y = by-equal h y (λ e. share-on 0 h y e ∙ omega arith) λ n. share-off 0 h y n ∙ omega arith
 
 -- it is at most the greatest drop and the greatest charge
 pub share-le : (c h y : ℕ) → c < numberTop → h < numberTop → y < numberTop → shareBy c h y ≤ mostShare

@@ -8,7 +8,7 @@ use native.Mathlib.Omega.{arith}
 use Rattle.sheet.specs.Refusals.{given}
 use Rattle.sheet.specs.Sheet.{all, inOrder, isCharge, slotsIn, sitesRun, coloursIn, sitesIn, productOf, rising, hasRank, ranksDiffer, sheetIn, sheetFault, rankBy}
 use Rattle.labelling.specs.Layout.{tiedOf, isUsed, usedFrom, leastX, slotsOf, boundsKept, backbones, drops, tieWords, tiesIn, nextRank, slotAt, byRank, comesFirst, bestOver, bestFrom, sheetPart, best, answerOf, offBy, shareBy, farBy, countsBy, clearBy}
-use Rattle.labelling.specs.Promise.{a, shortest, twoSided, gapThree, gapFour, boundZero, headAlone, laidOut, turnedDown, Examples, bends, chargeWord, ChargeExamples}
+use Rattle.labelling.specs.Promise.{a, shortest, twoSided, gapThree, gapFour, boundZero, headAlone, laidOut, turnedDown, Examples, bends, chargeWord, ChargeExamples, beside, fewestHead, shortestHead, TipExamples}
 use Rattle.labelling.proofs.Maker.{Called, called, refused-side, refused-work, refused-out}
 
 -- a call by what is best
@@ -29,7 +29,7 @@ examples = (
     lays a (0 ∷ 0 ∷ 2 ∷ []) refl refl refl,
     lays shortest (0 ∷ 1 ∷ 2 ∷ []) refl refl refl,
     (λ k o. refused-side twoSided k o refl refl .fault-is),
-    lays gapThree (2 ∷ 2 ∷ 0 ∷ []) refl refl refl,
+    refuses gapThree refl refl refl,
     refuses gapFour refl refl refl,
     refuses boundZero refl refl refl,
     lays headAlone [] refl refl refl,
@@ -55,4 +55,15 @@ charge-examples = (
   ),
   ((refl, refl), (refl, refl), (refl, refl), (refl, refl), (refl, refl)),
   (refl, refl, refl, refl, refl, refl),
+)
+
+pub tip-examples : TipExamples
+unfolding given all inOrder isCharge slotsIn sitesRun coloursIn sitesIn productOf rising rankBy hasRank ranksDiffer tiedOf isUsed usedFrom leastX slotsOf boundsKept backbones farBy countsBy clearBy offBy shareBy drops tieWords tiesIn nextRank slotAt byRank comesFirst bestOver bestFrom sheetPart
+tip-examples = (
+  ((refl, refl), (refl, refl), (refl, refl), (refl, refl), (refl, refl), (refl, refl)),
+  (
+    lays (beside fewestHead 2 8) (2 ∷ 1 ∷ 1 ∷ []) refl refl refl,
+    lays (beside fewestHead 3 8) (2 ∷ 0 ∷ 0 ∷ []) refl refl refl,
+    lays (beside shortestHead 3 8) (2 ∷ 0 ∷ 1 ∷ []) refl refl refl,
+  ),
 )

@@ -3,7 +3,6 @@ pub mod Best
 pub mod ByRank
 pub mod Counted
 pub mod Distances
-pub mod Document03
 pub mod Earlier
 pub mod Examples
 pub mod Judge
@@ -14,7 +13,6 @@ pub mod Maker
 pub mod Members
 pub mod Order
 pub mod Pairs
-pub mod Promise03
 pub mod Refusals
 pub mod Rules
 pub mod Stored

@@ -97,12 +97,7 @@ from-used k a (suc c) js l u h =
     go false i = i
 
 -- a list that rises, by its head
-pub rise-head : (j : ℕ) (ks : List ℕ) → ((k : ℕ) → isUsed k ks ≡ true → j < k) → rising ks ≡ true → rising (j ∷ ks) ≡ true
-unfolding rising
-rise-head j [] f h = refl
-rise-head j (k ∷ ks) f h = and-i (lt-ltb j k (f k (used-head k ks))) h
-
-pub head-rise : (j : ℕ) (ks : List ℕ) → rising (j ∷ ks) ≡ true → (k : ℕ) → isUsed k ks ≡ true → j < k
+head-rise : (j : ℕ) (ks : List ℕ) → rising (j ∷ ks) ≡ true → (k : ℕ) → isUsed k ks ≡ true → j < k
 unfolding rising isUsed
 head-rise j [] h k u = absurd (false≢true u)
 head-rise j (i ∷ ks) h k u = go (or-e (eqb i k) (isUsed k ks) u) (head-rise i ks (and-r (ltb j i) (rising (i ∷ ks)) h) k)
@@ -111,19 +106,10 @@ head-rise j (i ∷ ks) h k u = go (or-e (eqb i k) (isUsed k ks) u) (head-rise i 
     go (inl e) ih = omega (arith, tests, ltb-true j i (and-l (ltb j i) (rising (i ∷ ks)) h))
     go (inr e) ih = omega (arith, ih e, ltb-true j i (and-l (ltb j i) (rising (i ∷ ks)) h))
 
-pub tail-rise : (j : ℕ) (ks : List ℕ) → rising (j ∷ ks) ≡ true → rising ks ≡ true
+tail-rise : (j : ℕ) (ks : List ℕ) → rising (j ∷ ks) ≡ true → rising ks ≡ true
 unfolding rising
 tail-rise j [] h = refl
 tail-rise j (k ∷ ks) h = and-r (ltb j k) (rising (k ∷ ks)) h
-
-pub used-rise : (a c : ℕ) (js : List ℕ) → rising (usedFrom a c js) ≡ true
-unfolding usedFrom
-used-rise a zero js = unfold rising in refl
-used-rise a (suc c) js = go (isUsed a js) (used-rise (suc a) c js)
-  where
-    go : (t : Bool) → rising (usedFrom (suc a) c js) ≡ true → rising (cond t (a ∷ usedFrom (suc a) c js) (usedFrom (suc a) c js)) ≡ true
-    go true i = rise-head a (usedFrom (suc a) c js) (λ k u. omega (arith, used-from k (suc a) c js u .0)) i
-    go false i = i
 
 -- TIES by places
 pub length-tied : (ss : List Site) (js : List ℕ) → length js ≡ length ss → length (tiedOf ss js) ≡ length ss

@@ -43,7 +43,8 @@ RuleFour s js =
     (i k : ℕ) → i < length (s .sites) → isUsed k js ≡ true → (getD js i 0 ≡ k → ⊥) → leftEnd s js k ≤ (siteAt s i) .x →
     Miss (heightOf s k) ((siteAt s i) .y) (heightOf s (getD js i 0))
 
--- 5: a backbone lies at least D in height from every site of another label whose x is at or right of its left end
+-- 5: a backbone lies at least D in height from every site of another label that counts: its x is at or right of the left end, or left of
+-- it by less than D
 abbrev pub RuleFive : Sheet → (ties : List ℕ) → Type 0
 RuleFive s js =
     (i k : ℕ) → i < length (s .sites) → isUsed k js ≡ true → (getD js i 0 ≡ k → ⊥) → counts s (leftEnd s js k) ((siteAt s i) .x) ≡ true →

@@ -20,9 +20,10 @@ apart a b = (a - b) + (b - a)
 unfoldable pub farBy : (gap height other : ℕ) → Bool
 farBy d h k = leb d (apart h k)
 
--- rule 5: a site at x counts against a label with this left end; a label's height is at least D from a site of height y
+-- rule 5: a site at x counts against a label with this left end: it is at the left end or right of it, or left of it by less than D
+-- (document 02, "Foreign bolts at the tip"); a label's height is at least D from a site of height y
 unfoldable pub countsBy : (gap left x : ℕ) → Bool
-countsBy d e x = leb e x
+countsBy d e x = leb e x || ltb (e - x) d
 
 unfoldable pub clearBy : (gap height y : ℕ) → Bool
 clearBy d h y = leb d (apart h y)
@@ -160,7 +161,8 @@ misses s js t k = missesFrom s t k (leftEnd s js k)
 abbrev pub missesAll : Sheet → (ties : List ℕ) → Tied → Bool
 missesAll s js t = all (misses s js t) (usedOf s js)
 
--- RULE 5: a backbone lies at least D in height from every site of another label whose x is at or right of its left end
+-- RULE 5: a backbone lies at least D in height from every site of another label whose x is at or right of its left end, or left of it
+-- by less than D. A two-sided sheet's left ends are 0, so every site counts there
 -- a site at x is counted against a label with this left end
 abbrev pub counts : Sheet → (left x : ℕ) → Bool
 counts s e x = countsBy (s .gap) e x

@@ -5,7 +5,7 @@ use mathlib.Core.Logic.{_⊎_, _↔_}
 use mathlib.Core.Bool.{Bool, true, false, _&&_, _||_, not, cond}
 use mathlib.Core.List.{List, [], _∷_, _++_}
 use mathlib.Core.Option.{none, some}
-use Prim.Native.Nat.{ℕ, _+_, _≤_, _<_}
+use Prim.Native.Nat.{ℕ, _+_, _*_, _≤_, _<_}
 use lib.Dec.{ltb, eqb}
 use lib.ListN.{length, getD, take, drop, replicate}
 use Rattle.sheet.specs.Limits.{wordTop}
@@ -181,13 +181,12 @@ turnedDown ws = (k o : List ℕ) → workFor (sheetIn ws) ≤ length k → words
 abbrev pub sideEnded : (sheet : List ℕ) → Type 0
 sideEnded ws = (k o : List ℕ) → makeFault ws k o ≡ 18
 
--- the table of the definitions, as document 03 has it
+-- the table of the definitions, as document 03 has it, but for A with gap 3, which document 02's clearance at the tip leaves without a layout
 abbrev pub ExamplesDefined : Type 0
 ExamplesDefined =
     (sheetFault a ≡ 0) × (answerTo a ≡ layoutWords 2 19 (0 ∷ 0 ∷ 2 ∷ [])) × (getD (answerTo a) 0 0 ≡ 2151677971) ×
     (answerTo shortest ≡ layoutWords 3 18 (0 ∷ 1 ∷ 2 ∷ [])) × (answerTo twoSided ≡ layoutWords 2 25 (0 ∷ 0 ∷ 2 ∷ [])) ×
-    (answerTo gapThree ≡ layoutWords 2 19 (2 ∷ 2 ∷ 0 ∷ [])) ×
-    (isNone (best (sheetIn gapFour)) ≡ true) × (isNone (best (sheetIn boundZero)) ≡ true) ×
+    (isNone (best (sheetIn gapThree)) ≡ true) × (isNone (best (sheetIn gapFour)) ≡ true) × (isNone (best (sheetIn boundZero)) ≡ true) ×
     (answerTo headAlone ≡ layoutWords 0 0 []) × (judged (a ++ layoutWords 2 19 (0 ∷ 0 ∷ 1 ∷ [])) ≡ 4) ×
     (judged (a ++ layoutWords 2 19 (0 ∷ 0 ∷ 0 ∷ [])) ≡ 1) × (judged (a ++ layoutWords 2 19 (2 ∷ 2 ∷ 0 ∷ [])) ≡ 0) ×
     (judged (a ++ layoutWords 2 18 (2 ∷ 2 ∷ 0 ∷ [])) ≡ 6)
@@ -196,8 +195,7 @@ ExamplesDefined =
 abbrev pub ExamplesCalled : Type 0
 ExamplesCalled =
     laidOut a (layoutWords 2 19 (0 ∷ 0 ∷ 2 ∷ [])) × laidOut shortest (layoutWords 3 18 (0 ∷ 1 ∷ 2 ∷ [])) ×
-    sideEnded twoSided × laidOut gapThree (layoutWords 2 19 (2 ∷ 2 ∷ 0 ∷ [])) ×
-    turnedDown gapFour × turnedDown boundZero × laidOut headAlone (layoutWords 0 0 []) ×
+    sideEnded twoSided × turnedDown gapThree × turnedDown gapFour × turnedDown boundZero × laidOut headAlone (layoutWords 0 0 []) ×
     judgedAs (a ++ layoutWords 2 19 (0 ∷ 0 ∷ 1 ∷ [])) 4 × judgedAs (a ++ layoutWords 2 19 (0 ∷ 0 ∷ 0 ∷ [])) 1 ×
     judgedAs (a ++ layoutWords 2 19 (2 ∷ 2 ∷ 0 ∷ [])) 0 × judgedAs (a ++ layoutWords 2 18 (2 ∷ 2 ∷ 0 ∷ [])) 6 ×
     (isBeaten (sheetIn a) (answerTo a) (layoutWords 2 19 (2 ∷ 2 ∷ 0 ∷ [])) ≡ true) × (workFor (sheetIn a) ≡ 900) ×
@@ -239,3 +237,40 @@ ChargeRefused =
 
 abbrev pub ChargeExamples : Type 0
 ChargeExamples = ChargeAnswered × ChargeJudged × ChargeRefused
+
+-- EXAMPLES OF A TIP (document 02, "Foreign bolts at the tip"): with some head; slots 1, 8 and 11; a colour, unbounded, with the site p at
+-- (x, y), another with (4,5) and (5,7); or all three sites of one colour
+abbrev pub besideP : (head x y : ℕ) → (colour : List ℕ) → List ℕ
+besideP h x y cs =
+    h ∷ 536870913 ∷ 536870920 ∷ 536870923 ∷ 805306623 ∷ (1073741824 + x * 16384 + y) ∷ cs ++ (1073807365 ∷ 1073823751 ∷ [])
+
+abbrev pub beside : (head x y : ℕ) → List ℕ
+beside h x y = besideP h x y (805306623 ∷ [])
+
+abbrev pub besideOwn : (head x y : ℕ) → List ℕ
+besideOwn h x y = besideP h x y []
+
+-- gap 2, width 8: fewest, shortest
+abbrev pub fewestHead : ℕ
+fewestHead = 268468232
+
+abbrev pub shortestHead : ℕ
+shortestHead = 335577096
+
+-- p has slot 11, the others slot 8: a tip at (4,8). With p at (3,8) it is not lawful, nor with p at (3,9), though p be of the same colour;
+-- with p at (2,8), two units left, or at (3,10), two units below, it is. A site of the label itself does not count
+abbrev pub TipJudged : Type 0
+TipJudged =
+    judgedAs (beside fewestHead 3 8 ++ layoutWords 2 16 (2 ∷ 1 ∷ 1 ∷ [])) 5 × judgedAs (beside fewestHead 2 8 ++ layoutWords 2 17 (2 ∷ 1 ∷ 1 ∷ [])) 0 ×
+    judgedAs (beside fewestHead 3 9 ++ layoutWords 2 15 (2 ∷ 1 ∷ 1 ∷ [])) 5 × judgedAs (beside fewestHead 3 10 ++ layoutWords 2 14 (2 ∷ 1 ∷ 1 ∷ [])) 0 ×
+    judgedAs (besideOwn fewestHead 3 8 ++ layoutWords 2 16 (2 ∷ 1 ∷ 1 ∷ [])) 5 × judgedAs (besideOwn fewestHead 3 8 ++ layoutWords 1 9 (1 ∷ 1 ∷ 1 ∷ [])) 0
+
+-- that layout is the fewest and shortest where it is lawful; where not, the others have slot 1 and 2 labels 22 long, or, for the shortest, slots
+-- 1 and 8: a tip at (5,8), two units right of p
+abbrev pub TipAnswered : Type 0
+TipAnswered =
+    laidOut (beside fewestHead 2 8) (layoutWords 2 17 (2 ∷ 1 ∷ 1 ∷ [])) × laidOut (beside fewestHead 3 8) (layoutWords 2 22 (2 ∷ 0 ∷ 0 ∷ [])) ×
+    laidOut (beside shortestHead 3 8) (layoutWords 3 20 (2 ∷ 0 ∷ 1 ∷ []))
+
+abbrev pub TipExamples : Type 0
+TipExamples = TipJudged × TipAnswered

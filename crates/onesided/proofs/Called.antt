@@ -46,7 +46,7 @@ module _ (ws k out : List ℕ) (t : takesSheet ws k out) where
 
   zeroed-is : (work : List ℕ) → drop (workFor s) work ≡ drop (workFor s) k → laidWork (arraysOf s) work ≡ cleared ws k
   zeroed-is work e =
-      ap (λ (p : List Point). zeroed 0 ((length p + 1) * levelWords (arraysOf s)) work) (points-by s (order s)) ∙ ap (λ (n : ℕ). zeroed 0 n work) size-is ∙ zeroed-front (workFor s) work
+      ap (λ (p : List Point). zeroed 0 ((length p + 1) * levelWords (arraysOf s)) work) (points-by s (sound ws (t .1))) ∙ ap (λ (n : ℕ). zeroed 0 n work) size-is ∙ zeroed-front (workFor s) work
       ∙ ap (λ (l : List ℕ). replicate (workFor s) 0 ++ l) e
 
   written-is : writtenBy (instanceOf s) (measuresOf s) (pointsAt s (order s)) (order s) out
@@ -73,7 +73,7 @@ module _ (ws k out : List ℕ) (t : takesSheet ws k out) where
   pub laid-is : (g : Given) (work : List ℕ) → g ≡ arraysOf s → drop (workFor s) work ≡ drop (workFor s) k → Made ws k out (laidFault g) (laidWork g work) (laidOut g out)
   laid-is g work eg e =
       let P : given.instanceOf (arraysOf s) ≡ instanceOf s = instance-by s in
-      let p : given.pointsOf (arraysOf s) ≡ pointsAt s (order s) = points-by s (order s) in
+      let p : given.pointsOf (arraysOf s) ≡ pointsAt s (order s) = points-by s (sound ws (t .1)) in
       let m = laid-sheet work e in
       subst⁻¹ (λ (z : Given). Made ws k out (laidFault z) (laidWork z work) (laidOut z out)) eg
       (record {

@@ -5,6 +5,7 @@ pub mod Pays
 pub mod Order
 pub mod Counts
 pub mod Instance
+pub mod Tips
 pub mod RankedPairs
 pub mod OneSidedBest
 pub mod OneSidedAnswer

@@ -6,7 +6,7 @@ use mathlib.Core.Option.{none, some}
 use Prim.Native.Nat.{ℕ}
 use Rattle.sheet.specs.Sheet.{sheetIn}
 use Rattle.labelling.specs.Layout.{brokenIn, isBetter}
-use Rattle.labelling.specs.Promise.{a, shortest, gapThree, gapFour, boundZero, headAlone, bends, chargeWord}
+use Rattle.labelling.specs.Promise.{a, shortest, gapThree, gapFour, boundZero, headAlone, bends, chargeWord, beside, fewestHead}
 use Rattle.optimum.specs.OneSided.{oneSided}
 
 -- the model's answer, and a layout that a misreading gives and rule r forbids
@@ -52,17 +52,17 @@ abbrev pub joinedAlways : List ℕ
 joinedAlways = 335577092 ∷ 536870912 ∷ 536870917 ∷ 805306623 ∷ 1073741824 ∷ 1073790981 ∷ []
 
 -- document 01's misreadings in its order, then what it says of joining, and of the bound that two parts share; then document 02's charge left out
--- (bends with charge 5: right 14, wrong 15, by the lengths with charges)
+-- (bends with charge 5: right 14, wrong 15, by the lengths with charges), and its clearance at the tip
 abbrev pub Misreadings : Type 0
 Misreadings =
     Worse roundedAtCuts (2 ∷ 1 ∷ []) (2 ∷ 0 ∷ []) × Worse packedAtCuts (0 ∷ 0 ∷ 0 ∷ []) (1 ∷ 0 ∷ 1 ∷ []) ×
     Forbidden otherColoursOnly (1 ∷ 1 ∷ []) (1 ∷ 0 ∷ []) 5 × Forbidden throughASite (1 ∷ 0 ∷ []) (0 ∷ 1 ∷ []) 4 ×
     Worse restToNearest (0 ∷ 0 ∷ []) (1 ∷ 0 ∷ []) × Worse upperPartFirst (1 ∷ 3 ∷ 1 ∷ []) (1 ∷ 1 ∷ 0 ∷ []) ×
     Worse joinedAlways (0 ∷ 1 ∷ []) (0 ∷ 0 ∷ []) × Worse equalsOnBothSides (1 ∷ 1 ∷ 1 ∷ 0 ∷ []) (1 ∷ 1 ∷ 4 ∷ 1 ∷ []) ×
-    Worse (bends (chargeWord 5 ∷ [])) (0 ∷ 2 ∷ []) (0 ∷ 0 ∷ [])
+    Worse (bends (chargeWord 5 ∷ [])) (0 ∷ 2 ∷ []) (0 ∷ 0 ∷ []) × Forbidden (beside fewestHead 3 8) (2 ∷ 0 ∷ 0 ∷ []) (2 ∷ 1 ∷ 1 ∷ []) 5
 
 -- document 01's starred examples for the maker; on sheet A slots 2, 2, 0 come later
 abbrev pub Starred : Type 0
 Starred =
-    Worse a (0 ∷ 0 ∷ 2 ∷ []) (2 ∷ 2 ∷ 0 ∷ []) × (oneSided (sheetIn shortest) ≡ some (0 ∷ 1 ∷ 2 ∷ [])) × (oneSided (sheetIn gapThree) ≡ some (2 ∷ 2 ∷ 0 ∷ [])) ×
+    Worse a (0 ∷ 0 ∷ 2 ∷ []) (2 ∷ 2 ∷ 0 ∷ []) × (oneSided (sheetIn shortest) ≡ some (0 ∷ 1 ∷ 2 ∷ [])) × (oneSided (sheetIn gapThree) ≡ none) ×
     (oneSided (sheetIn gapFour) ≡ none) × (oneSided (sheetIn boundZero) ≡ none) × (oneSided (sheetIn headAlone) ≡ some [])

@@ -1,14 +1,15 @@
 -- The one-sided answer as code finds it: the sheet's instance, the sites by rising rank, the walk over the table, and the slots put
 -- back in sheet order.
-use mathlib.Core.Bool.{Bool, true, false, cond, not}
+use mathlib.Core.Bool.{Bool, false, cond, not, _&&_, _||_}
 use mathlib.Core.List.{List, [], _∷_}
 use mathlib.Core.Option.{Option, none, some}
 use Prim.Native.Nat.{ℕ, zero, suc, _-_, _/_, _%_, _^_}
-use lib.Dec.{eqb, leb}
+use lib.Dec.{eqb, leb, ltb}
 use lib.ListN.{length, set, replicate}
 use Rattle.search.specs.Cost.{least, first}
-use Rattle.sheet.specs.Sheet.{Sheet, rankTop}
-use Rattle.labelling.specs.Layout.{siteAt, tieWord}
+use Rattle.search.specs.Masks.{maskBy}
+use Rattle.sheet.specs.Sheet.{all, Site, Sheet, rankOf, rankTop}
+use Rattle.labelling.specs.Layout.{siteAt, counts, isClear, tieWord}
 use Rattle.labelling.specs.Lawful.{rankAt}
 use Rattle.optimum.specs.Slots.{sheetSlots}
 use Rattle.optimum.specs.Strips.{Point, Strip, Instance, walked}
@@ -28,12 +29,17 @@ leadOf s x = s .width - x
 unfoldable pub mayOpen : Sheet → Point → (k : ℕ) → Bool
 mayOpen s t k = not (eqb (boundOf s (t .c)) 0)
 
--- nothing else is asked of a label that site i opens at slot k; so the set of slots at which it may open none is empty
-unfoldable pub tipClear : Sheet → (i k : ℕ) → Bool
-tipClear s i k = true
+-- a label that site i opens at slot k lies clear of each site before it, by rank, that counts against it: its tip stands at the site's x,
+-- and each site before it has another label (document 02, "Foreign bolts at the tip")
+abbrev pub tipPasses : Sheet → (i k : ℕ) → Site → Bool
+tipPasses s i k u = not (ltb (rankOf u) (rankAt s i) && counts s (siteAt s i .x) (u .x)) || isClear s k (u .y)
 
+unfoldable pub tipClear : Sheet → (i k : ℕ) → Bool
+tipClear s i k = all (tipPasses s i k) (s .sites)
+
+-- the set of slots at which site i may open no label
 unfoldable pub barredOf : Sheet → (i : ℕ) → ℕ
-barredOf s i = 0
+barredOf s i = maskBy (λ k. not (tipClear s i k)) (length (s .slots))
 
 -- slot k is in a set
 unfoldable pub hasSlot : (set k : ℕ) → Bool

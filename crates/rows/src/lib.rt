@@ -9,7 +9,7 @@ ghost use lib.ListN.{length};
 ghost use Rattle.sheet.specs.Limits.{mostSlots, mostColours, mostBudgets};
 ghost use Rattle.optimum.specs.Strips as model;
 ghost use Rattle.optimum.specs.OneSided.{markCount};
-ghost use Rattle.arrays.specs.Arrays.{instanceBy, barredBy, pointBy};
+ghost use Rattle.arrays.specs.Arrays.{instanceBy, pointBy};
 ghost use Rattle.arrays.specs.declared.Measures as measured;
 ghost use Rattle.rows.specs.Rows.{stripOf, pointOf, rowOf, rowsOf, mostPlace, Lies, markedBy, upperPart, lowerPart, endPlace, lowPlace, upperEnd, LevelFits};
 use arrays::Measures;
@@ -49,13 +49,6 @@ pub struct PartRows {
     pub lower: usize,
 }
 
-// The slots at which the site of rank j may open no label: none.
-fn barred_of(q: Measures, heights: &[u32], xs: &[u32], ys: &[u32], j: usize) -> u64
-    ensures { λ r. ⌜ r ≡ barredBy q (now (heights .entry)) (now (xs .entry)) (now (ys .entry)) j ⌝ }
-{
-    0
-}
-
 // The site of rank j.
 pub fn site_at(
     q: Measures,
@@ -65,13 +58,13 @@ pub fn site_at(
     colours: &[u32],
     j: usize,
 ) -> Site
-    requires { ⌜ (j < length (now xs)) × (j < length (now ys)) × (j < length (now colours)) ⌝ }
+    requires { ⌜ (length (now heights) ≤ mostSlots) × (j < length (now xs)) × (j < length (now ys)) × (j < length (now colours)) ⌝ }
     ensures { λ r. ⌜ pointOf r ≡ pointBy q (now (heights .entry)) (now (xs .entry)) (now (ys .entry)) (now (colours .entry)) j ⌝ }
 {
     let x = xs[j];
     let y = ys[j];
     let c = colours[j];
-    let barred = barred_of(q, heights, xs, ys, j);
+    let barred = tips::barred_of(q, heights, xs, ys, j);
     Site { x, y, c, barred }
 }
 

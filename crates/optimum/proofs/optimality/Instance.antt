@@ -5,9 +5,7 @@ use mathlib.Core.Bool.{true, not, false}
 use mathlib.Core.List.{List, [], _∷_}
 use Prim.Native.Nat.{ℕ, _+_, _*_, _/_, _^_, _<_}
 use native.Mathlib.Omega.{arith}
-use lib.Arith.{digits-div}
 use lib.Dec.{eqb}
-use lib.Pow.{pow-pos}
 use lib.ListN.{getD}
 use borrow.Author.Tests.{eqb-true, eqb-false, ne-eqb}
 use Rattle.lists.proofs.Tests.{by-test, by-either, clash, not-f}
@@ -18,31 +16,13 @@ use Rattle.sheet.specs.Limits.{unbounded}
 use Rattle.sheet.specs.Sheet.{Sheet}
 use Rattle.optimum.specs.Strips.{Strip, Point}
 use Rattle.optimum.specs.Budgets.{boundOf, isUnbounded, radicesOf, digitIn, drawsOf}
-use Rattle.optimum.specs.OneSided.{mayOpen, tipClear, barredOf, hasSlot, markCount, turnOf, heldOf, instanceOf, pointsAt}
-use Rattle.optimum.proofs.Steps.{Linear, Tips}
+use Rattle.optimum.specs.OneSided.{mayOpen, markCount, turnOf, heldOf, instanceOf}
+use Rattle.optimum.proofs.Steps.{Linear}
 use Rattle.optimum.proofs.Budgets.{positive, radix-at, draws-none, draws-one, draws}
 use Rattle.optimum.proofs.optimality.CostWord.{word-nothing, word-adds}
 use Rattle.optimum.proofs.optimality.Pays.{Budgeted}
 
--- ---- what is asked of a step beside the slots: nothing; a site leaves the mark 0
-
--- a slot is barred just where the tip of a label there is not clear
-pub barred-tip : (s : Sheet) (i k : ℕ) → hasSlot (barredOf s i) k ≡ not (tipClear s i k)
-unfolding hasSlot barredOf tipClear
-barred-tip s i k =
-    let z : 0 ≡ 0 * 2 ^ k + 0 = omega arith in
-    let e : 0 / 2 ^ k ≡ 0 = ap (λ (n : ℕ). n / 2 ^ k) z ∙ digits-div 0 (pow-pos k) in
-    rw e refl
-
-pub tip-clear : (s : Sheet) (i k : ℕ) → not (hasSlot (barredOf s i) k) ≡ true
-unfolding tipClear
-tip-clear s i k = ap not (barred-tip s i k)
-
-pub tips-clear : (s : Sheet) (is L ks : List ℕ) → Tips (instanceOf s) L (pointsAt s is) ks
-unfolding Tips pointsAt
-tips-clear s [] L ks = tt
-tips-clear s (i ∷ is) L [] = tt
-tips-clear s (i ∷ is) L (k ∷ ks) = (λ e. tip-clear s i k, tips-clear s is _ ks)
+-- ---- what is asked of a step beside the slots: that the tip be clear (Tips); a site leaves the mark 0
 
 pub not-held : (s : Sheet) (p : Strip) (t : Point) → heldOf s p t ≡ false
 unfolding heldOf

@@ -1,5 +1,6 @@
 -- THE OPTIMUM: for every accepted one-sided sheet the best layout of all is what the walk over the table finds. What stands behind it:
---   0 rules are about pairs       labelling/proofs/Pairs rules-are-pairs; by rank: RankedPairs pairs-rising, rising-pairs
+--   0 rules are about pairs       labelling/proofs/Pairs rules-are-pairs; by rank: RankedPairs pairs-rising, rising-pairs; the sites before
+--                                 a label's first: RankedPairs pairs-tips, Tips tips-i, tips-e
 --   1 steps are rules             Pairs steps-e, steps-i; Steps run-e, run-i; Pays pays-e, pays-i; Counts; here obeys-steps, steps-obey
 --   2 neighbours are enough       Neighbours open-step, up-step, down-step and back step-open, step-join
 --   3 strips are independent      search/proofs/Plan strips-independent (Strips independent); StripsHeld value-best
@@ -14,7 +15,7 @@ use native.Mathlib.Omega.{arith}
 use lib.Dec.{eqb, ltb}
 use lib.ListN.{length, getD, set, replicate, length-replicate}
 use borrow.Author.Tests.{ltb-true, lt-ltb, eqb-true, eqb-false}
-use Rattle.lists.proofs.Tests.{by-test, by-either, or-e, is-false}
+use Rattle.lists.proofs.Tests.{by-test, by-either, clash, or-e, is-false}
 use Rattle.search.specs.Walk.{Before, Cheapest, costOf}
 use Rattle.sheet.specs.Limits.{unbounded}
 use Rattle.sheet.specs.Sheet.{sheetIn, sheetFault, Sheet}
@@ -39,8 +40,9 @@ use Rattle.optimum.proofs.Budgets.{bounded-low, full-digit}
 use Rattle.optimum.proofs.optimality.CostWord.{layout-low, better-costs}
 use Rattle.optimum.proofs.optimality.Order.{Rise, ordered, gather, scatter-long, gather-scatter}
 use Rattle.optimum.proofs.optimality.Distances.{good}
-use Rattle.optimum.proofs.optimality.Instance.{tips-clear, not-held, linear, budgeted}
-use Rattle.optimum.proofs.optimality.RankedPairs.{AllPairs, pairs-rising, rising-pairs, list-e, list-i}
+use Rattle.optimum.proofs.optimality.Instance.{not-held, linear, budgeted}
+use Rattle.optimum.proofs.optimality.Tips.{tips-i, tips-e}
+use Rattle.optimum.proofs.optimality.RankedPairs.{AllPairs, pairs-rising, pairs-tips, rising-pairs, list-e, list-i}
 use Rattle.optimum.proofs.optimality.Counts.{shares-drops, count-is, lead-is, colour-is}
 pub use Rattle.optimum.specs.Budgets.{fullBudget}
 
@@ -94,7 +96,9 @@ module _ (s : Sheet) (o : Sound s) (one : s .isTwoSided ≡ false) where
             (list-i s js (order s) (ordered s o .rise) (λ i j ui uj h. pairs-rising s o one js p i j (ordered s o .low i ui .0) (ordered s o .low j uj .0) h))
 
         tips : Tips (instanceOf s) (replicate (length (s .slots)) 0) (pointsAt s (order s)) (gather js (order s))
-        tips = tips-clear s (order s) _ (gather js (order s))
+        tips =
+            tips-i s js (order s) _ empty-long (ordered s o .rise) (λ i u. (ordered s o .low i u .0, low i u))
+            (λ u hu e. clash (ordered s o .whole u hu (omega arith)) e) (pairs-tips s one js p)
 
         turns : Turns (instanceOf s) (replicate (length (s .slots)) 0) (replicate (suc (length (s .slots))) 0) (pointsAt s (order s)) (gather js (order s))
         turns = turns-all (instanceOf s) (not-held s) (pointsAt s (order s)) _ _ (gather js (order s))
@@ -124,7 +128,10 @@ module _ (s : Sheet) (o : Sound s) (one : s .isTwoSided ≡ false) where
         pairs i j hi hj h = list-e s js (order s) (ordered s o .rise) (q .1) i j (member i hi) (member j hj) h
 
         p : AllInOrder s js
-        p = rising-pairs s o one js pairs
+        p =
+            rising-pairs s o one js pairs (λ i hi first.
+            tips-e s js (order s) _ (ordered s o .rise) w i (member i hi) (low-all s js (order s) (q .0) i (member i hi)) (λ u v. first u (ordered s o .low u v .0))
+            (zeros (length (s .slots)) (getD js i 0)))
 
         two : (c : ℕ) → c < length (s .colours) → Bounded s js c (getD (s .colours) c noColour)
         two c h =

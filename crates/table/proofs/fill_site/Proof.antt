@@ -14,7 +14,7 @@ begin c = c .before .before .before .before .before .before .before .before .bef
 
 site-at-requires : tie.Need-site-at-requires
 site-at-requires c κs =
-    let p = c .before .before .before .before .before .before .before .before .before .before .pre in (p .1 .1, omega (arith, p .0 .sheet .ysLong, p .1 .1), omega (arith, p .0 .sheet .coloursLong, p .1 .1))
+    let p = c .before .before .before .before .before .before .before .before .before .before .pre in (p .0 .sheet .fewSlots, p .1 .1, omega (arith, p .0 .sheet .ysLong, p .1 .1), omega (arith, p .0 .sheet .coloursLong, p .1 .1))
 
 get-requires : tie.Need-get-requires
 get-requires c κs = search needs
