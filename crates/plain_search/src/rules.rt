@@ -62,7 +62,8 @@ fn keeps_colours(sheet: Sheet, layout: u64) -> bool {
 }
 
 // Rules 3 to 5 for a site and a slot: its own, one that is not used, or another label's. A backbone reaches from its left end to the
-// width, and no site lies right of that; it crosses the site's vertical if it lies between the site and its label.
+// width, and no site lies right of that; it crosses the site's vertical if it lies between the site and its label. Rule 5 counts a site
+// at or right of the left end, and one left of it by less than the clearance.
 fn is_clear(sheet: Sheet, layout: u64, site: u32, slot: u32) -> bool {
     let own = at(layout, site);
     let end = left_end(sheet, layout, slot);
@@ -71,10 +72,11 @@ fn is_clear(sheet: Sheet, layout: u64, site: u32, slot: u32) -> bool {
     let label = at(sheet.heights, own);
     let over = apart(label, h);
     let near = apart(y, h);
+    let x = at(sheet.xs, site);
     let is_other = (own != slot) & (end != NOWHERE);
-    let is_left = at(sheet.xs, site) < end;
-    let is_crossed = sum(near, over) == apart(y, label);
-    !is_other | (sheet.gap <= over) & (is_left | (sheet.gap <= near) & !is_crossed)
+    let is_crossed = (end <= x) & (sum(near, over) == apart(y, label));
+    let is_counted = end < sum(x, sheet.clearance);
+    !is_other | (sheet.gap <= over) & !is_crossed & (!is_counted | (sheet.gap <= near))
 }
 
 // Rules 1 to 5: the colours, then each site and each slot.

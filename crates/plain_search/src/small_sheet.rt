@@ -34,6 +34,8 @@ pub struct Sheet {
     // 2 if it is two-sided, and 1 more if the aim is the shortest
     pub flags: u32,
     pub gap: u32,
+    // rule 5 counts a site left of a tip, a backbone's left end, by less than this: the gap. With 1 it counts none there, as in document 01
+    pub clearance: u32,
     pub width: u32,
     // 1 if there is a charge word, and its charge; 0 and 0 if there is none
     pub charges: u32,

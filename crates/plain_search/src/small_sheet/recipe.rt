@@ -52,11 +52,13 @@ fn make_head(before: Sheet) -> Sheet {
     let h = next(g);
     let s = next(before.second);
     let t = next(s);
+    let gap = sum(lesser(drawn(c, 2), drawn(d, 2)), 1);
     Sheet {
         seed: next(h),
         second: t,
         flags: 2 * (drawn(a, 7) / 7) + drawn(b, 1),
-        gap: sum(lesser(drawn(c, 2), drawn(d, 2)), 1),
+        gap: gap,
+        clearance: gap,
         width: drawn(e, 3) + 5,
         charges: drawn(s, 1),
         charge: product(drawn(s, 1), drawn(t, 7)),
@@ -193,6 +195,7 @@ pub fn no_sheet() -> Sheet {
         second: 2,
         flags: 0,
         gap: 0,
+        clearance: 0,
         width: 0,
         charges: 0,
         charge: 0,
