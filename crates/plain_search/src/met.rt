@@ -32,9 +32,12 @@ const EQUALS: u32 = 11;
 
 const SPENT: u32 = 12;
 
-const ALTERED: u32 = 13;
+const CHARGE_ALTERS: u32 = 13;
 
-const DIFFERENCES: u32 = 14;
+// The answer, or refusal 10, is another than by document 01's own rule 5.
+const TIP_ALTERS: u32 = 14;
+
+const DIFFERENCES: u32 = 15;
 
 // The set with a kind, if it is met.
 fn noted(set: u32, kind: u32, met: bool) -> u32 {
@@ -59,7 +62,7 @@ fn spends_bound(sheet: Sheet, layout: u64) -> bool {
 }
 
 // Is the answer another than without the charge?
-fn is_altered(sheet: Sheet, layout: u64) -> bool {
+fn charge_alters(sheet: Sheet, layout: u64) -> bool {
     if sheet.charge == 0 {
         return false;
     }
@@ -67,6 +70,18 @@ fn is_altered(sheet: Sheet, layout: u64) -> bool {
     uncharged.charge = 0;
     let best = search(uncharged);
     best.layout != layout
+}
+
+// Is the answer, or refusal 10, another than where rule 5 counts no site left of a tip? With gap 1 it counts none.
+fn tip_alters(sheet: Sheet, e: Expected) -> bool {
+    if (sheet.clearance == 1) | (e.fault % 10 != 0) {
+        return false;
+    }
+    let mut uncleared = sheet;
+    uncleared.clearance = 1;
+    let other = search(uncleared);
+    let best = e.best;
+    (other.size != best.size) | (other.layout != best.layout)
 }
 
 // The kinds that a sheet is of.
@@ -83,7 +98,8 @@ fn sheet_kinds(sheet: Sheet) -> u32 {
 
 // All that is met in a call: of the sheet, of the answer, and whether it differs from what it should be.
 pub fn kinds_met(sheet: Sheet, e: Expected, right: bool) -> u32 {
-    let set = noted(sheet_kinds(sheet), DIFFERENCES, !right);
+    let called = noted(sheet_kinds(sheet), DIFFERENCES, !right);
+    let set = noted(called, TIP_ALTERS, tip_alters(sheet, e));
     if is_two_sided(sheet) {
         return set;
     }
@@ -93,14 +109,14 @@ pub fn kinds_met(sheet: Sheet, e: Expected, right: bool) -> u32 {
     let best = e.best;
     let equal = noted(joined(set, ANSWERED), EQUALS, 1 < best.equals);
     let spent = noted(equal, SPENT, spends_bound(sheet, best.layout));
-    noted(spent, ALTERED, is_altered(sheet, best.layout))
+    noted(spent, CHARGE_ALTERS, charge_alters(sheet, best.layout))
 }
 
 // Each kind of a set once more.
-pub fn counted(counts: [u32; 15], set: u32) -> [u32; 15] {
+pub fn counted(counts: [u32; 16], set: u32) -> [u32; 16] {
     let mut more = counts;
     let mut i: usize = 0;
-    while i < 15 {
+    while i < 16 {
         more[i] = sum(more[i], (set >> (i as u32)) % 2);
         i += 1;
     }

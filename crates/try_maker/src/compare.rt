@@ -32,8 +32,8 @@ fn is_sheet_right(sheet: Sheet, e: Expected) -> bool {
 }
 
 // How often each kind is met.
-pub fn count_sheets() -> [u32; 15] {
-    let mut counts = [0u32; 15];
+pub fn count_sheets() -> [u32; 16] {
+    let mut counts = [0u32; 16];
     let mut sheet = no_sheet();
     let mut i: u32 = 0;
     while i < SHEETS {
