@@ -27,6 +27,7 @@ use Rattle.rows.proofs.Splitting.{split-by}
 use Rattle.rows.proofs.Places.{upper-is, lower-is}
 use Rattle.strips.proofs.Joining.{opening, opens-of, shut, up-at, down-at, risen-at, fallen-at, up-least, down-least}
 use Rattle.entries.specs.Entries.{openBy, noPart, slotTerm, slotsLeast, joinEntry, insideEntry, entryBy, entryIn}
+use Rattle.entries.proofs.Terms.{slot-barred}
 use Rattle.rows.specs.Rows.{rowOf, rowIn, Lies, markedBy, upperPart, lowerPart}
 
 -- the place of a cell, by its row
@@ -200,21 +201,11 @@ module _ (q : Measures) (hs bs rs ds work parts counts left : List ℕ) (low : �
   unfolding slotTerm
   term-shut k e = rw e
 
-  -- nor does one that is barred count
-  term-barred : (k : ℕ) → hasSlot (s .barred) k ≡ true → term k ≡ topWord
-  unfolding slotTerm
-  term-barred k e =
-      by-test (gapLeft (slotsBy q hs) p s k)
-      (λ g. by-test (noPart q hs parts counts left row p s k)
-      (λ t. rw (g, t))
-      (λ t. rw (g, t, e) (by-test (ltb (getD left v 0) (q .budgets)) (λ u. rw u (top-plus topWord _)) (λ u. rw u))))
-      (λ g. rw g)
-
   total-slot : inside (instanceOn q hs bs) p s ≡ true → siteOpens (instanceOn q hs bs) p s ≡ true → (i : ℕ) → i < p .b - 1 - p .a → total ≤ term (p .a + i)
   total-slot e o i h =
       by-test (gapLeft (slotsBy q hs) p s (p .a + i))
       (λ g. by-test (hasSlot (s .barred) (p .a + i))
-      (λ b. rw (term-barred (p .a + i) b) (least-le-top topWord (length hs) step))
+      (λ b. rw (slot-barred q hs parts counts left row p s (p .a + i) v b) (least-le-top topWord (length hs) step))
       (λ b.
       let k : p .a + i < length hs = omega (arith, lies .bLow) in
       let t = opens-of q hs bs p s (p .a + i) (record { above = omega arith; under = omega arith; slot = k; gap = g; site = o; free = b }) in

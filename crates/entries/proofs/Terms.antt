@@ -6,14 +6,14 @@ use mathlib.Core.List.{List}
 use Prim.Native.Nat.{ℕ, zero, suc, _+_, _*_, _-_, _<_, _≤_, min}
 use native.Mathlib.Omega.{arith}
 use native.Mathlib.Numerals.{add-one}
-use lib.Dec.{eqb, leb}
+use lib.Dec.{eqb, leb, ltb}
 use lib.ListN.{length, getD}
 use borrow.Author.Tests.{le-leb, lt-leb, lt-ltb, le-ltb}
-use Rattle.lists.proofs.Tests.{and-of, by-order}
+use Rattle.lists.proofs.Tests.{and-of, by-test, by-order}
 use Rattle.search.specs.Cost.{plus, least}
-use Rattle.search.proofs.Cost.{least-le-top}
+use Rattle.search.proofs.Cost.{top-plus, least-le-top}
 use Rattle.optimum.specs.Strips.{Point, Strip, inside}
-use Rattle.optimum.specs.OneSided.{topWord}
+use Rattle.optimum.specs.OneSided.{topWord, hasSlot}
 use Rattle.arrays.specs.declared.Measures.{Measures}
 use Rattle.arrays.specs.Arrays.{slotsBy, turnBy}
 use Rattle.strips.specs.declared.Window.{Window}
@@ -58,6 +58,16 @@ module _ (q : Measures) (hs parts counts left : List ℕ) where
   slot-open work low p s k v c upper lower a b g e f h x y z =
       let t : noPart q hs parts counts left (rowIn work low (length hs) (q .colours) (q .budgets)) p s k ≡ false = rw (← f, ← h, ← x, ← y) z in
       rw (g, t, e, f, h)
+
+  -- a slot that is barred to the site
+  pub slot-barred : (row : Strip → ℕ → ℕ) (p : Strip) (s : Point) (k v : ℕ) → hasSlot (s .barred) k ≡ true → slotTerm q hs parts counts left row p s k v ≡ topWord
+  unfolding slotTerm
+  slot-barred row p s k v e =
+      by-test (gapLeft (slotsBy q hs) p s k)
+      (λ g. by-test (noPart q hs parts counts left row p s k)
+      (λ t. rw (g, t))
+      (λ t. rw (g, t, e) (by-test (ltb (getD left v 0) (q .budgets)) (λ u. rw u (top-plus topWord _)) (λ u. rw u))))
+      (λ g. rw g)
 
   -- slots too near an end add nothing
   pub slots-closed : (row : Strip → ℕ → ℕ) (p : Strip) (s : Point) (count d v : ℕ) → ((i : ℕ) → count ≤ i → i < count + d → gapLeft (slotsBy q hs) p s (p .a + i) ≡ false)

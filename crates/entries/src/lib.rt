@@ -138,7 +138,7 @@ fn open_row(
     }
 }
 
-// Opens a label at slot k, unless one of the parts is none at the full budget.
+// Opens a label at slot k, unless it is barred to the site or one of the parts is none at the full budget.
 fn open_slot(
     work: &mut [u32],
     q: Measures,
@@ -157,6 +157,9 @@ fn open_slot(
     requires { λ l. ⌜ RowReady l (stripOf p) (length (now work)) × LeavesGap l (stripOf p) k ⌝ }
     ensures { λ l _. ⌜ SlotTried l (stripOf p) k (now (work .entry)) (now (work .exit)) ⌝ }
 {
+    if strips::is_barred(s, k) {
+        return;
+    }
     let turn = strips::turn_at(heights, s, k);
     let at = rows::part_places(q, heights.len(), p, s, low, k, turn);
     let upper = at.upper;

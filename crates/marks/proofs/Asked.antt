@@ -9,7 +9,7 @@ use lib.ListN.{length}
 use borrow.Author.Tests.{leb-true, ltb-true}
 use Rattle.lists.proofs.Tests.{by-test, by-either, and-both, or-e, clash}
 use Rattle.optimum.specs.Strips.{Point, Strip, Instance, inside, opens, joinsUp, joinsDown, children}
-use Rattle.optimum.specs.OneSided.{topWord}
+use Rattle.optimum.specs.OneSided.{topWord, hasSlot}
 use Rattle.optimum.specs.Reached.{In, Asks}
 use Rattle.arrays.specs.declared.Measures.{Measures}
 use Rattle.strips.specs.Strips.{instanceOn, siteOpens, WindowOf, riseCost, fallCost, risen, fallen}
@@ -81,11 +81,11 @@ module _ (q : Measures) (hs bs : List ℕ) (p : Strip) (s : Point) where
       → (x : Strip) → Asks P p s x → Marked work low (length hs) (q .colours) (q .budgets) x
   marked-out work low o h x a = subst (Marked work low (length hs) (q .colours) (q .budgets)) (sym (asked-out x o a)) h
 
-  -- where it lies inside, if the strip is as the site leaves it that joins, and both parts are at each slot of the window, should it open a label
+  -- where it lies inside, if the strip is as the site leaves it that joins, and both parts are at each slot of the window that is not barred, should it open a label
   pub marked-in : (work : List ℕ) (low : ℕ) (w : Window) → OfSheet (onSlots q hs) → SiteIn q s → inside P p s ≡ true
       → (riseCost q hs bs p s < topWord → Marked work low (length hs) (q .colours) (q .budgets) (risen hs p s))
       → (fallCost q hs bs p s < topWord → Marked work low (length hs) (q .colours) (q .budgets) (fallen hs p s))
-      → (siteOpens P p s ≡ true → WindowOf (slotsBy q hs) p s w × ((k : ℕ) → w .from ≤ k → k < w .to → PartsMarked q work low (length hs) p s k (turnBy hs s k)))
+      → (siteOpens P p s ≡ true → WindowOf (slotsBy q hs) p s w × ((k : ℕ) → w .from ≤ k → k < w .to → hasSlot (s .barred) k ≡ false → PartsMarked q work low (length hs) p s k (turnBy hs s k)))
       → (x : Strip) → Asks P p s x → Marked work low (length hs) (q .colours) (q .budgets) x
   marked-in work low w f g i up down parts x a =
       by-either (asked-in x f g i a)
@@ -95,7 +95,7 @@ module _ (q : Measures) (hs bs : List ℕ) (p : Strip) (s : Point) where
       (λ z. let o = z .opened in
       let b = parts (o .site) in
       let t = and-both _ _ (sym (b .0 .leaves (z .k) (omega (arith, o .above)) (o .under)) ∙ o .gap) in
-      let d = b .1 (z .k) (leb-true _ _ (t .0)) (ltb-true _ _ (t .1)) in
+      let d = b .1 (z .k) (leb-true _ _ (t .0)) (ltb-true _ _ (t .1)) (o .free) in
       by-either (z .which)
       (λ e. subst (Marked work low (length hs) (q .colours) (q .budgets)) (sym e) (d .upper))
       (λ e. subst (Marked work low (length hs) (q .colours) (q .budgets)) (sym e) (d .lower))))

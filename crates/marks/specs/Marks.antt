@@ -1,11 +1,11 @@
 -- Marks: the first word of a strip's row is 1 where the whole sheet leads to the strip. Only marked rows are filled. Definitions.
 use mathlib.Core.Path.{_≡_}
-use mathlib.Core.Bool.{Bool, true}
+use mathlib.Core.Bool.{Bool, true, false}
 use mathlib.Core.List.{List, []}
 use Prim.Native.Nat.{ℕ, _+_, _*_, _<_, _≤_}
 use lib.ListN.{length, getD}
 use Rattle.optimum.specs.Strips.{Point, Strip, Instance}
-use Rattle.optimum.specs.OneSided.{topWord}
+use Rattle.optimum.specs.OneSided.{topWord, hasSlot}
 use Rattle.optimum.specs.Reached.{Asks, Reached, noPoint}
 use Rattle.arrays.specs.declared.Measures.{Measures}
 use Rattle.arrays.specs.Given.{Given, given, pointsOf, OfSheet, SiteIn, Bounded}
@@ -43,7 +43,7 @@ pub record KeptFrom (place : ℕ) (old new : List ℕ) : Type 0 where
 
 -- in the level at the word `low`, of m slots, some words became 1 and nothing else changed: among them the mark of the strip's row, if it is to
 -- stay; those of the strip as a site leaves it that joins the label above, and the label below, where that is lawful; those of both parts, at
--- each slot of a window
+-- each slot of a window that is not barred to the site
 abbrev pub StripMarked : Measures → (m low : ℕ) → Strip → (stays : Bool) → (old new : List ℕ) → Type 0
 StripMarked q m low p stays old new =
     Marking old new low (rowsOf m (q .colours) * q .budgets) × (stays ≡ true → Marked new low m (q .colours) (q .budgets) p)
@@ -56,7 +56,7 @@ JoinsMarked q hs low p s old new =
 
 abbrev pub WindowMarked : Measures → (heights : List ℕ) → (low : ℕ) → Strip → Point → Window → (old new : List ℕ) → Type 0
 WindowMarked q hs low p s w old new =
-    Marking old new low (levelOf q hs) × ((k : ℕ) → w .from ≤ k → k < w .to → PartsMarked q new low (length hs) p s k (turnBy hs s k))
+    Marking old new low (levelOf q hs) × ((k : ℕ) → w .from ≤ k → k < w .to → hasSlot (s .barred) k ≡ false → PartsMarked q new low (length hs) p s k (turnBy hs s k))
 
 -- rows of the level at the word `low` may be marked for the strip p
 abbrev pub StripFits : Measures → (m low : ℕ) → Strip → (area : ℕ) → Type 0

@@ -44,7 +44,7 @@ fn mark_joins(work: &mut [u32], q: Measures, heights: &[u32], p: Strip, s: Site,
     mark_own(work, q, m, down, low, falls);
 }
 
-// Marks the parts that a label leaves of a strip, at each slot of a window.
+// Marks the parts that a label leaves of a strip, at each slot of a window that is not barred to the site.
 fn mark_window(
     work: &mut [u32],
     q: Measures,
@@ -60,6 +60,10 @@ fn mark_window(
 {
     let mut k = window.from;
     while k < window.to {
+        if strips::is_barred(s, k) {
+            k += 1;
+            continue;
+        }
         let turn = strips::turn_at(heights, s, k);
         parts::mark_parts(work, q, heights.len(), p, s, low, k, turn);
         k += 1;

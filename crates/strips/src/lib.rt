@@ -123,7 +123,7 @@ pub fn site_opens(q: Measures, heights: &[u32], bounds: &[u32], p: Strip, s: Sit
 }
 
 // The site may open no label at slot k.
-fn is_barred(s: Site, k: u32) -> bool
+pub fn is_barred(s: Site, k: u32) -> bool
     requires { ⌜ k ≤ mostSlots ⌝ }
     ensures { λ r. ⌜ r ≡ hasSlot (s .barred) k ⌝ }
 {

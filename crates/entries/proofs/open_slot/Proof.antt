@@ -5,21 +5,34 @@ use lib.ListN.{length, getD}
 use Rattle.arrays.specs.Arrays.{turnBy}
 use Rattle.arrays.proofs.Marks.{turn-low}
 use Rattle.arrays.proofs.Narrowed.{on-slots}
-use Rattle.rows.specs.Rows.{stripOf, pointOf, rowOf, upperPart}
+use Rattle.rows.specs.Rows.{stripOf, pointOf, rowOf, rowIn, upperPart}
 use Rattle.parts.proofs.Marking.{fits-place}
 use Rattle.entries.specs.Entries.{PartsFit}
 use Rattle.entries.proofs.Places.{parts-fit, last-in, below-fits}
-use Rattle.entries.proofs.Terms.{slot-none, slot-open}
+use Rattle.entries.proofs.Terms.{slot-none, slot-barred, slot-open}
 use borrow.Author.Needs.{needs}
 use Rattle.entries.proofs.open_slot.Statement.{statement}
 use Rattle.entries.proofs.open_slot.Tie as tie
 
 -- where the function starts, seen from where the parts' rows are known, and from where the label's cost is
 abbrev start : tie.After-part-places → tie.Start
-start c = c .before .before .before .before .before .before .before
+start c = c .before .before .before .before .before .before .before .before .before
 
 abbrev begin : tie.After-open-cost → tie.Start
 begin c = start (c .before .before .before .before .before .before .before .before .before)
+
+is-barred-requires : tie.Need-is-barred-requires
+is-barred-requires c κs =
+    let p = c .before .before .before .before .before .pre in
+    omega (arith, p .0 .ready .sheet .fewSlots, p .0 .lies .bLow, p .1 .0)
+
+returns : tie.Need-returns
+returns c =
+    let a = c .before .before .before .before .before .before .before .args in
+    let l = c .before .before .before .before .before .before .slice-known .given in (
+      record { before = λ i h. refl; after = λ i h. refl },
+      λ v h. omega (arith, slot-barred (a .q) (a .heights .now) (a .parts .now) (a .counts .now) (a .left .now) (rowIn (a .work .now) (a .low) (length (a .heights .now)) (a .q .colours) (a .q .budgets)) (stripOf (a .p)) (pointOf (a .s)) (a .k) v (sym (c .before .is-barred .ensures) ∙ c .if1 .taken), l (a .base + v)),
+    )
 
 turn-at-requires : tie.Need-turn-at-requires
 turn-at-requires c κs = search needs
@@ -38,15 +51,15 @@ fitting c =
 
 part-places-requires : tie.Need-part-places-requires
 part-places-requires c κs =
-    let p = c .before .before .before .before .before .before .pre in
-    (fits-place (below-fits (p .0 .ready)) (omega (arith, p .0 .ready .within, c .before .before .before .before .before .before .fits)), (p .0 .lies, p .0 .ready .site .colourLow, p .1 .0, rw (c .turn-at .ensures) (turn-low _ _ _)))
+    let p = c .before .before .before .before .before .before .before .before .pre in
+    (fits-place (below-fits (p .0 .ready)) (omega (arith, p .0 .ready .within, c .before .before .before .before .before .before .before .before .fits)), (p .0 .lies, p .0 .ready .site .colourLow, p .1 .0, rw (c .turn-at .ensures) (turn-low _ _ _)))
 
 cast-n : tie.Need-cast-n
 cast-n c = search needs
 
 sub-last : tie.Need-sub-last
 sub-last c =
-    omega (arith, c .before .before .before .before .before .before .before .before .pre .0 .ready .sheet .someBudget)
+    omega (arith, c .before .before .before .before .before .before .before .before .before .before .pre .0 .ready .sheet .someBudget)
 
 add-same : tie.Need-add-same
 add-same c =
@@ -81,12 +94,12 @@ same-requires-2 c κs = search needs
 either-requires : tie.Need-either-requires
 either-requires c κs = search needs
 
-returns : tie.Need-returns
-returns c =
+returns-2 : tie.Need-returns-2
+returns-2 c =
     let a = start (c .before .before .before .before .before .before .before) .args in
     let p = start (c .before .before .before .before .before .before .before) .pre in (
       record { before = λ i h. refl; after = λ i h. refl },
-      λ v h. slot-none (a .q) (a .heights .now) (a .parts .now) (a .counts .now) (a .left .now) (a .work .now) (a .low) (stripOf (a .p)) (pointOf (a .s)) (a .k) v _ _ _ _ _ (omega (arith, c .before .before .before .before .before .before .before .before .before .before .before .before .before .slice-known .given (a .base + v))) (p .1 .1) (upper-at (c .before .before .before .before .before .before .before)) (c .before .before .before .before .before .before .before .part-places .ensures .1) (c .before .before .before .before .same .ensures) (c .before .before .same2 .ensures) (sym (c .before .either .ensures) ∙ c .if1 .taken),
+      λ v h. slot-none (a .q) (a .heights .now) (a .parts .now) (a .counts .now) (a .left .now) (a .work .now) (a .low) (stripOf (a .p)) (pointOf (a .s)) (a .k) v _ _ _ _ _ (omega (arith, c .before .before .before .before .before .before .before .before .before .before .before .before .before .before .before .slice-known .given (a .base + v))) (p .1 .1) (upper-at (c .before .before .before .before .before .before .before)) (c .before .before .before .before .before .before .before .part-places .ensures .1) (c .before .before .before .before .same .ensures) (c .before .before .same2 .ensures) (sym (c .before .either .ensures) ∙ c .if2 .taken),
     )
 
 open-cost-requires : tie.Need-open-cost-requires
@@ -102,19 +115,21 @@ same-length : tie.Need-same-length
 same-length c =
     c .before .before .open-row .kept .0
 
-returns-2 : tie.Need-returns-2
-returns-2 c =
+returns-3 : tie.Need-returns-3
+returns-3 c =
     let a = begin (c .before .before .before) .args in
     let p = begin (c .before .before .before) .pre in
     let o = c .before .before .open-row in (
       o .ensures .0,
-      λ v h. o .ensures .1 v h ∙ ap (min (getD (a .work .now) (a .base + v) 0)) (slot-open (a .q) (a .heights .now) (a .parts .now) (a .counts .now) (a .left .now) (a .work .now) (a .low) (stripOf (a .p)) (pointOf (a .s)) (a .k) v _ _ _ _ _ (p .1 .1) (c .before .before .before .open-cost .ensures) (upper-at (c .before .before .before .before .before .before .before .before .before .before .before .before)) (c .before .before .before .before .before .before .before .before .before .before .before .before .part-places .ensures .1) (c .before .before .before .before .before .before .before .before .before .same .ensures) (c .before .before .before .before .before .before .before .same2 .ensures) (sym (c .before .before .before .before .before .before .either .ensures) ∙ c .before .before .before .before .before .if1 .left)),
+      λ v h. o .ensures .1 v h ∙ ap (min (getD (a .work .now) (a .base + v) 0)) (slot-open (a .q) (a .heights .now) (a .parts .now) (a .counts .now) (a .left .now) (a .work .now) (a .low) (stripOf (a .p)) (pointOf (a .s)) (a .k) v _ _ _ _ _ (p .1 .1) (c .before .before .before .open-cost .ensures) (upper-at (c .before .before .before .before .before .before .before .before .before .before .before .before)) (c .before .before .before .before .before .before .before .before .before .before .before .before .part-places .ensures .1) (c .before .before .before .before .before .before .before .before .before .same .ensures) (c .before .before .before .before .before .before .before .same2 .ensures) (sym (c .before .before .before .before .before .before .either .ensures) ∙ c .before .before .before .before .before .if2 .left)),
     )
 
 pub open-slot-spec : {M : Type 1} → statement M
 open-slot-spec =
     tie.close
     (tie.spec
+    is-barred-requires
+    returns
     turn-at-requires
     part-places-requires
     cast-n
@@ -128,8 +143,8 @@ open-slot-spec =
     slice-read-same-2
     same-requires-2
     either-requires
-    returns
+    returns-2
     open-cost-requires
     open-row-requires
     same-length
-    returns-2)
+    returns-3)
