@@ -4,13 +4,14 @@
 //! The benchmark times the library against this. Both read the sheet with all refusals, keep the table in the
 //! caller's work words, mark there the strips that the root reaches, fill only those, pass over a part that is none
 //! within the full budget, list once how budgets are shared, have a loop without shares for a sheet with one budget,
-//! drop the bounds that can't bind, walk by rising x to the lowest slot that keeps the least cost, and leave all work
-//! words zero. What is this one's own: the slots that may open a label, and the cost of that, are known before a level
-//! is filled; the walk adds up the strips beside a site's own once for the site, not for each slot that it tries.
+//! drop the bounds that can't bind, find once a site the slots at which its tip is too near another site, walk by rising x
+//! to the lowest slot that keeps the least cost, and leave all work words zero. What is this one's own: the slots that may
+//! open a label, and the cost of that, are known before a level is filled; the walk adds up the strips beside a site's own
+//! once for the site, not for each slot that it tries.
 
 use crate::budgets::{Budgets, Row, MOST};
 use crate::costs::{Aim, NONE};
-use crate::places::{heights, PLACES};
+use crate::places::{barred, heights, PLACES};
 use crate::sheet::{Sheet, Site, MOST_SITES};
 use std::ops::Range;
 
@@ -40,6 +41,8 @@ struct Maker<'a> {
     budgets: Budgets,
     /// Sites by rising x.
     sites: Vec<Site>,
+    /// For each of them, the places at which it may open no label, one bit each.
+    barred: Vec<u64>,
     heights: [i32; PLACES],
     /// For each place, the first place at least the gap below it, and the place after the last one above it.
     after: [usize; PLACES],
@@ -71,10 +74,12 @@ impl<'a> Maker<'a> {
             after[place] = (place + 1..bottom).find(clear).unwrap_or(bottom);
             before[place] = (1..place).rev().find(clear).map_or(1, |last| last + 1);
         }
+        let sites: Vec<Site> = order.iter().map(|site| sheet.sites[*site]).collect();
         Maker {
             sheet,
             aim: Aim::of(sheet),
-            sites: order.iter().map(|site| sheet.sites[*site]).collect(),
+            barred: barred(sheet, &sites),
+            sites,
             heights,
             after,
             before,
@@ -108,6 +113,10 @@ impl<'a> Maker<'a> {
 
     fn open_cost(&self, site: &Site, place: usize) -> u32 {
         self.aim.cost(1, self.sheet.width - site.x) + self.share_cost(site, place)
+    }
+
+    fn is_barred(&self, rank: usize, place: usize) -> bool {
+        self.barred[rank] >> place & 1 == 1
     }
 
     fn steps(&self, site: &Site, strip: Strip) -> Steps {
@@ -183,7 +192,7 @@ impl<'a> Maker<'a> {
                 let entries = self.entries(strip);
                 if here[entries] == MARK {
                     if strip.above <= split && split < strip.below {
-                        self.mark_steps(site, strip, next);
+                        self.mark_steps(rank, strip, next);
                     } else {
                         next[entries] = MARK;
                     }
@@ -192,12 +201,13 @@ impl<'a> Maker<'a> {
         }
     }
 
-    fn mark_steps(&self, site: &Site, strip: Strip, next: &mut [u32]) {
+    fn mark_steps(&self, rank: usize, strip: Strip, next: &mut [u32]) {
+        let site = &self.sites[rank];
         let steps = self.steps(site, strip);
         if steps.join != NONE {
             next[self.entries(strip)] = MARK;
         }
-        for place in steps.open.0..steps.open.1 {
+        for place in (steps.open.0..steps.open.1).filter(|place| !self.is_barred(rank, *place)) {
             let (upper, lower) = Self::parts(strip, place, site.colour + 1);
             next[self.entries(upper)] = MARK;
             next[self.entries(lower)] = MARK;
@@ -214,7 +224,7 @@ impl<'a> Maker<'a> {
             let split = self.place_above(site);
             let mut open_costs = [0; PLACES];
             for (place, cost) in open_costs.iter_mut().enumerate().take(self.bottom).skip(1) {
-                *cost = self.open_cost(site, place);
+                *cost = if self.is_barred(rank, place) { NONE } else { self.open_cost(site, place) };
             }
             self.for_each_strip(|strip| {
                 let entries = self.entries(strip);
@@ -262,7 +272,7 @@ impl<'a> Maker<'a> {
             let upper = &next[self.entries(upper)..][..count];
             let lower = &next[self.entries(lower)..][..count];
             // A strip that is none within the full budget is none within every budget.
-            if upper[count - 1] != NONE && lower[count - 1] != NONE {
+            if *open != NONE && upper[count - 1] != NONE && lower[count - 1] != NONE {
                 upper_row[..count].copy_from_slice(upper);
                 lower_row[..count].copy_from_slice(lower);
                 self.share(site.colour, *open, &upper_row, &lower_row, row);
@@ -293,7 +303,7 @@ impl<'a> Maker<'a> {
         let mut open = [0; PLACES];
         for (rank, site) in self.sites.iter().enumerate() {
             let next = &work[(rank + 1) * self.level..];
-            let (place, cost) = self.first_step(site, &open, budget, left, next);
+            let (place, cost) = self.first_step(rank, &open, budget, left, next);
             left -= cost;
             if open[place] == 0 {
                 open[place] = site.colour + 1;
@@ -305,7 +315,8 @@ impl<'a> Maker<'a> {
     }
 
     /// The lowest place whose step keeps the least cost, and the cost of that step.
-    fn first_step(&self, site: &Site, open: &[usize; PLACES], budget: usize, left: u32, next: &[u32]) -> (usize, u32) {
+    fn first_step(&self, rank: usize, open: &[usize; PLACES], budget: usize, left: u32, next: &[u32]) -> (usize, u32) {
+        let site = &self.sites[rank];
         let (strip, others) = self.part_page(site, open, next);
         let steps = self.steps(site, strip);
         let colour = site.colour + 1;
@@ -320,7 +331,7 @@ impl<'a> Maker<'a> {
         if strip.above_colour == colour && clear_below && keeps(up, &whole, budget) {
             return (strip.above, up);
         }
-        for place in steps.open.0..steps.open.1 {
+        for place in (steps.open.0..steps.open.1).filter(|place| !self.is_barred(rank, *place)) {
             let cost = self.open_cost(site, place);
             if self.budgets.allowing[site.colour] >> budget & 1 == 1
                 && keeps(cost, &self.opened(strip, place, colour, next), budget - self.budgets.draw[site.colour])

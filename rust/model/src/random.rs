@@ -1,6 +1,7 @@
 //! Random sheets and damage to them, the same on each run.
 
 use crate::rules::{self, layout_words};
+use crate::search::{find, find_by};
 use crate::sheet::{Sheet, Site, MOST_BUDGETS, MOST_CHARGE, UNBOUNDED};
 
 /// Splitmix64: one 64-bit state, good enough to spread over small sheets.
@@ -88,11 +89,9 @@ pub struct Shape {
 pub fn sheet_of(shape: Shape, random: &mut Random) -> Sheet {
     let slots = random.rising(shape.slots, shape.height);
     let bounds = bounds(shape.colours, random);
-    let mut columns = random.rising(shape.sites, shape.width);
-    random.shuffle(&mut columns);
     let mut sites: Vec<Site> = Vec::new();
     if shape.colours > 0 {
-        for x in columns {
+        for x in columns(shape, random) {
             let colour = random.below(shape.colours as u32) as usize;
             sites.push(Site { x, y: site_height(&slots, &sites, shape.height, random), colour });
         }
@@ -101,6 +100,27 @@ pub fn sheet_of(shape: Shape, random: &mut Random) -> Sheet {
     let (two_sided, shortest) = (random.one_in(2), random.one_in(2));
     let charge = charge(shape, &mut random.beside());
     Sheet { two_sided, shortest, gap: shape.gap, width: shape.width, charge, slots, bounds, sites }
+}
+
+/// The x of the sites, in any order.
+fn columns(shape: Shape, random: &mut Random) -> Vec<u32> {
+    let anywhere = random.rising(shape.sites, shape.width);
+    let mut columns = near_columns(shape, &mut random.beside()).unwrap_or(anywhere);
+    random.shuffle(&mut columns);
+    columns
+}
+
+/// Every second time columns about the gap apart, where the width has room for them: then tips have sites beside them, less
+/// than the gap to the left, as far as the gap, and further.
+fn near_columns(shape: Shape, random: &mut Random) -> Option<Vec<u32>> {
+    let mut x = random.between(0, shape.gap);
+    let mut columns = Vec::new();
+    for _ in 0..shape.sites {
+        columns.push(x);
+        x += random.between(1, shape.gap + 1);
+    }
+    let fits = columns.last().is_none_or(|last| *last <= shape.width);
+    (fits && random.one_in(2)).then_some(columns)
 }
 
 /// Half of the sheets have a charge word: one of 0, one that weighs as much as a few drops, or the greatest.
@@ -150,7 +170,7 @@ pub fn small_sheet(random: &mut Random) -> Sheet {
         colours: random.pick(&[1, 1, 2, 2, 2, 3, 4]),
         sites,
         width: random.between(8, 14) * scale,
-        gap: random.pick(&[1, 1, 1, 2, 2, 3]) * scale,
+        gap: random.pick(&[1, 2, 2, 3]) * scale,
         height: random.between(8, 18) * scale,
     };
     sheet_of(shape, random)
@@ -250,10 +270,15 @@ fn stored_sheet(random: &mut Random) -> Vec<u32> {
     stored
 }
 
-/// A stored sheet of either side: the best layout of a search, an invented one, or a damaged one.
+/// A stored sheet of either side: the best layout of a search, the best of a search that knows no clearance at the tip, an
+/// invented one, or a damaged one.
 pub fn any_stored(random: &mut Random) -> Vec<u32> {
     let sheet = small_sheet(random);
-    let found = if random.one_in(4) { crate::search::find(&sheet) } else { None };
+    let found = match random.below(6) {
+        0 => find(&sheet),
+        1 => find_by(&sheet, |ties| ties.broken_but_for_tips()),
+        _ => None,
+    };
     let layout = found.map_or_else(|| invented_layout(&sheet, random), |found| layout_words(&sheet, &found.slot_of));
     let mut stored = [sheet.words(), layout].concat();
     for _ in 0..random.pick(&[0, 0, 0, 1, 2]) {
@@ -262,20 +287,22 @@ pub fn any_stored(random: &mut Random) -> Vec<u32> {
     stored
 }
 
-/// Holds a judge to the plain one on so many stored sheets, among which each rule and each refusal is met.
+/// Holds a judge to the plain one on so many stored sheets, among which each rule, a tip too near a site, and each refusal
+/// is met.
 pub fn hold_judge(judge: impl Fn(&[u32]) -> (u8, u8), sheets: usize, seed: u64) {
     let mut random = Random::new(seed);
-    let (mut rules_met, mut refusals_met) = ([0; 7], [0; 12]);
+    let (mut rules_met, mut refusals_met, mut near_tips) = ([0; 7], [0; 12], 0);
     for _ in 0..sheets {
         let stored = stored_sheet(&mut random);
         let (refusal, rule) = rules::judge(&stored);
         assert_eq!(judge(&stored), (refusal, rule), "{stored:x?}");
         if refusal == 0 {
             rules_met[usize::from(rule)] += 1;
+            near_tips += usize::from(rules::breaks_at_tips_alone(&stored));
         }
         refusals_met[usize::from(refusal)] += 1;
     }
-    assert!(rules_met.iter().all(|times| *times > sheets / 1000), "{rules_met:?}");
+    assert!(rules_met.iter().chain([&near_tips]).all(|times| *times > sheets / 1000), "{rules_met:?} {near_tips}");
     for refusal in [1, 2, 4, 5, 6, 7, 11] {
         assert!(refusals_met[refusal] > sheets / 2000, "{refusals_met:?}");
     }

@@ -95,9 +95,13 @@ impl Search<'_> {
     /// Does the tie of this rank to a slot obey rules 1 to 5 beside the ties of lower rank?
     fn is_lawful(&self, rank: usize, slot: usize) -> bool {
         let site = &self.sheet.sites[self.order[rank]];
+        let opens = self.opens(rank, slot);
         let in_order = |(other, its): (&Site, usize)| {
             if its == slot {
                 return other.colour == site.colour;
+            }
+            if opens && self.is_at_tip(other, site.x, slot) {
+                return false;
             }
             let far = self.sheet.slots[slot].abs_diff(self.sheet.slots[its]) >= self.sheet.gap;
             // The other's label reaches this site; this one's label reaches the other if it is two-sided, or if a
@@ -114,6 +118,17 @@ impl Search<'_> {
         !crosses && site.y.abs_diff(height) >= self.sheet.gap
     }
 
+    /// Is a foreign site left of a tip at this x too near it? On a two-sided sheet tips are at the edge.
+    fn is_at_tip(&self, site: &Site, tip: u32, slot: usize) -> bool {
+        let near = |distance: u32| distance < self.sheet.gap;
+        !self.sheet.two_sided && near(tip - site.x) && near(site.y.abs_diff(self.sheet.slots[slot]))
+    }
+
+    /// Does the tie of this rank to a slot open a label?
+    fn opens(&self, rank: usize, slot: usize) -> bool {
+        self.tied(rank).all(|(_, its)| its != slot)
+    }
+
     /// Rule 2 with this tie.
     fn is_within_bound(&self, rank: usize, slot: usize) -> bool {
         let colour = self.sheet.sites[self.order[rank]].colour;
@@ -126,7 +141,7 @@ impl Search<'_> {
     fn after(&self, rank: usize, slot: usize, (count, length): Numbers) -> Numbers {
         let site = &self.sheet.sites[self.order[rank]];
         let share = self.sheet.share(self.sheet.slots[slot].abs_diff(site.y));
-        if self.tied(rank).any(|(_, its)| its == slot) {
+        if !self.opens(rank, slot) {
             return (count, length + share);
         }
         let left_end = if self.sheet.two_sided { 0 } else { site.x };

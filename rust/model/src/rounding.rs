@@ -6,7 +6,7 @@
 
 use crate::budgets::Budgets;
 use crate::maker::keep_binding_bounds;
-use crate::places::{heights, PLACES};
+use crate::places::{barred, heights, PLACES};
 use crate::sheet::{Sheet, Site};
 use std::collections::HashMap;
 use std::rc::Rc;
@@ -88,6 +88,8 @@ struct Rival<'a> {
     rounding: Rounding,
     budgets: Budgets,
     order: Vec<usize>,
+    /// For each rank, the places at which its site may open no label, one bit each.
+    barred: Vec<u64>,
     heights: [i32; PLACES],
     known: HashMap<(usize, Strip), Row>,
     /// Where ties are given, they alone are allowed.
@@ -119,11 +121,14 @@ impl<'a> Rival<'a> {
         if sheet.two_sided {
             return Err(Unserved::TwoSided);
         }
+        let order = sheet.by_x();
+        let sites: Vec<Site> = order.iter().map(|site| sheet.sites[*site]).collect();
         Ok(Rival {
             sheet,
             rounding,
             budgets: Budgets::of(sheet),
-            order: sheet.by_x(),
+            order,
+            barred: barred(sheet, &sites),
             heights: heights(sheet),
             known: HashMap::new(),
             given,
@@ -189,9 +194,9 @@ impl<'a> Rival<'a> {
 
     fn may_open(&self, rank: usize, strip: Strip, place: usize) -> bool {
         let y = self.site(rank).y as i32;
-        [strip.above.0, strip.below.0]
-            .iter()
-            .all(|end| self.is_clear(*end, self.heights[place]) && self.is_clear(*end, y))
+        let is_barred = self.barred[rank] >> place & 1 == 1;
+        let far = |end: usize| self.is_clear(end, self.heights[place]) && self.is_clear(end, y);
+        !is_barred && far(strip.above.0) && far(strip.below.0)
     }
 
     fn share_length(&self, site: Site, place: usize) -> u64 {

@@ -61,12 +61,28 @@ impl<'a> Ties<'a> {
         })
     }
 
-    /// A backbone lies at least the gap from every site of another label at or right of its left end.
+    /// A backbone lies at least the gap from every site of another label that counts: one at or right of its left end, and on
+    /// a one-sided sheet one left of it by less than the gap.
     fn obeys_5(&self) -> bool {
+        self.clears_backbones() && self.clears_tips()
+    }
+
+    /// Rule 5 for the sites at or right of a left end.
+    fn clears_backbones(&self) -> bool {
+        self.clears(|site, left| site.x >= left)
+    }
+
+    /// Rule 5 for the sites left of a left end: a two-sided sheet has none.
+    fn clears_tips(&self) -> bool {
+        self.clears(|site, left| site.x < left && left - site.x < self.sheet.gap)
+    }
+
+    /// Does each backbone lie at least the gap from the sites of other labels that count against its left end?
+    fn clears(&self, counts: impl Fn(&Site, u32) -> bool) -> bool {
         self.sheet.sites.iter().zip(self.slot_of).all(|(site, own)| {
             self.used().all(|(slot, left)| {
                 let distance = site.y.abs_diff(self.sheet.slots[slot]);
-                slot == *own || site.x < left || distance >= self.sheet.gap
+                slot == *own || !counts(site, left) || distance >= self.sheet.gap
             })
         })
     }
@@ -81,7 +97,16 @@ impl<'a> Ties<'a> {
 
     /// The least broken rule among 1 to 5, or 0.
     pub fn broken(&self) -> u8 {
-        let rules = [Self::obeys_1, Self::obeys_2, Self::obeys_3, Self::obeys_4, Self::obeys_5];
+        self.first_broken(&[Self::obeys_1, Self::obeys_2, Self::obeys_3, Self::obeys_4, Self::obeys_5])
+    }
+
+    /// The least broken rule among 1 to 5, or 0, where foreign sites may be near a tip: for counts of what the clearance at
+    /// the tip alters.
+    pub fn broken_but_for_tips(&self) -> u8 {
+        self.first_broken(&[Self::obeys_1, Self::obeys_2, Self::obeys_3, Self::obeys_4, Self::clears_backbones])
+    }
+
+    fn first_broken(&self, rules: &[fn(&Self) -> bool]) -> u8 {
         let first = rules.iter().position(|obeys| !obeys(self));
         first.map_or(0, |rule| rule as u8 + 1)
     }
@@ -93,6 +118,14 @@ pub fn judge(stored: &[u32]) -> (u8, u8) {
         Err(refusal) => (refusal, 0),
         Ok((sheet, slot_of, stated)) => (0, verdict(&sheet, &slot_of, stated)),
     }
+}
+
+/// Are foreign sites at tips all that breaks one of rules 1 to 5 in this stored sheet?
+pub fn breaks_at_tips_alone(stored: &[u32]) -> bool {
+    split(stored).is_ok_and(|(sheet, slot_of, _)| {
+        let ties = Ties::new(&sheet, &slot_of);
+        ties.broken() == 5 && ties.broken_but_for_tips() == 0
+    })
 }
 
 /// The least broken rule of a layout with these ties that states these numbers, 0 if there is none.

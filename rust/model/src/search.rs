@@ -15,10 +15,15 @@ pub fn best(sheet: &Sheet) -> Option<Vec<u32>> {
 }
 
 /// The best layout, or none where no layout obeys rules 1 to 5.
+pub fn find(sheet: &Sheet) -> Option<Found> {
+    find_by(sheet, |ties| ties.broken())
+}
+
+/// The best of the ties for which `broken` gives 0, or none where it does so for none.
 ///
 /// Layouts are tried in the order of choice (the site with the least x first, its lowest slot first), so the
 /// first of the equals is the one that is kept.
-pub fn find(sheet: &Sheet) -> Option<Found> {
+pub fn find_by(sheet: &Sheet, broken: impl Fn(&Ties) -> u8) -> Option<Found> {
     let order = sheet.by_x();
     let mut slot_of = vec![0; sheet.sites.len()];
     let mut least: Option<((u32, u32), Found)> = None;
@@ -27,7 +32,7 @@ pub fn find(sheet: &Sheet) -> Option<Found> {
     }
     loop {
         let ties = Ties::new(sheet, &slot_of);
-        if ties.broken() == 0 {
+        if broken(&ties) == 0 {
             let (count, length) = ties.numbers();
             let cost = if sheet.shortest { (length, count) } else { (count, length) };
             match &mut least {

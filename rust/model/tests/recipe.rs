@@ -1,7 +1,7 @@
 //! The sheets of the test program `try_maker`, drawn here by its recipe, and what the search in Rust finds in them:
 //! each count that the program has to print is counted twice, by code that shares nothing.
 
-use model::search::{find, Found};
+use model::search::{find, find_by, Found};
 use model::sheet::{Sheet, Site, UNBOUNDED};
 
 const SHEETS: usize = 20_000;
@@ -139,8 +139,14 @@ fn charge_alters(sheet: &Sheet, found: &Found) -> bool {
     find(&uncharged).is_none_or(|other| other.slot_of != found.slot_of)
 }
 
+/// Whether there would be another layout, or one at all, if rule 5 did not count sites left of a tip.
+fn tip_alters(sheet: &Sheet, found: Option<&Found>) -> bool {
+    let other = find_by(sheet, |ties| ties.broken_but_for_tips());
+    other.map(|other| other.slot_of).as_ref() != found.map(|found| &found.slot_of)
+}
+
 /// What the program prints beside each count.
-const LINES: [&str; 14] = [
+const LINES: [&str; 15] = [
     "sheets",
     "two-sided, refused 18",
     "with the aim shortest",
@@ -155,6 +161,7 @@ const LINES: [&str; 14] = [
     "answers with equals",
     "answers that spend a bound",
     "answers that the charge alters",
+    "answers that the tip alters",
 ];
 
 /// Which of the lines the next sheet and the call with it count for.
@@ -183,6 +190,7 @@ fn met(recipe: &mut Recipe) -> [bool; LINES.len()] {
         answer.is_some_and(|found| found.equals > 1),
         answer.is_some_and(|found| spends_bound(&sheet, found)),
         answer.is_some_and(|found| charge_alters(&sheet, found)),
+        lent && tip_alters(&sheet, found.as_ref()),
     ]
 }
 
