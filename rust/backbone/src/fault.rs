@@ -1,6 +1,6 @@
 //! Where a layout breaks a rule. The judge says which rule is broken; this says at which sites and slots, in words.
 
-use crate::{labels, true_numbers, Label, Layout, Rule, Sheet};
+use crate::{labels, true_numbers, Label, Layout, Rule, Sheet, Site};
 use std::fmt;
 
 /// One place at which a rule is broken, with what is there.
@@ -16,6 +16,9 @@ pub enum Fault {
     Crossing { site: usize, x: u32, slot: usize },
     /// Rule 5: a site, and by how much it lies below the backbone at a slot that is not its own (less than 0: above).
     NearSite { site: usize, slot: usize, below: i32, gap: u32 },
+    /// Rule 5: a site, how far it lies left of the tip of the backbone at a slot that is not its own, and by how much below
+    /// it (less than 0: above). Both are less than the gap.
+    NearTip { site: usize, slot: usize, left: u32, below: i32, gap: u32 },
     /// Rule 6: a count and a length as stated, and as they are.
     FalseNumbers { stated: (u32, u32), found: (u32, u32) },
 }
@@ -76,42 +79,46 @@ fn close_backbones(sheet: &Sheet, labels: &[Label]) -> Vec<Fault> {
     close.map(|(upper, lower, apart)| Fault::CloseBackbones { upper, lower, apart, gap }).collect()
 }
 
-/// Each site with its own label, and each other label whose backbone reaches the site's x.
-fn reached<'a>(sheet: &'a Sheet, labels: &'a [Label]) -> impl Iterator<Item = (usize, &'a Label, &'a Label)> + 'a {
+/// Each site with its own label and each other label.
+fn foreign(labels: &[Label]) -> impl Iterator<Item = (usize, &Label, &Label)> {
     let tied = labels.iter().flat_map(|own| own.sites.iter().map(move |site| (*site, own)));
     let mut tied: Vec<(usize, &Label)> = tied.collect();
     tied.sort_by_key(|(site, _)| *site);
     tied.into_iter().flat_map(move |(site, own)| {
-        let reaches = move |other: &&Label| other.slot != own.slot && other.left_end <= sheet.sites()[site].x;
-        labels.iter().filter(reaches).map(move |other| (site, own, other))
+        labels.iter().filter(|other| other.slot != own.slot).map(move |other| (site, own, other))
     })
 }
 
 fn crossings(sheet: &Sheet, labels: &[Label]) -> Vec<Fault> {
     let meets = |(site, own, other): &(usize, &Label, &Label)| {
-        let y = sheet.sites()[*site].y;
-        (y.min(own.height)..=y.max(own.height)).contains(&other.height)
+        let Site { x, y, .. } = sheet.sites()[*site];
+        other.left_end <= x && (y.min(own.height)..=y.max(own.height)).contains(&other.height)
     };
     let fault = |(site, _, other): (usize, &Label, &Label)| Fault::Crossing {
         site,
         x: sheet.sites()[site].x,
         slot: other.slot,
     };
-    reached(sheet, labels).filter(meets).map(fault).collect()
+    foreign(labels).filter(meets).map(fault).collect()
 }
 
 fn near_sites(sheet: &Sheet, labels: &[Label]) -> Vec<Fault> {
-    let gap = sheet.gap();
+    foreign(labels).filter_map(|(site, _, other)| near_site(sheet, site, other)).collect()
+}
+
+/// A site that is too near the backbone of another label, or its tip.
+fn near_site(sheet: &Sheet, site: usize, label: &Label) -> Option<Fault> {
+    let (gap, slot, Site { x, y, .. }) = (sheet.gap(), label.slot, sheet.sites()[site]);
     // Heights have 14 bits, so their difference fits.
-    let below = |site: usize, label: &Label| sheet.sites()[site].y as i32 - label.height as i32;
-    let near = |(site, _, other): &(usize, &Label, &Label)| below(*site, other).unsigned_abs() < gap;
-    let fault = |(site, _, other): (usize, &Label, &Label)| Fault::NearSite {
-        site,
-        slot: other.slot,
-        below: below(site, other),
-        gap,
-    };
-    reached(sheet, labels).filter(near).map(fault).collect()
+    let below = y as i32 - label.height as i32;
+    if below.unsigned_abs() >= gap {
+        return None;
+    }
+    match label.left_end.saturating_sub(x) {
+        0 => Some(Fault::NearSite { site, slot, below, gap }),
+        left if left < gap => Some(Fault::NearTip { site, slot, left, below, gap }),
+        _ => None,
+    }
 }
 
 impl Fault {
@@ -119,7 +126,7 @@ impl Fault {
     pub fn sites(&self) -> Vec<usize> {
         match self {
             Fault::MixedColours { sites, .. } => sites.to_vec(),
-            Fault::Crossing { site, .. } | Fault::NearSite { site, .. } => vec![*site],
+            Fault::Crossing { site, .. } | Fault::NearSite { site, .. } | Fault::NearTip { site, .. } => vec![*site],
             Fault::TooManyLabels { .. } | Fault::CloseBackbones { .. } | Fault::FalseNumbers { .. } => Vec::new(),
         }
     }
@@ -127,9 +134,10 @@ impl Fault {
     /// The slots that it is about.
     pub fn slots(&self) -> Vec<usize> {
         match self {
-            Fault::MixedColours { slot, .. } | Fault::Crossing { slot, .. } | Fault::NearSite { slot, .. } => {
-                vec![*slot]
-            }
+            Fault::MixedColours { slot, .. }
+            | Fault::Crossing { slot, .. }
+            | Fault::NearSite { slot, .. }
+            | Fault::NearTip { slot, .. } => vec![*slot],
             Fault::TooManyLabels { slots, .. } => slots.clone(),
             Fault::CloseBackbones { upper, lower, .. } => vec![*upper, *lower],
             Fault::FalseNumbers { .. } => Vec::new(),
@@ -150,6 +158,11 @@ fn listed(slots: &[usize]) -> String {
         Some((last, rest)) => format!("slots {} and {last}", rest.join(", ")),
         None => "no slot".to_string(),
     }
+}
+
+/// How far from a backbone, and on which side of it.
+fn height_from(below: i32) -> (u32, &'static str) {
+    (below.unsigned_abs(), if below > 0 { "below" } else { "above" })
 }
 
 /// What is wrong.
@@ -173,8 +186,17 @@ impl fmt::Display for Fault {
                 write!(out, "site {site} lies on the backbone at slot {slot}, which is not its own")
             }
             Fault::NearSite { site, slot, below, gap } => {
-                let (distance, side) = (below.unsigned_abs(), if *below > 0 { "below" } else { "above" });
+                let (distance, side) = height_from(*below);
                 write!(out, "site {site} lies {distance} {side} the backbone at slot {slot}, less than the gap {gap}")
+            }
+            Fault::NearTip { site, slot, left, below: 0, gap } => {
+                write!(out, "site {site} lies on the row of the backbone at slot {slot}, {left} left of its tip, ")?;
+                write!(out, "less than the gap {gap}")
+            }
+            Fault::NearTip { site, slot, left, below, gap } => {
+                let (distance, side) = height_from(*below);
+                write!(out, "site {site} lies {left} left of the tip of the backbone at slot {slot} and {distance} ")?;
+                write!(out, "{side} it, both less than the gap {gap}")
             }
             Fault::FalseNumbers { stated, found } => {
                 let (stated_count, found_count) = (counted(stated.0), counted(found.0));

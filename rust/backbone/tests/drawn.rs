@@ -22,7 +22,7 @@ fn sheet_a_and_its_heads() {
     assert_eq!(laid_out(&SHEET_A), Ok((2, 19, vec![0, 0, 2])));
     assert_eq!(laid_out(&with_head(0x14008008)), Ok((3, 18, vec![0, 1, 2])), "shortest");
     assert_eq!(laid_out(&with_head(0x18008008)), Err(Refusal::TwoSided), "two-sided");
-    assert_eq!(laid_out(&with_head(0x1000C008)), Ok((2, 19, vec![2, 2, 0])), "gap 3");
+    assert_eq!(laid_out(&with_head(0x1000C008)), Err(Refusal::NoLayout), "gap 3, by document 02");
     assert_eq!(laid_out(&with_head(0x10010008)), Err(Refusal::NoLayout), "gap 4");
     assert_eq!(laid_out(&[0x10008008]), Ok((0, 0, vec![])), "head alone");
 }
@@ -35,6 +35,7 @@ fn sheet_a_with_charges() {
         let charged = |head: u32| [&[head, 0x50000000 | charge], &SHEET_A[1..]].concat();
         assert_eq!(laid_out(&charged(0x10008008)), Ok((2, 19 + 3 * charge, vec![0, 0, 2])));
         assert_eq!(laid_out(&charged(0x18008008)), Err(Refusal::TwoSided), "two-sided");
+        assert_eq!(laid_out(&charged(0x1000C008)), Err(Refusal::NoLayout), "gap 3");
         assert_eq!(laid_out(&charged(0x10010008)), Err(Refusal::NoLayout), "gap 4");
     }
     assert_eq!(laid_out(&[0x10008008, 0x50003FFF]), Ok((0, 0, vec![])), "head and charge alone");

@@ -43,7 +43,7 @@ fn labels_have_the_true_numbers() {
 #[test]
 fn every_broken_rule_has_its_places() {
     let mut random = Random::new(92);
-    let mut met = [0; 7];
+    let (mut met, mut tips) = ([0; 7], 0);
     for _ in 0..50_000 {
         let Some((stored, rule, numbers)) = any_stored(&mut random) else { continue };
         let (sheet, layout) = parts(&stored);
@@ -55,9 +55,10 @@ fn every_broken_rule_has_its_places() {
             assert!(!faults.is_empty(), "{stored:x?}");
             faults.iter().for_each(|fault| assert!(holds(fault, &sheet, &layout, numbers), "{fault}: {stored:x?}"));
             assert_eq!(faults.len(), count(found, &sheet, &layout), "{faults:?}: {stored:x?}");
+            tips += usize::from(faults.iter().all(|fault| matches!(fault, Fault::NearTip { .. })));
         }
     }
-    assert!(met.iter().all(|times| *times > 100), "{met:?}");
+    assert!(met.iter().chain([&tips]).all(|times| *times > 100), "{met:?} {tips}");
 }
 
 fn left_end(sheet: &Sheet, layout: &Layout, slot: usize) -> u32 {
@@ -103,6 +104,14 @@ fn holds(fault: &Fault, sheet: &Sheet, layout: &Layout, numbers: (u32, u32)) -> 
                 && below.unsigned_abs() < *gap
                 && *gap == sheet.gap()
         }
+        Fault::NearTip { site, slot, left, below, gap } => {
+            i64::from(sites[*site].y) == i64::from(sheet.slots()[*slot]) + i64::from(*below)
+                && left_end(sheet, layout, *slot) == sites[*site].x + left
+                && slot_of(*site) != *slot
+                && (1..*gap).contains(left)
+                && below.unsigned_abs() < *gap
+                && *gap == sheet.gap()
+        }
         Fault::FalseNumbers { stated, found } => *stated == (layout.labels, layout.length) && *found == numbers,
     }
 }
@@ -134,10 +143,15 @@ fn count(rule: Rule, sheet: &Sheet, layout: &Layout) -> usize {
             used.windows(2).filter(|pair| sheet.slots()[pair[1]] - sheet.slots()[pair[0]] < gap).count()
         }
         Rule::NoCrossing => site_and_slot(&|site, slot| Fault::Crossing { site, x: sheet.sites()[site].x, slot }),
-        Rule::SitesClear => site_and_slot(&|site, slot| {
-            let below = sheet.sites()[site].y as i32 - sheet.slots()[slot] as i32;
-            Fault::NearSite { site, slot, below, gap }
-        }),
+        Rule::SitesClear => {
+            let below = |site: usize, slot: usize| sheet.sites()[site].y as i32 - sheet.slots()[slot] as i32;
+            let left = |site: usize, slot| left_end(sheet, layout, slot).saturating_sub(sheet.sites()[site].x);
+            site_and_slot(&|site, slot| Fault::NearSite { site, slot, below: below(site, slot), gap })
+                + site_and_slot(&|site, slot| {
+                    let (left, below) = (left(site, slot), below(site, slot));
+                    Fault::NearTip { site, slot, left, below, gap }
+                })
+        }
         Rule::TrueNumbers => 1,
     }
 }
@@ -176,6 +190,18 @@ fn faults_say_what_is_wrong() {
     assert_eq!(
         says(Fault::NearSite { site: 2, slot: 3, below: 0, gap: 2 }),
         "site 2 lies on the backbone at slot 3, which is not its own"
+    );
+    assert_eq!(
+        says(Fault::NearTip { site: 2, slot: 3, left: 4, below: 1, gap: 5 }),
+        "site 2 lies 4 left of the tip of the backbone at slot 3 and 1 below it, both less than the gap 5"
+    );
+    assert_eq!(
+        says(Fault::NearTip { site: 2, slot: 3, left: 1, below: -4, gap: 5 }),
+        "site 2 lies 1 left of the tip of the backbone at slot 3 and 4 above it, both less than the gap 5"
+    );
+    assert_eq!(
+        says(Fault::NearTip { site: 2, slot: 3, left: 1, below: 0, gap: 2 }),
+        "site 2 lies on the row of the backbone at slot 3, 1 left of its tip, less than the gap 2"
     );
     assert_eq!(
         says(Fault::FalseNumbers { stated: (2, 18), found: (2, 19) }),

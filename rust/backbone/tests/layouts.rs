@@ -5,7 +5,7 @@ mod common;
 use backbone::{judge, Refusal};
 use common::{make_in_enough, numbered};
 use model::random::{medium_sheet, small_sheet, Random};
-use model::sheet::{Sheet, MOST_CHARGE, UNBOUNDED};
+use model::sheet::{Sheet, Site, MOST_CHARGE, UNBOUNDED};
 use model::{maker, rules, search};
 
 const SMALL_SHEETS: usize = 100_000;
@@ -46,6 +46,8 @@ struct Met {
     site_on_slot: usize,
     /// A charge word of 0, one of the greatest charge, and others.
     charged: [usize; 3],
+    /// A site left of another by less than the gap, and a slot that the other may therefore not open.
+    slot_barred: usize,
 }
 
 impl Met {
@@ -59,6 +61,12 @@ impl Met {
         self.equal_y += usize::from((0..sheet.sites.len()).any(level));
         self.bound_shared += usize::from(sheet.bounds.iter().enumerate().any(binds));
         self.site_on_slot += usize::from(sheet.sites.iter().any(|site| sheet.slots.contains(&site.y)));
+        let bars = |(site, other): (&Site, &Site)| {
+            let near = |from: u32, to: u32| from.abs_diff(to) < sheet.gap;
+            site.x < other.x && near(site.x, other.x) && sheet.slots.iter().any(|height| near(*height, site.y))
+        };
+        let pairs = sheet.sites.iter().flat_map(|site| sheet.sites.iter().map(move |other| (site, other)));
+        self.slot_barred += usize::from(pairs.into_iter().any(bars));
         if let Some(charge) = sheet.charge {
             self.charged[[0, MOST_CHARGE].iter().position(|edge| *edge == charge).unwrap_or(2)] += 1;
         }
@@ -66,7 +74,7 @@ impl Met {
 
     fn least(&self) -> usize {
         let counts = self.laid_out.into_iter().chain(self.no_layout).chain(self.charged);
-        counts.chain([self.bound_shared, self.equal_y, self.site_on_slot]).min().unwrap_or(0)
+        counts.chain([self.bound_shared, self.equal_y, self.site_on_slot, self.slot_barred]).min().unwrap_or(0)
     }
 }
 

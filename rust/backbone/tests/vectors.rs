@@ -1,6 +1,5 @@
-//! Every case of vectors.txt and of vectors_without_charges.txt through the library, in areas that hold something before, and
-//! through the plain model, which the random tests hold the library to. The lines of the program run beside the program:
-//! see `program`.
+//! Every line of vectors.txt through the library, in areas that hold something before, and through the plain model, which
+//! the random tests hold the library to. The lines of the program run beside the program: see `program`.
 
 mod common;
 
@@ -42,7 +41,7 @@ fn answer(case: &Case, random: &mut Random) -> Option<String> {
         ("twin", [area]) => told(twin_in_dirt(&case.words, *area, random), show),
         ("stroke", [place]) => stroke(&case.words, *place),
         ("program", []) => return None,
-        (operation, numbers) => panic!("{}: no operation '{operation}' with numbers {numbers:?}", case.line),
+        (operation, numbers) => panic!("line {}: no operation '{operation}' with numbers {numbers:?}", case.line),
     })
 }
 
@@ -51,11 +50,11 @@ fn hold(operations: usize, mut answer: impl FnMut(&Case) -> Option<String>) {
     let mut met = BTreeMap::new();
     for case in cases() {
         if let Some(answer) = answer(&case) {
-            assert_eq!(answer, case.answer, "{}", case.line);
+            assert_eq!(answer, case.answer, "line {}", case.line);
             *met.entry(case.operation).or_insert(0) += 1;
         }
     }
-    assert!(met.len() == operations && met.values().all(|lines| *lines > 200), "{met:?}");
+    assert!(met.len() == operations && met.values().all(|lines| *lines > 100), "{met:?}");
 }
 
 #[test]

@@ -1,10 +1,9 @@
-//! The cases of vectors.txt and vectors_without_charges.txt with their answers, which two programs agreed on that share
-//! nothing with this repository.
+//! The cases of vectors.txt with their answers, which two programs agreed on that share nothing with this repository.
 
 /// A line `operation numbers | words | answer`.
 pub struct Case {
-    /// Its file, and its number in it, from 1.
-    pub line: String,
+    /// Its number in the file, from 1.
+    pub line: usize,
     pub operation: &'static str,
     /// Lengths of areas, in words, or a stroke's place.
     pub numbers: Vec<usize>,
@@ -13,8 +12,8 @@ pub struct Case {
 }
 
 impl Case {
-    fn of(file: &str, index: usize, line: &'static str) -> Case {
-        let fail = |what: &str| -> ! { panic!("{file}, line {}: {what}", index + 1) };
+    fn of((index, line): (usize, &'static str)) -> Case {
+        let fail = |what: &str| -> ! { panic!("line {}: {what}", index + 1) };
         let mut parts = line.splitn(3, '|');
         let (Some(head), Some(words), Some(answer)) = (parts.next(), parts.next(), parts.next()) else {
             fail("it has fewer than two bars");
@@ -24,7 +23,7 @@ impl Case {
         let number = |text: &str| text.parse().unwrap_or_else(|_| fail("a number should stand here"));
         let word = |text: &str| u32::from_str_radix(text, 16).unwrap_or_else(|_| fail("a word should stand here"));
         Case {
-            line: format!("{file}, line {}", index + 1),
+            line: index + 1,
             operation,
             numbers: head.map(number).collect(),
             words: words.split_whitespace().map(word).collect(),
@@ -33,13 +32,9 @@ impl Case {
     }
 }
 
-/// Every line of vectors.txt; and of vectors_without_charges.txt, whose answers know no charge, every line without one.
+/// Every line of the file.
 pub fn cases() -> Vec<Case> {
-    let lines =
-        |file, text: &'static str| text.lines().enumerate().map(move |(index, line)| Case::of(file, index, line));
-    let without = lines("vectors_without_charges.txt", include_str!("../vectors_without_charges.txt"));
-    let has_charge = |case: &Case| case.words.get(1).is_some_and(|word| word >> 28 == 5);
-    lines("vectors.txt", include_str!("../vectors.txt")).chain(without.filter(|case| !has_charge(case))).collect()
+    include_str!("../vectors.txt").lines().enumerate().map(Case::of).collect()
 }
 
 /// Words as an answer has them.
