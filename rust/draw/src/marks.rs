@@ -70,11 +70,17 @@ pub fn faults(plan: &Plan, frame: &Frame, balloons: &[Balloon]) -> String {
 
 fn mark(fault: &Fault, plan: &Plan, frame: &Frame, balloons: &[Balloon]) -> String {
     let height = |slot: usize| frame.y(plan.sheet.slots()[slot]);
+    let site_at = |site: usize| plan.sheet.sites()[site];
+    let place = |site: usize| (frame.x(site_at(site).x), frame.y(site_at(site).y));
     match fault {
         Fault::MixedColours { sites, .. } => sites.iter().map(|site| ring(frame, &balloons[*site], RED, 2.2)).collect(),
         Fault::NearSite { site, slot, .. } => {
-            let (x, y) = (frame.x(plan.sheet.sites()[*site].x), frame.y(plan.sheet.sites()[*site].y));
+            let (x, y) = place(*site);
             ring(frame, &balloons[*site], RED, 2.2) + &distance(x + 17.0, y, height(*slot))
+        }
+        Fault::NearTip { site, slot, left, .. } => {
+            let tip = (frame.x(site_at(*site).x + left), height(*slot));
+            ring(frame, &balloons[*site], RED, 2.2) + &distance_to_tip(place(*site), tip)
         }
         Fault::CloseBackbones { upper, lower, .. } => distance(frame.right - 14.0, height(*upper), height(*lower)),
         Fault::Crossing { x, slot, .. } => cross(frame, balloons, frame.x(*x), height(*slot)),
@@ -98,4 +104,13 @@ fn cross(frame: &Frame, balloons: &[Balloon], x: f64, y: f64) -> String {
 fn distance(x: f64, from: f64, to: f64) -> String {
     let (left, x, from, to) = (number(x - 5.0), number(x), number(from), number(to));
     format!("<path d=\"M{x} {from}V{to}M{left} {from}h10M{left} {to}h10\" stroke=\"{RED}\" stroke-width=\"2.2\"/>\n")
+}
+
+/// A distance from a site to a tip that is too small, with a ring around the tip: no backbone lies above or below the site.
+fn distance_to_tip(site: (f64, f64), tip: (f64, f64)) -> String {
+    let ([x, y], [tip_x, tip_y]) = ([site.0, site.1].map(number), [tip.0, tip.1].map(number));
+    format!(
+        "<path class=\"to-tip\" d=\"M{x} {y}L{tip_x} {tip_y}\" stroke=\"{RED}\" stroke-width=\"2.2\"/>\
+         <circle cx=\"{tip_x}\" cy=\"{tip_y}\" r=\"5\" fill=\"none\" stroke=\"{RED}\" stroke-width=\"2.2\"/>\n"
+    )
 }

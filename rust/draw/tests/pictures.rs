@@ -293,6 +293,8 @@ fn broken_rules_say_what_is_wrong_in_red() {
     assert!(!example_picture("tractor").contains(RED));
     assert!(words_in_red("crossing").contains("rule 4 is broken: the vertical of site 1 meets the backbone at slot 1"));
     assert!(words_in_red("near_site").contains("site 1 lies 12 above the backbone at slot 1, less than the gap 20"));
+    let near_tip = "site 0 lies on the row of the backbone at slot 1, 16 left of its tip, less than the gap 20";
+    assert!(words_in_red("near_tip").contains(near_tip));
     assert!(words_in_red("false_length").contains("states 2 labels and length 499, but has 2 labels and length 500"));
     assert!(words_in_red("no_layout").contains("no layout obeys rules 1 to 5"));
 }
