@@ -48,7 +48,8 @@ class Rule(_Numbered):
     NO_CROSSING = 4, "no vertical shares a point with the backbone of another label"
     SITES_CLEAR = (
         5,
-        "a backbone lies at least the gap from every site of another label at or right of its left end",
+        "a backbone lies at least the gap from every site of another label at or right of its left end, "
+        "or left of it by less than the gap",
     )
     TRUE_NUMBERS = 6, "the stated count and length are the layout's own"
 

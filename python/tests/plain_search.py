@@ -6,7 +6,7 @@ Written from the rules alone; nothing of the module under test is used.
 from __future__ import annotations
 
 from itertools import combinations, product
-from typing import List, NamedTuple, Optional, Tuple
+from typing import Callable, List, NamedTuple, Optional, Sequence, Tuple
 
 Ties = Tuple[int, ...]
 UNBOUNDED = 255
@@ -73,14 +73,24 @@ def crosses_none(sheet: Sheet, ties: Ties) -> bool:
     return True
 
 
-def clears_sites(sheet: Sheet, ties: Ties) -> bool:
-    """Rule 5."""
+def clears(sheet: Sheet, ties: Ties, reach: int) -> bool:
+    """Whether each backbone lies at least the gap from every foreign site but those left of its left end by `reach` or more."""
     for slot in set(ties):
         left = left_end(sheet, ties, slot)
-        others = (site for site, own in zip(sheet.sites, ties) if own != slot and site.x >= left)
+        others = (site for site, own in zip(sheet.sites, ties) if own != slot and left - site.x < reach)
         if any(abs(sheet.slots[slot] - site.y) < sheet.gap for site in others):
             return False
     return True
+
+
+def clears_sites(sheet: Sheet, ties: Ties) -> bool:
+    """Rule 5."""
+    return clears(sheet, ties, sheet.gap)
+
+
+def clears_sites_but_at_tips(sheet: Sheet, ties: Ties) -> bool:
+    """Rule 5 for what is not left of a left end: no x is left of it by less than 1."""
+    return clears(sheet, ties, 1)
 
 
 def share(sheet: Sheet, site: Site, slot: int) -> int:
@@ -106,6 +116,7 @@ def strokes(sheet: Sheet, ties: Ties) -> List[Tuple[str, float, float, float, fl
 
 
 RULES = (shares_colour, keeps_bounds, keeps_apart, crosses_none, clears_sites)
+RULES_BUT_AT_TIPS = RULES[:4] + (clears_sites_but_at_tips,)
 
 
 def broken_rule(sheet: Sheet, ties: Ties, stated: Tuple[int, int]) -> Optional[int]:
@@ -116,8 +127,8 @@ def broken_rule(sheet: Sheet, ties: Ties, stated: Tuple[int, int]) -> Optional[i
     return None if stated == count_and_length(sheet, ties) else 6
 
 
-def best(sheet: Sheet) -> Optional[Tuple[int, int, Ties]]:
-    """The count, the length and the ties of the best layout, if there is one."""
+def best(sheet: Sheet, rules: Sequence[Callable[[Sheet, Ties], bool]] = RULES) -> Optional[Tuple[int, int, Ties]]:
+    """The count, the length and the ties of the best layout by these rules, if there is one."""
     by_x = sorted(range(len(sheet.sites)), key=lambda site: sheet.sites[site].x)
 
     def order(ties: Ties) -> Tuple[int, ...]:
@@ -126,7 +137,7 @@ def best(sheet: Sheet) -> Optional[Tuple[int, int, Ties]]:
         return cost + tuple(ties[site] for site in by_x)
 
     every = product(range(len(sheet.slots)), repeat=len(sheet.sites))
-    lawful = [ties for ties in every if all(rule(sheet, ties) for rule in RULES)]
+    lawful = [ties for ties in every if all(rule(sheet, ties) for rule in rules)]
     if not lawful:
         return None
     first = min(lawful, key=order)

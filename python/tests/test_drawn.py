@@ -28,7 +28,6 @@ class Drawn(unittest.TestCase):
         drawn = {
             0x10008008: (2, 19, (0, 0, 2)),
             0x14008008: (3, 18, (0, 1, 2)),
-            0x1000C008: (2, 19, (2, 2, 0)),
         }
         for head, layout in drawn.items():
             with self.subTest(head=hex(head)):
@@ -114,8 +113,22 @@ class Drawn(unittest.TestCase):
             self.assert_refused(Refusal.BAD_WORD, make, words)
             self.assert_refused(Refusal.BAD_WORD, judge, words + [0x80000000])
 
+    def test_tips(self):
+        # Gap 2, slots at 4, 8 and 10: a foreign site beside the tip at (4, 8). Left of it by 1 it counts, by 2 not.
+        def beside(x, y):
+            return [HEAD, 0x20000004, 0x20000008, 0x2000000A, 0x300000FF, 4 << 28 | x << 14 | y, 0x300000FF, 0x40010008]
+
+        def verdict(x, y):
+            return judge(beside(x, y) + list(Layout(2, (8 - x) + (y - 4) + 4, (0, 1)).words()))
+
+        self.assertEqual([verdict(3, y) for y in (6, 7, 8, 9, 10)], [None, 5, 5, 5, None])
+        self.assertEqual([verdict(x, 8) for x in (1, 2, 3)], [None, None, Rule.SITES_CLEAR])
+        self.assertEqual(make(beside(2, 8)), (2, 12, (2, 1)))
+        self.assertEqual(make(beside(3, 8)), (2, 15, (0, 2)))
+
     def test_no_layout(self):
-        self.assert_refused(Refusal.NO_LAYOUT, make, [0x10010008] + REST)
+        for head in (0x1000C008, 0x10010008):
+            self.assert_refused(Refusal.NO_LAYOUT, make, [head] + REST)
         no_labels = SHEET_A[:7] + [0x30000000, 0x40010005]
         self.assert_refused(Refusal.NO_LAYOUT, make, no_labels)
 

@@ -7,7 +7,7 @@ from random import Random
 from backbone import Layout, Refusal, Refused, judge, make, strokes, twin
 
 from . import plain_search
-from .plain_search import UNBOUNDED, Sheet, Site, best, broken_rule, count_and_length
+from .plain_search import RULES_BUT_AT_TIPS, UNBOUNDED, Sheet, Site, best, broken_rule, count_and_length
 
 SHEETS = 6000
 STORED = 20000
@@ -37,10 +37,13 @@ class Search(unittest.TestCase):
                 made = None
             if not sheet.two_sided:
                 self.assertEqual(made, best(sheet), sheet)
-                met["altered"] += made is not None and made[2] != best(sheet._replace(charge=None))[2]
+                # what the charge alters
+                met["charge"] += made is not None and made[2] != best(sheet._replace(charge=None))[2]
+                # what the clearance at the tip alters
+                met["tip"] += sheet.gap > 1 and made != best(sheet, RULES_BUT_AT_TIPS)
             met[sheet.two_sided, made is None] += 1
         self.assertEqual(met[True, False], 0, met)
-        self.assertGreater(met["altered"], SHEETS // 200, met)
+        self.assertGreater(min(met["charge"], met["tip"]), SHEETS // 200, met)
         self.assertGreater(min(met[False, False], met[False, True], met[True, True]), SHEETS // 50, met)
 
     def test_twin(self):
@@ -92,7 +95,10 @@ class Search(unittest.TestCase):
             verdict = judge(sheet.words() + list(Layout(*stated, ties).words()))
             self.assertEqual(verdict, broken_rule(sheet, ties, stated), (sheet, ties))
             met[verdict] += 1
+            # broken at tips alone
+            met["tip"] += verdict == 5 and all(rule(sheet, ties) for rule in RULES_BUT_AT_TIPS)
         self.assertGreater(min(met[verdict] for verdict in (None, 1, 2, 3, 4, 5, 6)), STORED // 300, met)
+        self.assertGreater(met["tip"], STORED // 1000, met)
 
 
 if __name__ == "__main__":
