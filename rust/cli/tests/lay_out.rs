@@ -22,19 +22,17 @@ fn sheet_a_in_every_form() {
     }
 }
 
-/// Document 01's drawn examples: changes to sheet A, and what the program prints first.
+/// Document 01's drawn examples, changes to sheet A, and what the program prints; gap 3 by document 02.
 #[test]
 fn drawn_examples() {
-    let cases =
-        [("fewest", "shortest", "labels 3 length 18", [0, 1, 2]), ("gap 2", "gap 3", "labels 2 length 19", [2, 2, 0])];
-    for (old, new, first, [a, b, c]) in cases {
-        let run = run(["lay-out", "-"], SHEET_A.replace(old, new).as_bytes());
-        let lines = format!("{first}\nsite 0 colour 0 slot {a}\nsite 1 colour 0 slot {b}\nsite 2 colour 1 slot {c}\n");
-        assert_eq!((run.code, run.text()), (Some(0), lines));
+    let shortest = run(["lay-out", "-"], SHEET_A.replace("fewest", "shortest").as_bytes());
+    let lines = "labels 3 length 18\nsite 0 colour 0 slot 0\nsite 1 colour 0 slot 1\nsite 2 colour 1 slot 2\n";
+    assert_eq!((shortest.code, &shortest.text()[..]), (Some(0), lines));
+    for gap in ["gap 3", "gap 4"] {
+        let run = run(["lay-out", "-"], SHEET_A.replace("gap 2", gap).as_bytes());
+        assert_eq!((run.code, &run.text()[..]), (Some(1), "refused 10\n"));
+        assert!(run.err.contains("no layout obeys rules 1 to 5"), "{}", run.err);
     }
-    let gap_4 = run(["lay-out", "-"], SHEET_A.replace("gap 2", "gap 4").as_bytes());
-    assert_eq!((gap_4.code, &gap_4.text()[..]), (Some(1), "refused 10\n"));
-    assert!(gap_4.err.contains("no layout obeys rules 1 to 5"), "{}", gap_4.err);
     let head = run(["lay-out", "-"], b"0x10008008");
     assert_eq!((head.code, &head.text()[..]), (Some(0), "labels 0 length 0\n"));
 }

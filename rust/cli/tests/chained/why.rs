@@ -14,7 +14,8 @@ colour unbounded
 site 4 5
 ";
 
-/// Document 01's sheet A with gap 4: sites 0 and 2 have no layout together. With slots 2, 5 and 8 and gap 3 it has one.
+/// Document 01's sheet A with gap 4: sites 0 and 2 have no layout together. With gap 3 it has none either, by document 02, and
+/// with gap 2 it has one.
 #[test]
 fn a_sheet_without_a_layout_is_explained() {
     let folder = Folder::new();
@@ -27,9 +28,9 @@ fn a_sheet_without_a_layout_is_explained() {
          site 0 \"upper\" at x 2 y 4, colour 0 \"bolts\"\n  \
          site 2 at x 4 y 5, colour 1\n\
          what would help, each tried:\n  \
-         a gap of 3 helps, and 4 does not; it is 4\n  \
+         a gap of 2 helps, and 3 does not; it is 4\n  \
          there is no bound to raise\n  \
-         one more slot helps at height 9 to 16383\n"
+         no one slot more helps\n"
     );
     let svg = std::fs::read_to_string(picture).expect("a picture");
     assert!(svg.starts_with("<svg ") && svg.contains("2 of 3 sites have no layout together"));
