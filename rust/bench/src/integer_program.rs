@@ -218,16 +218,23 @@ impl<'a> Program<'a> {
         }
     }
 
-    /// Rules 4 and 5: each site against each label that is open at its x.
+    /// The last rank whose site is right of this one's by less than the gap: a label that it opens has this one at its tip.
+    fn reach(&self, rank: usize) -> usize {
+        let x = |rank: usize| self.sheet.sites[self.order[rank]].x;
+        (rank..self.order.len()).take_while(|other| x(*other) - x(rank) < self.sheet.gap).last().unwrap_or(rank)
+    }
+
+    /// Rules 4 and 5: each site against each label that is open at its x, and for rule 5 also those that open soon after.
     fn write_verticals(&mut self) {
         for (rank, site) in self.order.iter().enumerate() {
             let y = self.sheet.sites[*site].y;
+            let reach = self.reach(rank);
             for (other, height) in self.sheet.slots.iter().enumerate() {
-                let open = self.open(rank, other);
                 if y.abs_diff(*height) < self.sheet.gap {
-                    let _ = writeln!(self.text, " tie_{site}_{other} - {open} >= 0");
+                    let _ = writeln!(self.text, " tie_{site}_{other} - {} >= 0", self.open(reach, other));
                     continue;
                 }
+                let open = self.open(rank, other);
                 let beyond = |slot: &usize| {
                     let end = self.sheet.slots[*slot];
                     *slot != other && (y.min(end)..=y.max(end)).contains(height)
@@ -243,18 +250,5 @@ impl<'a> Program<'a> {
     }
 }
 
-/// Two sites and two slots, shortest: a label weighs 1, a unit of length 3. Site 0 at (2,4) is the first by x; a drop of 2
-/// costs 3 * (2 + 5) with the charge, one of 0 nothing.
-#[test]
-fn the_cost_of_a_tie_has_the_charge() {
-    let words = [0x14008008, 0x50000005, 0x20000002, 0x20000004, 0x300000FF, 0x40008004, 0x40018005];
-    let sheet = model::sheet::read(&words).expect("a sheet");
-    let program = Program::new(&sheet).text();
-    let costs = program.lines().take_while(|line| *line != "Subject To").collect::<Vec<_>>().join(" ");
-    for term in [" + 21 tie_0_0 ", " + 0 tie_0_1 ", " + 24 tie_1_0 ", " + 18 tie_1_1 "] {
-        assert!(costs.contains(term), "{term}: {costs}");
-    }
-    // Both sites at slot 1: a label, 8 - 2 for its backbone, and 1 + 5 for site 1.
-    assert_eq!(Program::new(&sheet).numbers(f64::from(3 * (6 + 6) + 1)), (1, 12));
-    assert_eq!(model::rules::Ties::new(&sheet, &[1, 1]).numbers(), (1, 12));
-}
+#[cfg(test)]
+mod tests;

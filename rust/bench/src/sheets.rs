@@ -38,6 +38,7 @@ pub fn by_size() -> Vec<Named> {
         fewest(banded("fewest", 10, 12, &[3, 1, FREE])),
         example("charge of 24, fewest", include_str!("../../../examples/charge.txt")),
         example("gearbox, shortest", include_str!("../../../examples/gearbox_twin.txt")),
+        example("near tips, shortest", include_str!("near_tips.txt")),
         banded("shortest", 16, 24, &[7, FREE, FREE, FREE]),
         example("tractor, fewest", include_str!("../../../examples/tractor.txt")),
         banded("shortest", 24, 32, &[3, 3, FREE, FREE, FREE, FREE]),
@@ -148,6 +149,27 @@ fn stored_sheets_have_lawful_layouts() {
         assert_eq!(model::rules::judge(&words), (0, 0), "{name}");
     }
     assert_eq!(model::strokes::strokes(&most_strokes().words).map(|all| all.len()), Ok(64));
+}
+
+/// All but the largest, which takes long.
+#[test]
+fn sheets_that_are_laid_out_have_layouts() {
+    let all = by_size().into_iter().chain(growing()).chain(largest_of_program());
+    for Named { name, sheet } in all.filter(|named| named.sheet.work_words() < 10_000_000) {
+        assert_eq!(model::rules::judge(&with_best(&sheet)), (0, 0), "{name}");
+    }
+}
+
+/// Of its 12 sites and 20 slots, 100 pairs are of a site that may not open the slot.
+#[test]
+fn near_tips_are_near() {
+    let sheet = example("", include_str!("near_tips.txt")).sheet;
+    let bars = |other: &Site, x: u32, height: u32| {
+        other.x < x && x - other.x < sheet.gap && other.y.abs_diff(height) < sheet.gap
+    };
+    let pairs = sheet.sites.iter().flat_map(|site| sheet.slots.iter().map(move |height| (site.x, *height)));
+    let barred = pairs.filter(|(x, height)| sheet.sites.iter().any(|other| bars(other, *x, *height)));
+    assert_eq!(barred.count(), 100);
 }
 
 #[test]

@@ -39,9 +39,10 @@ pub fn misses_pass(head: &Head, site: TiedSite, other: TiedSite) -> bool {
     site.slot == other.slot || !meets
 }
 
-/// Rule 5: the backbone of the other's label lies at least the gap from the site.
+/// Rule 5: the backbone of the other's label lies at least the gap from the site, unless that is left of its left end by the
+/// gap or more.
 pub fn clears_pass(head: &Head, site: TiedSite, other: TiedSite) -> bool {
-    let counted = start(head, other) <= site.x;
+    let counted = start(head, other) < site.x + head.gap;
     site.slot == other.slot || !counted || other.height.abs_diff(site.y) >= head.gap
 }
 
