@@ -6,7 +6,10 @@
  *
  * Right after a sheet's head may stand a charge word, of kind 5: 5 << 28 | charge, the charge from 0 to
  * BACKBONE_MOST_CHARGE. Without it the charge is 0. Each site that is not on its backbone adds the charge to the length
- * of a layout, beside its drop. */
+ * of a layout, beside its drop.
+ *
+ * Rule 5 of lawful layouts: a backbone lies at least the gap in height from every site of another label at or right of its
+ * left end, and on a one-sided sheet also from every one left of that end by less than the gap. */
 #ifndef BACKBONE_H
 #define BACKBONE_H
 

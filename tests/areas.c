@@ -1,6 +1,6 @@
 /* The areas of the C interface: null pointers, lengths on both sides of what is needed, and every word of the areas
- * afterwards; the strokes of a stored sheet, which they leave as it is; and a sheet with a charge. Prints what does not
- * hold, and ends with 1 if anything does not. */
+ * afterwards; the strokes of a stored sheet, which they leave as it is; a sheet with a charge; and a tip that is too near a
+ * foreign site. Prints what does not hold, and ends with 1 if anything does not. */
 #include "backbone.h"
 
 #include <stdio.h>
@@ -241,6 +241,32 @@ static void strokes_of_charged(void) {
     free(stored);
 }
 
+/* Sheet A with another head and the layout of slots 2, 2 and 0, which has length 19. */
+static uint32_t *with_head(uint32_t head) {
+    static const uint32_t other[ANSWER] = {0x80400013, 0x90000002, 0x90000002, 0x90000000};
+    uint32_t *stored = dirty(WORDS + ANSWER);
+    memcpy(stored, sheet, sizeof sheet);
+    memcpy(stored + WORDS, other, sizeof other);
+    stored[0] = head;
+    return stored;
+}
+
+/* With gap 3 the tip at (4, 2) is too near the site (2, 4): it is left by 2, and 2 below. */
+static void near_tip(void) {
+    uint32_t *stored = with_head(0x1000C008), *gap_2 = with_head(sheet[0]), *work = dirty(WORK), *answer = dirty(ANSWER);
+    expect(backbone_judge(gap_2, WORDS + ANSWER).rule == 0, "with gap 2 the tip is far enough");
+    expect(backbone_judge(stored, WORDS + ANSWER).rule == 5, "with gap 3 the tip breaks rule 5");
+    expect(is_refused(backbone_stroke_at(stored, WORDS + ANSWER, 0), BACKBONE_UNLAWFUL), "a tip too near: no strokes");
+    expect(backbone_twin(stored, WORDS + ANSWER, NULL, 0).refusal == BACKBONE_UNLAWFUL, "a tip too near: no twin");
+    expect(backbone_make(stored, WORDS, work, WORK, answer, ANSWER) == BACKBONE_NO_LAYOUT, "A with gap 3 has no layout");
+    expect(all_are(work, 0, WORK, 0), "the needed work words are zero after 10");
+    expect(is_dirty(answer, 0, ANSWER), "10 leaves the answer area");
+    free(stored);
+    free(gap_2);
+    free(work);
+    free(answer);
+}
+
 int main(void) {
     null_lists();
     no_words();
@@ -258,5 +284,6 @@ int main(void) {
     charged_twin();
     refused_charges();
     strokes_of_charged();
+    near_tip();
     return failures == 0 ? 0 : 1;
 }
