@@ -104,6 +104,15 @@ fn sheet_a_with_a_charge() {
     });
 }
 
+/// The tip at (4, 2) of document 01's layout is too near the site (2, 4), by document 02.
+#[test]
+fn sheet_a_with_gap_3() {
+    with_runner(|runner| {
+        let wider = [&[0x1000C008], &SHEET_A[1..]].concat();
+        assert_eq!(runner.run(&bytes(&wider)).as_deref(), Ok("refused 10\n"));
+    });
+}
+
 /// The lines of the program in vectors.txt, where / stands for a line feed and the last one is left out.
 #[test]
 fn vectors_are_printed() {
