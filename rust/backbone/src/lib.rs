@@ -34,6 +34,9 @@
 //! Editors dislike many short drops: a sheet may have a charge ([`Sheet::set_charge`]), which each site off its backbone
 //! adds to the length. [`Sheet::share`] is a site's part of the length.
 //!
+//! The left end of a one-sided backbone, its tip, is kept clear too: a site of another label that is left of it by less than
+//! the gap lies at least the gap above or below ([`Rule::SitesClear`], [`Fault::NearTip`]).
+//!
 //! One unit of length is an eighth of a printer's point. x counts from the left edge, heights downwards from the
 //! top.
 

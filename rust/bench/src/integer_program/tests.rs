@@ -24,21 +24,16 @@ fn the_cost_of_a_tie_has_the_charge() {
 
 /// The least values of the variables with these ties.
 fn values(sheet: &Sheet, slot_of: &[usize]) -> HashMap<String, i64> {
-    let mut values = HashMap::new();
     let order = sheet.by_x();
-    for slot in 0..sheet.slots.len() {
-        for (rank, site) in order.iter().enumerate() {
-            values.insert(format!("tie_{site}_{slot}"), i64::from(slot_of[*site] == slot));
-            let is_open = order[..=rank].iter().any(|site| slot_of[*site] == slot);
-            values.insert(format!("open_{rank}_{slot}"), i64::from(is_open));
-        }
-        for colour in 0..sheet.bounds.len() {
-            let mut tied = sheet.sites.iter().zip(slot_of);
-            let is_used = tied.any(|(site, own)| site.colour == colour && *own == slot);
-            values.insert(format!("used_{slot}_{colour}"), i64::from(is_used));
-        }
-    }
-    values
+    let of_slot = |slot: usize| {
+        let is_tied = |site: &usize| slot_of[*site] == slot;
+        let is_used = |colour| order.iter().any(|site| is_tied(site) && sheet.sites[*site].colour == colour);
+        let ties = order.iter().map(|site| (format!("tie_{site}_{slot}"), is_tied(site)));
+        let open = (0..order.len()).map(|rank| (format!("open_{rank}_{slot}"), order[..=rank].iter().any(is_tied)));
+        let used = (0..sheet.bounds.len()).map(|colour| (format!("used_{slot}_{colour}"), is_used(colour)));
+        ties.chain(open).chain(used).map(|(name, is_1)| (name, i64::from(is_1))).collect::<Vec<_>>()
+    };
+    (0..sheet.slots.len()).flat_map(of_slot).collect()
 }
 
 /// A sum of terms, each a sign, a factor that may be left out, and a variable.
