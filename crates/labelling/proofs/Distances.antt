@@ -1,6 +1,6 @@
 -- Laws of what rules 3 and 5 and the length ask by numbers: heights far enough apart, a label clear of a site, a site that counts, a
 -- site's share. No other proof spells these out. Assumes nothing.
-use mathlib.Core.Path.{_≡_, _∙_}
+use mathlib.Core.Path.{_≡_}
 use mathlib.Core.Bool.{true, false}
 use Prim.Native.Nat.{ℕ, _+_, _-_, _≤_, _<_}
 use lib.Dec.{leb, ltb}

@@ -8,7 +8,7 @@ use Prim.Native.Nat.{ℕ, zero, suc, _+_, _≤_, _<_}
 use native.Mathlib.Omega.{arith}
 use lib.Dec.{ltb, eqb}
 use lib.ListN.{length, getD}
-use borrow.Author.Tests.{ltb-true, eqb-true, lt-ltb, eq-eqb}
+use borrow.Author.Tests.{ltb-true, eqb-true, eq-eqb}
 use Rattle.sheet.specs.Sheet.{all, Site, Sheet, rising}
 pub use Rattle.labelling.specs.Layout.{noSite}
 use Rattle.labelling.specs.Layout.{Tied, tieAt, tiedOf, tied, isUsed, usedFrom, lesser, leastX}

@@ -7,7 +7,6 @@ use native.Mathlib.Omega.{arith}
 use lib.Bits.{bitOr, or-step, or-zero-l}
 use lib.Dec.{eqb}
 use lib.Pow.{pow-mono}
-use borrow.Author.Tests.{eq-eqb, ne-eqb}
 use Rattle.search.specs.Masks.{maskBy, maskFrom, maskBits, maskTop}
 
 -- ---- the lowest bit and the others

@@ -1,14 +1,13 @@
 -- Laws of budgets in mixed radix: the digits' order is a way to split; a digit of what is left.
-use mathlib.Core.Path.{_≡_, refl, ap, ap₂, _∙_}
-use mathlib.Core.Bool.{Bool, true, false, cond}
+use mathlib.Core.Path.{_≡_, refl, ap, _∙_}
+use mathlib.Core.Bool.{true}
 use mathlib.Core.List.{List, [], _∷_}
-use Prim.Native.Nat.{ℕ, zero, suc, _+_, _-_, _*_, _/_, _%_, _^_, _≤_, _<_}
-use native.Mathlib.Nat.{div-add-mod', mul-le-mul-right, mod-lt, mod-zero, div-zero, zero-mod, zero-div, zero-lt-suc, pow-zero, pow-succ'}
+use Prim.Native.Nat.{ℕ, zero, suc, _+_, _-_, _*_, _/_, _%_, _≤_, _<_}
+use native.Mathlib.Nat.{div-add-mod', mul-le-mul-right, mod-lt, mod-zero, div-zero, zero-mod, zero-div, zero-lt-suc}
 use native.Mathlib.Omega.{arith}
-use lib.Dec.{eqb, leb}
-use lib.Pow.{pow-mono}
+use lib.Dec.{leb}
 use lib.Arith.{digits-div, digits-mod}
-use borrow.Author.Tests.{leb-true, le-leb, eq-eqb, ne-eqb}
+use borrow.Author.Tests.{leb-true, le-leb}
 use Rattle.lists.proofs.Tests.{and-both, and-of}
 use Rattle.search.specs.Split.{Splitting}
 use Rattle.search.specs.Radix.{below, digitOf}

@@ -1,21 +1,12 @@
 //! The search, the table and the judge are three readings of the same rules: they must agree.
 
-use model::maker::make;
+mod common;
+
+use common::made;
 use model::random::{medium_sheet, small_sheet, Random};
 use model::rules::judge;
 use model::search;
 use model::sheet::{read, Sheet, Site};
-
-/// What the table makes of a one-sided sheet.
-fn made(sheet: &Sheet) -> Option<Vec<u32>> {
-    let mut work = vec![0xDEAD_BEEF; sheet.work_words() as usize];
-    let mut answer = vec![0xDEAD_BEEF; sheet.sites.len() + 1];
-    match make(&sheet.words(), &mut work, &mut answer) {
-        0 => Some(answer),
-        10 => None,
-        refusal => panic!("refusal {refusal} of {sheet:?}"),
-    }
-}
 
 fn slots(answer: Option<Vec<u32>>) -> Vec<u32> {
     answer.into_iter().flatten().skip(1).map(|word| word & 0xFF).collect()

@@ -1,7 +1,9 @@
 //! Foreign sites at the tip, the left end of a backbone: which of them rule 5 counts, and what that alters, each by what the
 //! format says of it.
 
-use model::maker::make;
+mod common;
+
+use common::made;
 use model::random::{any_stored, medium_sheet, small_sheet, Random};
 use model::ranked::rank;
 use model::rules::{breaks_at_tips_alone, verdict, Ties};
@@ -18,17 +20,6 @@ fn beside_tip(x: u32, y: u32) -> Sheet {
 /// The least broken rule of these ties, with true numbers.
 fn broken(sheet: &Sheet, slot_of: &[usize]) -> u8 {
     verdict(sheet, slot_of, Ties::new(sheet, slot_of).numbers())
-}
-
-/// What the table makes of a one-sided sheet.
-fn made(sheet: &Sheet) -> Option<Vec<u32>> {
-    let mut work = vec![0xDEAD_BEEF; sheet.work_words() as usize];
-    let mut answer = vec![0xDEAD_BEEF; sheet.sites.len() + 1];
-    match make(&sheet.words(), &mut work, &mut answer) {
-        0 => Some(answer),
-        10 => None,
-        refusal => panic!("refusal {refusal} of {sheet:?}"),
-    }
 }
 
 #[test]

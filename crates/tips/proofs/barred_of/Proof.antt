@@ -1,6 +1,6 @@
 use mathlib.Core.Path.{_≡_, ap₂, sym, _∙_}
 use mathlib.Core.Logic.{⊎-elim}
-use Prim.Native.Nat.{ℕ, _-_, _≤_}
+use Prim.Native.Nat.{_-_, _≤_}
 use native.Mathlib.Omega.{arith}
 use borrow.Author.Needs.{needs}
 use lib.Bits.{bitOr}
@@ -9,10 +9,6 @@ use Rattle.arrays.specs.Arrays.{barredFrom}
 use Rattle.arrays.proofs.Barred.{barred-none, barred-past, barred-more}
 use Rattle.tips.proofs.barred_of.Statement.{statement}
 use Rattle.tips.proofs.barred_of.Tie as tie
-use Rattle.tips.proofs.barred_of.Reads as reads
-use Rattle.tips.proofs.barred_of.Lts as lts
-use Rattle.tips.proofs.near_slots.Reads as near-slots-reads
-use Rattle.rules.proofs.rule_5.is_counted.Reads as is-counted-reads
 
 abbrev Inv-loop : tie.InvT-loop
 Inv-loop heights xs ys j gap x barred₀ i₀ barred i = (i ≤ j) × (barred ≡ barredFrom gap heights xs ys j i)

@@ -11,10 +11,6 @@ use Rattle.labelling.specs.Layout.{clearBy}
 use Rattle.tips.specs.Tips.{nearSlots}
 use Rattle.tips.proofs.near_slots.Statement.{statement}
 use Rattle.tips.proofs.near_slots.Tie as tie
-use Rattle.tips.proofs.near_slots.Reads as reads
-use Rattle.tips.proofs.near_slots.Lts as lts
-use Rattle.words.proofs.bit_of.Reads as bit-of-reads
-use Rattle.rules.proofs.rule_5.is_clear.Reads as is-clear-reads
 
 -- a slot is not clear of the site
 abbrev isNear : (gap : ℕ) → (heights : List ℕ) → (y k : ℕ) → Bool

@@ -2,15 +2,11 @@ use Rattle.search.specs.Masks.{maskFrom}
 use Rattle.search.specs.Radix.{below, maskOf}
 use Rattle.search.proofs.Masks.{bit-small, mask-none, mask-all, mask-down, mask-room}
 use mathlib.Core.Path.{_≡_, _∙_}
-use Prim.Native.Nat.{ℕ, _+_, _≤_}
+use Prim.Native.Nat.{_+_, _≤_}
 use native.Mathlib.Omega.{arith}
 use borrow.Author.Needs.{needs}
 use Rattle.costs.proofs.masks.mask_below.Statement.{statement}
 use Rattle.costs.proofs.masks.mask_below.Tie as tie
-use Rattle.costs.proofs.masks.mask_below.Reads as reads
-use Rattle.costs.proofs.masks.mask_below.Lts as lts
-use Rattle.words.proofs.bit_of.Reads as bit-of-reads
-use Rattle.costs.proofs.masks.is_below.Reads as is-below-reads
 
 abbrev Inv-loop : tie.InvT-loop
 Inv-loop radices v mask₀ w₀ mask w = (w ≤ v + 1) × (mask ≡ maskFrom (λ u. below radices u v) (v + 1) w)

@@ -12,10 +12,6 @@ use lib.ListN.{length, getD, length-set}
 use borrow.Author.Needs.{needs}
 use Rattle.rows.proofs.budgets.list_below.Statement.{statement}
 use Rattle.rows.proofs.budgets.list_below.Tie as tie
-use Rattle.rows.proofs.budgets.list_below.Reads as reads
-use Rattle.rows.proofs.budgets.list_below.Lts as lts
-use Rattle.rows.proofs.budgets.counted.Reads as counted-reads
-use Rattle.costs.proofs.masks.mask_below.Reads as mask-below-reads
 
 abbrev Inv-loop : tie.InvT-loop
 Inv-loop radices v parts₀ base mask₀ count₀ w₀ parts mask count w = (length parts ≡ splitsLength) × (w ≤ v + 1) × (mask ≡ maskFrom (λ u. below radices u v) (v + 1) w) × Listed radices v w count (λ i. getD parts (v * mostBudgets + i) 0) × Others parts₀ parts (v * mostBudgets) mostBudgets
