@@ -205,7 +205,7 @@ module _ (q : Measures) (hs bs rs ds work parts counts left : List ℕ) (low : �
   total-slot e o i h =
       by-test (gapLeft (slotsBy q hs) p s (p .a + i))
       (λ g. by-test (hasSlot (s .barred) (p .a + i))
-      (λ b. rw (slot-barred q hs parts counts left row p s (p .a + i) v b) (least-le-top topWord (length hs) step))
+      (λ b. rw (slot-barred q hs parts counts left row p s (p .a + i) v (rw b)) (least-le-top topWord (length hs) step))
       (λ b.
       let k : p .a + i < length hs = omega (arith, lies .bLow) in
       let t = opens-of q hs bs p s (p .a + i) (record { above = omega arith; under = omega arith; slot = k; gap = g; site = o; free = b }) in

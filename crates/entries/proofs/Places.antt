@@ -9,7 +9,7 @@ use Rattle.arrays.proofs.Narrowed.{on-slots}
 use Rattle.rows.specs.Budgets.{Others}
 use Rattle.rows.specs.Rows.{rowOf, rowIn, Lies, markedBy, upperPart, lowerPart, LevelFits}
 use Rattle.rows.proofs.Places.{row-fits, marked-lies, upper-lies, lower-lies}
-use Rattle.rows.specs.Level.{Level, level, slotsIn, coloursIn, budgetsIn, Ready}
+use Rattle.rows.specs.Level.{Level, filling, slotsIn, coloursIn, budgetsIn, Ready}
 use Rattle.entries.specs.Entries.{onRows, RowReady, PartsFit}
 use Rattle.rows.proofs.Levels.{level-fits}
 
@@ -60,9 +60,10 @@ module _ {l : Level} {area : ℕ} (r : Ready l (budgetsIn l) area) where
 
 -- bounds have no part in where a row stands
 pub no-bounds : {l : Level} {p : Strip} {area : ℕ} → RowReady l p area
-    → RowReady (level (onRows (l .arrays .measures) (l .arrays .heights) [] (l .arrays .parts) (l .arrays .counts)) (l .left) (l .site) (l .base) (l .low)) p area
+    → RowReady (filling (onRows (l .arrays .measures) (l .arrays .heights) [] (l .arrays .parts) (l .arrays .counts)) (l .left) (l .opening) (l .site) (l .base) (l .low)) p area
 no-bounds r = record {
   ready = record { sheet = on-slots (r .ready .sheet); site = r .ready .site; apart = r .ready .apart; within = r .ready .within };
   budgets = record { listed = r .budgets .listed; leftLong = r .budgets .leftLong };
+  opening = r .opening;
   lies = r .lies;
 }

@@ -13,7 +13,7 @@ use Rattle.lists.proofs.Tests.{and-of, by-test, by-order}
 use Rattle.search.specs.Cost.{plus, least}
 use Rattle.search.proofs.Cost.{top-plus, least-le-top}
 use Rattle.optimum.specs.Strips.{Point, Strip, inside}
-use Rattle.optimum.specs.OneSided.{topWord, hasSlot}
+use Rattle.optimum.specs.OneSided.{topWord}
 use Rattle.arrays.specs.declared.Measures.{Measures}
 use Rattle.arrays.specs.Arrays.{slotsBy, turnBy}
 use Rattle.strips.specs.declared.Window.{Window}
@@ -59,8 +59,8 @@ module _ (q : Measures) (hs parts counts left : List ℕ) where
       let t : noPart q hs parts counts left (rowIn work low (length hs) (q .colours) (q .budgets)) p s k ≡ false = rw (← f, ← h, ← x, ← y) z in
       rw (g, t, e, f, h)
 
-  -- a slot that is barred to the site
-  pub slot-barred : (row : Strip → ℕ → ℕ) (p : Strip) (s : Point) (k v : ℕ) → hasSlot (s .barred) k ≡ true → slotTerm q hs parts counts left row p s k v ≡ topWord
+  -- a slot that is barred to the site: no label is to be had there
+  pub slot-barred : (row : Strip → ℕ → ℕ) (p : Strip) (s : Point) (k v : ℕ) → openCost q hs s k ≡ topWord → slotTerm q hs parts counts left row p s k v ≡ topWord
   unfolding slotTerm
   slot-barred row p s k v e =
       by-test (gapLeft (slotsBy q hs) p s k)

@@ -12,7 +12,7 @@ use Rattle.optimum.specs.OneSided.{topWord}
 use Rattle.optimum.specs.Cells.{cellOf, stepCell}
 use Rattle.arrays.specs.declared.Measures.{Measures}
 use Rattle.arrays.specs.Arrays.{slotsBy, turnBy}
-use Rattle.arrays.specs.Given.{Given, given, OfSheet, SiteIn}
+use Rattle.arrays.specs.Given.{Given, given, SiteIn}
 use Rattle.rows.specs.Rows.{rowIn, Lies, upperPart, lowerPart, LevelFits}
 use Rattle.parts.specs.Parts.{partsCost}
 use Rattle.rows.specs.Budgets.{Others, Within, splitBy}
@@ -30,10 +30,16 @@ pub record BudgetsListed (g : Given) (left : List ℕ) : Type 0 where
   pub listed : Within (g .measures .budgets) (g .parts) (g .counts)
   pub leftLong : g .measures .budgets ≤ length left
 
+-- a list says what it costs the site to open a label at each slot
+pub record OpeningListed (q : Measures) (heights : List ℕ) (s : Point) (opening : List ℕ) : Type 0 where
+  pub long : length heights ≤ length opening
+  pub costs : (k : ℕ) → k < length heights → getD opening k 0 ≡ openCost q heights s k
+
 -- the row of the strip p, at the word `base`, may be filled from the level at the word `low`
 pub record RowReady (l : Level) (p : Strip) (area : ℕ) : Type 0 where
   pub ready : Ready l (budgetsIn l) area
   pub budgets : BudgetsListed (l .arrays) (l .left)
+  pub opening : OpeningListed (l .arrays .measures) (l .arrays .heights) (l .site) (l .opening)
   pub lies : Lies (slotsIn l) (coloursIn l) p
 
 -- two rows of n words stand in an area of so many words, past the row at `base`
@@ -49,9 +55,9 @@ abbrev pub LeavesGap : Level → Strip → (k : ℕ) → Type 0
 LeavesGap l p k = (k + 1 < p .b) × (gapLeft (slotsBy (l .arrays .measures) (l .arrays .heights)) p (l .site) k ≡ true)
 
 -- so at each slot of a window, which has some
-pub record WindowReady (g : Given) (p : Strip) (s : Point) (low : ℕ) (w : Window) (area : ℕ) : Type 0 where
-  pub sheet : OfSheet g
+pub record WindowReady (g : Given) (opening : List ℕ) (p : Strip) (s : Point) (low : ℕ) (w : Window) (area : ℕ) : Type 0 where
   pub site : SiteIn (g .measures) s
+  pub listed : OpeningListed (g .measures) (g .heights) s opening
   pub fits : LevelFits (g .measures) (length (g .heights)) low area
   pub lies : Lies (length (g .heights)) (g .measures .colours) p
   pub some : w .from < w .to

@@ -8,7 +8,7 @@ ghost use Rattle.optimum.specs.OneSided.{topWord};
 ghost use Rattle.arrays.specs.Given.{Given, onSlots, Bounded};
 ghost use Rattle.rows.specs.Rows.{stripOf, pointOf, Lies};
 ghost use Rattle.rows.specs.Budgets.{Within};
-ghost use Rattle.rows.specs.Level.{Level, level, slotsIn, coloursIn, budgetsIn, Ready};
+ghost use Rattle.rows.specs.Level.{Level, level, filling, slotsIn, coloursIn, budgetsIn, Ready};
 ghost use Rattle.entries.specs.Entries.{onRows, RowReady, PartsFit, LeavesGap, WindowReady, RowIs, RowJoined, RowLowered, openAt, windowLeast, isSingle, SlotTried, SlotsTried, EntriesFilled};
 use arrays::Measures;
 use rows::Site;
@@ -146,6 +146,7 @@ fn open_slot(
     parts: &[u8],
     counts: &[u8],
     left: &[u8],
+    opening: &[u32],
     p: Strip,
     s: Site,
     base: usize,
@@ -153,11 +154,12 @@ fn open_slot(
     k: u32,
 )
     ghost { Level }
-    requires { λ l. ⌜ level (onRows q (now heights) [] (now parts) (now counts)) (now left) (pointOf s) base low ≡ l ⌝ }
+    requires { λ l. ⌜ filling (onRows q (now heights) [] (now parts) (now counts)) (now left) (now opening) (pointOf s) base low ≡ l ⌝ }
     requires { λ l. ⌜ RowReady l (stripOf p) (length (now work)) × LeavesGap l (stripOf p) k ⌝ }
     ensures { λ l _. ⌜ SlotTried l (stripOf p) k (now (work .entry)) (now (work .exit)) ⌝ }
 {
-    if strips::is_barred(s, k) {
+    let cost = opening[k as usize];
+    if cost == NONE {
         return;
     }
     let turn = strips::turn_at(heights, s, k);
@@ -172,17 +174,7 @@ fn open_slot(
     ) {
         return;
     }
-    open_row(
-        work,
-        parts,
-        counts,
-        left,
-        base,
-        upper,
-        lower,
-        n,
-        strips::open_cost(q, heights, s, k),
-    );
+    open_row(work, parts, counts, left, base, upper, lower, n, cost);
 }
 
 // There is but one budget, and it allows the label.
@@ -201,6 +193,7 @@ fn least_open(
     work: &[u32],
     q: Measures,
     heights: &[u32],
+    opening: &[u32],
     p: Strip,
     s: Site,
     low: usize,
@@ -209,14 +202,14 @@ fn least_open(
 ) -> u32
     ghost { Given }
     requires { λ g. ⌜ onSlots q (now heights) ≡ g ⌝ }
-    requires { λ g. ⌜ WindowReady g (stripOf p) (pointOf s) low window (length (now work)) ⌝ }
+    requires { λ g. ⌜ WindowReady g (now opening) (stripOf p) (pointOf s) low window (length (now work)) ⌝ }
     ensures { λ g r. ⌜ r ≡ min old (windowLeast g (now (work .entry)) low (stripOf p) (pointOf s) window) ⌝ }
 {
     let m = heights.len();
     let mut best = old;
     let mut k = window.from;
     while k < window.to {
-        let cost = strips::open_cost(q, heights, s, k);
+        let cost = opening[k as usize];
         let turn = strips::turn_at(heights, s, k);
         let parts = parts::parts_cost(work, q, m, p, s, low, k, turn);
         best = lesser_sum(best, cost, parts);
@@ -233,13 +226,14 @@ fn open_slots(
     parts: &[u8],
     counts: &[u8],
     left: &[u8],
+    opening: &[u32],
     p: Strip,
     s: Site,
     base: usize,
     low: usize,
 )
     ghost { Level }
-    requires { λ l. ⌜ level (onRows q (now heights) [] (now parts) (now counts)) (now left) (pointOf s) base low ≡ l ⌝ }
+    requires { λ l. ⌜ filling (onRows q (now heights) [] (now parts) (now counts)) (now left) (now opening) (pointOf s) base low ≡ l ⌝ }
     requires { λ l. ⌜ RowReady l (stripOf p) (length (now work)) ⌝ }
     ensures { λ l _. ⌜ SlotsTried l (stripOf p) (now (work .entry)) (now (work .exit)) ⌝ }
 {
@@ -248,13 +242,26 @@ fn open_slots(
         return;
     }
     if is_single(q.budgets as usize, parts, counts, left) {
-        let t = least_open(work, q, heights, p, s, low, window, work[base]);
+        let t = least_open(work, q, heights, opening, p, s, low, window, work[base]);
         work[base] = t;
         return;
     }
     let mut k = window.from;
     while k < window.to {
-        open_slot(work, q, heights, parts, counts, left, p, s, base, low, k);
+        open_slot(
+            work,
+            q,
+            heights,
+            parts,
+            counts,
+            left,
+            opening,
+            p,
+            s,
+            base,
+            low,
+            k,
+        );
         k += 1;
     }
 }
@@ -268,13 +275,14 @@ pub fn fill_row(
     parts: &[u8],
     counts: &[u8],
     left: &[u8],
+    opening: &[u32],
     p: Strip,
     s: Site,
     base: usize,
     low: usize,
 )
     ghost { Level }
-    requires { λ l. ⌜ level (onRows q (now heights) (now bounds) (now parts) (now counts)) (now left) (pointOf s) base low ≡ l ⌝ }
+    requires { λ l. ⌜ filling (onRows q (now heights) (now bounds) (now parts) (now counts)) (now left) (now opening) (pointOf s) base low ≡ l ⌝ }
     requires { λ l. ⌜ RowReady l (stripOf p) (length (now work)) × Bounded (l .arrays) ⌝ }
     ensures { λ l _. ⌜ EntriesFilled l (stripOf p) (now (work .entry)) (now (work .exit)) ⌝ }
 {
@@ -288,6 +296,18 @@ pub fn fill_row(
     }
     start_joined(work, q, heights, p, s, base, low);
     if strips::site_opens(q, heights, bounds, p, s) {
-        open_slots(work, q, heights, parts, counts, left, p, s, base, low);
+        open_slots(
+            work,
+            q,
+            heights,
+            parts,
+            counts,
+            left,
+            opening,
+            p,
+            s,
+            base,
+            low,
+        );
     }
 }

@@ -14,12 +14,13 @@ use Rattle.rows.specs.Rows.{rowOf, levelOf, rowIn, endPlace, endWords}
 use Rattle.parts.specs.Parts.{Marked}
 use Rattle.rows.specs.Level.{Level, slotsIn, coloursIn, wordsIn, Ready}
 use Rattle.marks.specs.Marks.{Shaped, HasEnd, TableFits}
-use Rattle.entries.specs.Entries.{BudgetsListed, entryBy}
+use Rattle.entries.specs.Entries.{BudgetsListed, OpeningListed, entryBy}
 
 -- the level at the word `base` may be filled from the one at the word `low`
 pub record LevelReady (l : Level) (area : ℕ) : Type 0 where
   pub ready : Ready l (wordsIn l) area
   pub budgets : BudgetsListed (l .arrays) (l .left)
+  pub opening : OpeningListed (l .arrays .measures) (l .arrays .heights) (l .site) (l .opening)
   pub bounded : Bounded (l .arrays)
 
 -- if the strip p was marked, its row holds its entries, worked out from the rows of the level at the word `low`

@@ -3,11 +3,11 @@ ghost use mathlib.Core.Path.{_≡_};
 ghost use mathlib.Core.List.{[]};
 ghost use Prim.Native.Nat.{_+_, _≤_};
 ghost use lib.ListN.{length};
-ghost use Rattle.arrays.specs.Given.{Given, given};
+ghost use Rattle.arrays.specs.Given.{Given, onSlots, given, OfSheet, SiteIn};
 ghost use Rattle.rows.specs.Rows.{pointOf};
-ghost use Rattle.rows.specs.Level.{Level, level};
+ghost use Rattle.rows.specs.Level.{Level, filling};
 ghost use Rattle.marks.specs.Marks.{EndIn, LevelAt};
-ghost use Rattle.entries.specs.Entries.{onRows, RowIs};
+ghost use Rattle.entries.specs.Entries.{onRows, OpeningListed, RowIs};
 ghost use Rattle.table.specs.Levels.{LevelReady, EndFilled, LevelFilled, TableReady, SiteFilled, TableRight};
 use areas::zero_part;
 use arrays::Measures;
@@ -16,6 +16,7 @@ use rows::Site;
 use rows::Strip;
 use rows::budgets::BUDGETS_LENGTH;
 use rows::budgets::list_left;
+use words::MOST_SLOTS;
 
 // Fills the marked rows below one upper end, if a strip may have it.
 fn fill_below(
@@ -26,13 +27,14 @@ fn fill_below(
     parts: &[u8],
     counts: &[u8],
     left: &[u8],
+    opening: &[u32],
     above: End,
     s: Site,
     base: usize,
     low: usize,
 )
     ghost { Level }
-    requires { λ l. ⌜ level (onRows q (now heights) (now bounds) (now parts) (now counts)) (now left) (pointOf s) base low ≡ l ⌝ }
+    requires { λ l. ⌜ filling (onRows q (now heights) (now bounds) (now parts) (now counts)) (now left) (now opening) (pointOf s) base low ≡ l ⌝ }
     requires { λ l. ⌜ LevelReady l (length (now work)) × EndIn l above ⌝ }
     ensures { λ l _. ⌜ EndFilled l above (now (work .entry)) (now (work .exit)) ⌝ }
 {
@@ -50,7 +52,20 @@ fn fill_below(
     };
     let mut at = base + rows::row_place(q, heights.len(), p);
     while p.b < ends {
-        entries::fill_row(work, q, heights, bounds, parts, counts, left, p, s, at, low);
+        entries::fill_row(
+            work,
+            q,
+            heights,
+            bounds,
+            parts,
+            counts,
+            left,
+            opening,
+            p,
+            s,
+            at,
+            low,
+        );
         at += n;
         p = rows::next_below(q.colours, p);
     }
@@ -65,12 +80,13 @@ fn fill_level(
     parts: &[u8],
     counts: &[u8],
     left: &[u8],
+    opening: &[u32],
     s: Site,
     base: usize,
     low: usize,
 )
     ghost { Level }
-    requires { λ l. ⌜ level (onRows q (now heights) (now bounds) (now parts) (now counts)) (now left) (pointOf s) base low ≡ l ⌝ }
+    requires { λ l. ⌜ filling (onRows q (now heights) (now bounds) (now parts) (now counts)) (now left) (now opening) (pointOf s) base low ≡ l ⌝ }
     requires { λ l. ⌜ LevelReady l (length (now work)) ⌝ }
     ensures { λ l _. ⌜ LevelFilled l (now (work .entry)) (now (work .exit)) ⌝ }
 {
@@ -85,6 +101,7 @@ fn fill_level(
             parts,
             counts,
             left,
+            opening,
             above,
             s,
             base,
@@ -100,6 +117,20 @@ fn zero_level(work: &mut [u32], base: usize, size: usize)
     ensures { λ _. ⌜ RowIs base size (λ i. 0) (now (work .entry)) (now (work .exit)) ⌝ }
 {
     zero_part(work, base, base + size);
+}
+
+// What it costs the site to open a label at each slot: no strip has a part in it, so it is worked out once for all of a level's.
+fn opening_costs(q: Measures, heights: &[u32], s: Site) -> [u32; MOST_SLOTS]
+    requires { ⌜ OfSheet (onSlots q (now heights)) × SiteIn q (pointOf s) ⌝ }
+    ensures { λ r. ⌜ OpeningListed q (now (heights .entry)) (pointOf s) r ⌝ }
+{
+    let mut out = [0u32; MOST_SLOTS];
+    let mut k: usize = 0;
+    while k < heights.len() {
+        out[k] = strips::open_cost(q, heights, s, k as u32);
+        k += 1;
+    }
+    out
 }
 
 // Fills level j, where the site of rank j comes next, from level j + 1.
@@ -124,6 +155,7 @@ fn fill_site(
     ensures { λ g _. ⌜ SiteFilled g size j (now (work .entry)) (now (work .exit)) ⌝ }
 {
     let s = rows::site_at(q, heights, xs, ys, cs, j);
+    let opening = opening_costs(q, heights, s);
     let draw = words::get(draws, s.c);
     let mut left = [0u8; BUDGETS_LENGTH];
     list_left(radices, draw, q.budgets as usize, &mut left);
@@ -135,6 +167,7 @@ fn fill_site(
         parts,
         counts,
         &left,
+        &opening,
         s,
         j * size,
         (j + 1) * size,

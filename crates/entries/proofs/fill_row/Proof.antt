@@ -12,15 +12,15 @@ use Rattle.entries.proofs.fill_row.Tie as tie
 
 -- where the function starts
 abbrev begin : tie.After-is-inside → tie.Start
-begin c = c .before .before .before .before .before .before .before .before .before
+begin c = c .before .before .before .before .before .before .before .before .before .before
 
 mul-if1 : tie.Need-mul-if1
 mul-if1 c =
-    let p = c .before .before .before .before .before .before .pre in omega (arith, p .0 .ready .apart, p .0 .ready .within, p .0 .ready .sheet .someBudget)
+    let p = c .before .before .before .before .before .before .before .pre in omega (arith, p .0 .ready .apart, p .0 .ready .within, p .0 .ready .sheet .someBudget)
 
 slice-read-if1 : tie.Need-slice-read-if1
 slice-read-if1 c =
-    let p = c .before .before .before .before .before .before .before .pre in omega (arith, p .0 .ready .apart, p .0 .ready .within, p .0 .ready .sheet .someBudget)
+    let p = c .before .before .before .before .before .before .before .before .pre in omega (arith, p .0 .ready .apart, p .0 .ready .within, p .0 .ready .sheet .someBudget)
 
 returns : tie.Need-returns
 returns c =

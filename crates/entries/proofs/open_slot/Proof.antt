@@ -4,8 +4,8 @@ use native.Mathlib.Omega.{arith}
 use lib.ListN.{length, getD}
 use Rattle.arrays.specs.Arrays.{turnBy}
 use Rattle.arrays.proofs.Marks.{turn-low}
-use Rattle.arrays.proofs.Narrowed.{on-slots}
 use Rattle.rows.specs.Rows.{stripOf, pointOf, rowOf, rowIn, upperPart}
+use Rattle.strips.specs.Strips.{openCost}
 use Rattle.parts.proofs.Marking.{fits-place}
 use Rattle.entries.specs.Entries.{PartsFit}
 use Rattle.entries.proofs.Places.{parts-fit, last-in, below-fits}
@@ -14,24 +14,26 @@ use borrow.Author.Needs.{needs}
 use Rattle.entries.proofs.open_slot.Statement.{statement}
 use Rattle.entries.proofs.open_slot.Tie as tie
 
--- where the function starts, seen from where the parts' rows are known, and from where the label's cost is
+-- where the function starts, seen from where the parts' rows are known
 abbrev start : tie.After-part-places → tie.Start
-start c = c .before .before .before .before .before .before .before .before .before
+start c = c .before .before .before .before .before .before .before .before .before .before
 
-abbrev begin : tie.After-open-cost → tie.Start
-begin c = start (c .before .before .before .before .before .before .before .before .before)
+-- what the label costs
+cost-at : (c : tie.Start) → getD (c .args .opening .now) (c .args .k) 0 ≡ openCost (c .args .q) (c .args .heights .now) (pointOf (c .args .s)) (c .args .k)
+cost-at c = c .pre .0 .opening .costs (c .args .k) (omega (arith, c .pre .0 .lies .bLow, c .pre .1 .0))
 
-is-barred-requires : tie.Need-is-barred-requires
-is-barred-requires c κs =
-    let p = c .before .before .before .before .before .pre in
-    omega (arith, p .0 .ready .sheet .fewSlots, p .0 .lies .bLow, p .1 .0)
+mul-cost : tie.Need-mul-cost
+mul-cost c = search needs
+
+shared-slice-read-cost : tie.Need-shared-slice-read-cost
+shared-slice-read-cost c = search needs
 
 returns : tie.Need-returns
 returns c =
-    let a = c .before .before .before .before .before .before .before .args in
-    let l = c .before .before .before .before .before .before .slice-known .given in (
+    let a = c .before .before .before .before .before .before .before .before .args in
+    let l = c .before .before .before .before .before .before .before .slice-known .given in (
       record { before = λ i h. refl; after = λ i h. refl },
-      λ v h. omega (arith, slot-barred (a .q) (a .heights .now) (a .parts .now) (a .counts .now) (a .left .now) (rowIn (a .work .now) (a .low) (length (a .heights .now)) (a .q .colours) (a .q .budgets)) (stripOf (a .p)) (pointOf (a .s)) (a .k) v (sym (c .before .is-barred .ensures) ∙ c .if1 .taken), l (a .base + v)),
+      λ v h. omega (arith, slot-barred (a .q) (a .heights .now) (a .parts .now) (a .counts .now) (a .left .now) (rowIn (a .work .now) (a .low) (length (a .heights .now)) (a .q .colours) (a .q .budgets)) (stripOf (a .p)) (pointOf (a .s)) (a .k) v (sym (cost-at (c .before .before .before .before .before .before .before .before)) ∙ c .if1 .taken), l (a .base + v)),
     )
 
 turn-at-requires : tie.Need-turn-at-requires
@@ -51,15 +53,15 @@ fitting c =
 
 part-places-requires : tie.Need-part-places-requires
 part-places-requires c κs =
-    let p = c .before .before .before .before .before .before .before .before .pre in
-    (fits-place (below-fits (p .0 .ready)) (omega (arith, p .0 .ready .within, c .before .before .before .before .before .before .before .before .fits)), (p .0 .lies, p .0 .ready .site .colourLow, p .1 .0, rw (c .turn-at .ensures) (turn-low _ _ _)))
+    let p = c .before .before .before .before .before .before .before .before .before .pre in
+    (fits-place (below-fits (p .0 .ready)) (omega (arith, p .0 .ready .within, c .before .before .before .before .before .before .before .before .before .fits)), (p .0 .lies, p .0 .ready .site .colourLow, p .1 .0, rw (c .turn-at .ensures) (turn-low _ _ _)))
 
 cast-n : tie.Need-cast-n
 cast-n c = search needs
 
 sub-last : tie.Need-sub-last
 sub-last c =
-    omega (arith, c .before .before .before .before .before .before .before .before .before .before .pre .0 .ready .sheet .someBudget)
+    omega (arith, c .before .before .before .before .before .before .before .before .before .before .before .pre .0 .ready .sheet .someBudget)
 
 add-same : tie.Need-add-same
 add-same c =
@@ -99,17 +101,12 @@ returns-2 c =
     let a = start (c .before .before .before .before .before .before .before) .args in
     let p = start (c .before .before .before .before .before .before .before) .pre in (
       record { before = λ i h. refl; after = λ i h. refl },
-      λ v h. slot-none (a .q) (a .heights .now) (a .parts .now) (a .counts .now) (a .left .now) (a .work .now) (a .low) (stripOf (a .p)) (pointOf (a .s)) (a .k) v _ _ _ _ _ (omega (arith, c .before .before .before .before .before .before .before .before .before .before .before .before .before .before .before .slice-known .given (a .base + v))) (p .1 .1) (upper-at (c .before .before .before .before .before .before .before)) (c .before .before .before .before .before .before .before .part-places .ensures .1) (c .before .before .before .before .same .ensures) (c .before .before .same2 .ensures) (sym (c .before .either .ensures) ∙ c .if2 .taken),
+      λ v h. slot-none (a .q) (a .heights .now) (a .parts .now) (a .counts .now) (a .left .now) (a .work .now) (a .low) (stripOf (a .p)) (pointOf (a .s)) (a .k) v _ _ _ _ _ (omega (arith, c .before .before .before .before .before .before .before .before .before .before .before .before .before .before .before .before .slice-known .given (a .base + v))) (p .1 .1) (upper-at (c .before .before .before .before .before .before .before)) (c .before .before .before .before .before .before .before .part-places .ensures .1) (c .before .before .before .before .same .ensures) (c .before .before .same2 .ensures) (sym (c .before .either .ensures) ∙ c .if2 .taken),
     )
-
-open-cost-requires : tie.Need-open-cost-requires
-open-cost-requires c κs =
-    let p = start (c .before .before .before .before .before .before .before .before) .pre in
-    (on-slots (p .0 .ready .sheet), p .0 .ready .site, omega (arith, p .0 .ready .sheet .fewSlots, p .0 .lies .bLow, p .1 .0))
 
 open-row-requires : tie.Need-open-row-requires
 open-row-requires c κs =
-    let p = begin c .pre .0 in (p .budgets .listed, fitting (c .before .before .before .before .before .before .before .before .before), p .budgets .leftLong)
+    let p = start (c .before .before .before .before .before .before .before .before) .pre .0 in (p .budgets .listed, fitting (c .before .before .before .before .before .before .before .before), p .budgets .leftLong)
 
 same-length : tie.Need-same-length
 same-length c =
@@ -117,18 +114,19 @@ same-length c =
 
 returns-3 : tie.Need-returns-3
 returns-3 c =
-    let a = begin (c .before .before .before) .args in
-    let p = begin (c .before .before .before) .pre in
+    let b = start (c .before .before .before .before .before .before .before .before .before .before .before) in
+    let a = b .args in
     let o = c .before .before .open-row in (
       o .ensures .0,
-      λ v h. o .ensures .1 v h ∙ ap (min (getD (a .work .now) (a .base + v) 0)) (slot-open (a .q) (a .heights .now) (a .parts .now) (a .counts .now) (a .left .now) (a .work .now) (a .low) (stripOf (a .p)) (pointOf (a .s)) (a .k) v _ _ _ _ _ (p .1 .1) (c .before .before .before .open-cost .ensures) (upper-at (c .before .before .before .before .before .before .before .before .before .before .before .before)) (c .before .before .before .before .before .before .before .before .before .before .before .before .part-places .ensures .1) (c .before .before .before .before .before .before .before .before .before .same .ensures) (c .before .before .before .before .before .before .before .same2 .ensures) (sym (c .before .before .before .before .before .before .either .ensures) ∙ c .before .before .before .before .before .if2 .left)),
+      λ v h. o .ensures .1 v h ∙ ap (min (getD (a .work .now) (a .base + v) 0)) (slot-open (a .q) (a .heights .now) (a .parts .now) (a .counts .now) (a .left .now) (a .work .now) (a .low) (stripOf (a .p)) (pointOf (a .s)) (a .k) v _ _ _ _ _ (b .pre .1 .1) (cost-at b) (upper-at (c .before .before .before .before .before .before .before .before .before .before .before)) (c .before .before .before .before .before .before .before .before .before .before .before .part-places .ensures .1) (c .before .before .before .before .before .before .before .before .same .ensures) (c .before .before .before .before .before .before .same2 .ensures) (sym (c .before .before .before .before .before .either .ensures) ∙ c .before .before .before .before .if2 .left)),
     )
 
 pub open-slot-spec : {M : Type 1} → statement M
 open-slot-spec =
     tie.close
     (tie.spec
-    is-barred-requires
+    mul-cost
+    shared-slice-read-cost
     returns
     turn-at-requires
     part-places-requires
@@ -144,7 +142,6 @@ open-slot-spec =
     same-requires-2
     either-requires
     returns-2
-    open-cost-requires
     open-row-requires
     same-length
     returns-3)

@@ -14,26 +14,26 @@ use Rattle.table.proofs.fill_below.Statement.{statement}
 use Rattle.table.proofs.fill_below.Tie as tie
 
 abbrev Inv-loop : tie.InvT-loop
-Inv-loop work₀ q heights bounds parts counts left s base low n ends p₀ at₀ work p at = (p .a ≡ p₀ .a) × (p .ca ≡ p₀ .ca) × ((p .cb ≤ q .colours) × (p .d < markCount)) × (lowPlace (q .colours) (stripOf p) ≤ endPlace (q .colours) (length heights + 2) 0 * markCount) × (at ≡ base + rowOf (length heights) (q .colours) (stripOf p) * q .budgets) × (length work ≡ length work₀) × Filled q heights bounds parts counts left base low (pointOf s) work₀ work (endPlace (q .colours) (p .a) (p .ca)) (lowPlace (q .colours) (stripOf p))
+Inv-loop work₀ q heights bounds parts counts left opening s base low n ends p₀ at₀ work p at = (p .a ≡ p₀ .a) × (p .ca ≡ p₀ .ca) × ((p .cb ≤ q .colours) × (p .d < markCount)) × (lowPlace (q .colours) (stripOf p) ≤ endPlace (q .colours) (length heights + 2) 0 * markCount) × (at ≡ base + rowOf (length heights) (q .colours) (stripOf p) * q .budgets) × (length work ≡ length work₀) × Filled q heights bounds parts counts left base low (pointOf s) work₀ work (endPlace (q .colours) (p .a) (p .ca)) (lowPlace (q .colours) (stripOf p))
 
 abbrev μ-loop : tie.MeasureT-loop
-μ-loop work₀ q heights bounds parts counts left s base low n ends p₀ at₀ work p at = endPlace (q .colours) (length heights + 2) 0 * markCount - lowPlace (q .colours) (stripOf p)
+μ-loop work₀ q heights bounds parts counts left opening s base low n ends p₀ at₀ work p at = endPlace (q .colours) (length heights + 2) 0 * markCount - lowPlace (q .colours) (stripOf p)
 
 -- where the function starts
 abbrev begin : tie.After-fill-row-arg Inv-loop μ-loop → tie.Start Inv-loop μ-loop
-begin c = c .before .before .before .before .before .before .before .before .before .before .before .before .before .before .before
+begin c = c .before .before .before .before .before .before .before .before .before .before .before .before .before .before .before .before
 
 -- the row that the loop has come to
-row-lies : (c : tie.Then2 Inv-loop μ-loop) → Lies (length (c .before .before .before .before .before .before .before .before .before .before .before .before .before .before .args .heights .now)) (c .before .before .before .before .before .before .before .before .before .before .before .before .before .before .args .q .colours) (stripOf (c .before .before .loop .p))
+row-lies : (c : tie.Then2 Inv-loop μ-loop) → Lies (length (c .before .before .before .before .before .before .before .before .before .before .before .before .before .before .before .args .heights .now)) (c .before .before .before .before .before .before .before .before .before .before .before .before .before .before .before .args .q .colours) (stripOf (c .before .before .loop .p))
 row-lies c =
-    let p = c .before .before .before .before .before .before .before .before .before .before .before .before .before .before .pre .1 in
+    let p = c .before .before .before .before .before .before .before .before .before .before .before .before .before .before .before .pre .1 in
     let l = c .before .before .loop in
-    lies-at (length (c .before .before .before .before .before .before .before .before .before .before .before .before .before .before .args .heights .now)) (c .before .before .before .before .before .before .before .before .before .before .before .before .before .before .args .q .colours) (stripOf (l .p)) (omega (arith, l .inv .0, p .0)) (omega (arith, l .inv .1, p .1)) (omega (arith, c .if2 .taken)) (l .inv .2 .0) (l .inv .2 .1)
+    lies-at (length (c .before .before .before .before .before .before .before .before .before .before .before .before .before .before .before .args .heights .now)) (c .before .before .before .before .before .before .before .before .before .before .before .before .before .before .before .args .q .colours) (stripOf (l .p)) (omega (arith, l .inv .0, p .0)) (omega (arith, l .inv .1, p .1)) (omega (arith, c .if2 .taken)) (l .inv .2 .0) (l .inv .2 .1)
 
 returns : tie.Need-returns Inv-loop μ-loop
 returns c =
-    let a = c .before .before .before .before .before .before .before .before .args in
-    (record { before = λ i h. refl; after = λ i h. refl }, λ p t e. absurd (ended _ (a .q .colours) (a .above .slot) (a .above .colour) (c .before .before .before .before .before .before .before .before .pre .1 .1) (sym (c .before .is-upper-end .ensures) ∙ not-f _ (c .if1 .taken)) p t e))
+    let a = c .before .before .before .before .before .before .before .before .before .args in
+    (record { before = λ i h. refl; after = λ i h. refl }, λ p t e. absurd (ended _ (a .q .colours) (a .above .slot) (a .above .colour) (c .before .before .before .before .before .before .before .before .before .pre .1 .1) (sym (c .before .is-upper-end .ensures) ∙ not-f _ (c .if1 .taken)) p t e))
 
 cast-n : tie.Need-cast-n Inv-loop μ-loop
 cast-n c = search needs
@@ -44,25 +44,25 @@ cast-ends c = search needs
 add-ends : tie.Need-add-ends Inv-loop μ-loop
 add-ends c = search needs
 
-add-t19 : tie.Need-add-t19 Inv-loop μ-loop
-add-t19 c = search needs
+add-t20 : tie.Need-add-t20 Inv-loop μ-loop
+add-t20 c = search needs
 
 row-place-requires : tie.Need-row-place-requires Inv-loop μ-loop
 row-place-requires c κs =
-    let p = c .before .before .before .before .before .before .before .before .before .before .pre in
+    let p = c .before .before .before .before .before .before .before .before .before .before .before .pre in
     let f = p .0 .ready .sheet in
     ((f .fewSlots, f .fewColours, f .fewBudgets), start-lies _ _ _ _ (p .1 .0) (p .1 .1))
 
 add-at : tie.Need-add-at Inv-loop μ-loop
 add-at c =
-    let p = c .before .before .before .before .before .before .before .before .before .before .before .pre in
-    let a = c .before .before .before .before .before .before .before .before .before .before .before .args in
+    let p = c .before .before .before .before .before .before .before .before .before .before .before .before .pre in
+    let a = c .before .before .before .before .before .before .before .before .before .before .before .before .args in
     omega (arith, c .row-place .ensures, p .0 .ready .apart, p .0 .ready .within, row-fits (length (a .heights .now)) (a .q .colours) (a .q .budgets) _ (start-lies (length (a .heights .now)) (a .q .colours) (a .above .slot) (a .above .colour) (p .1 .0) (p .1 .1)))
 
 loop-holds : tie.Need-loop-holds Inv-loop μ-loop
 loop-holds c =
-    let p = c .before .before .before .before .before .before .before .before .before .before .before .pre in
-    let a = c .before .before .before .before .before .before .before .before .before .before .before .args in
+    let p = c .before .before .before .before .before .before .before .before .before .before .before .before .pre in
+    let a = c .before .before .before .before .before .before .before .before .before .before .before .before .args in
     (refl, refl, (omega arith, some-mark), start-end (a .q .colours) (a .above .slot) (length (a .heights .now)) (p .1 .0), ap (λ (z : ℕ). a .base + z) (c .row-place .ensures), refl, filled-none (a .q) (a .heights .now) (a .bounds .now) (a .parts .now) (a .counts .now) (a .left .now) (a .base) (a .low) (pointOf (a .s)) (a .work .now) (a .above .slot) (a .above .colour) _ (p .1 .1) (omega arith))
 
 fill-row-requires : tie.Need-fill-row-requires Inv-loop μ-loop
@@ -79,6 +79,7 @@ fill-row-requires c κs =
           within = omega (arith, l .inv .5, p .0 .ready .within);
         };
         budgets = p .0 .budgets;
+        opening = p .0 .opening;
         lies = r;
       },
       p .0 .bounded,
@@ -129,7 +130,7 @@ same-length c =
 returns-2 : tie.Need-returns-2 Inv-loop μ-loop
 returns-2 c =
     let l = c .before .before .loop in
-    let a = c .before .before .before .before .before .before .before .before .before .before .before .before .before .before .args in
+    let a = c .before .before .before .before .before .before .before .before .before .before .before .before .before .before .before .args in
     to-end (a .q) (a .heights .now) (a .bounds .now) (a .parts .now) (a .counts .now) (a .left .now) (a .base) (a .low) (pointOf (a .s)) (a .work .now) (l .work) _ _ (ap₂ (endPlace (a .q .colours)) (l .inv .0) (l .inv .1)) (filled-all (a .q) (a .heights .now) (a .bounds .now) (a .parts .now) (a .counts .now) (a .left .now) (a .base) (a .low) (pointOf (a .s)) (a .work .now) (l .work) (endPlace (a .q .colours) (l .p .a) (l .p .ca)) (stripOf (l .p)) (omega (arith, c .if2 .left)) (l .inv .3) (l .inv .6))
 
 is-upper-end-requires : tie.Need-is-upper-end-requires Inv-loop μ-loop
@@ -146,7 +147,7 @@ fill-below-spec =
     cast-n
     cast-ends
     add-ends
-    add-t19
+    add-t20
     row-place-requires
     add-at
     loop-holds

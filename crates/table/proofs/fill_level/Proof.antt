@@ -10,14 +10,14 @@ use Rattle.table.proofs.fill_level.Statement.{statement}
 use Rattle.table.proofs.fill_level.Tie as tie
 
 abbrev Inv-loop : tie.InvT-loop
-Inv-loop work₀ q heights bounds parts counts left s base low ends above₀ work above = (above .colour ≤ q .colours) × (endPlace (q .colours) (above .slot) (above .colour) ≤ endPlace (q .colours) (length heights + 1) 0) × (length work ≡ length work₀) × Passed q heights bounds parts counts left base low (pointOf s) work₀ work (endPlace (q .colours) (above .slot) (above .colour))
+Inv-loop work₀ q heights bounds parts counts left opening s base low ends above₀ work above = (above .colour ≤ q .colours) × (endPlace (q .colours) (above .slot) (above .colour) ≤ endPlace (q .colours) (length heights + 1) 0) × (length work ≡ length work₀) × Passed q heights bounds parts counts left base low (pointOf s) work₀ work (endPlace (q .colours) (above .slot) (above .colour))
 
 abbrev μ-loop : tie.MeasureT-loop
-μ-loop work₀ q heights bounds parts counts left s base low ends above₀ work above = endPlace (q .colours) (length heights + 1) 0 - endPlace (q .colours) (above .slot) (above .colour)
+μ-loop work₀ q heights bounds parts counts left opening s base low ends above₀ work above = endPlace (q .colours) (length heights + 1) 0 - endPlace (q .colours) (above .slot) (above .colour)
 
 -- where the function starts, seen from where the rows below an end are filled
 abbrev begin : tie.After-fill-below Inv-loop μ-loop → tie.Start Inv-loop μ-loop
-begin b = b .before .before .before .before .before .before .before .before .before .before .before
+begin b = b .before .before .before .before .before .before .before .before .before .before .before .before
 
 cast-ends : tie.Need-cast-ends Inv-loop μ-loop
 cast-ends c = search needs
@@ -27,12 +27,12 @@ add-ends c = search needs
 
 loop-holds : tie.Need-loop-holds Inv-loop μ-loop
 loop-holds c =
-    let a = c .before .before .before .before .before .before .args in
+    let a = c .before .before .before .before .before .before .before .args in
     (omega arith, slot-low (a .q .colours) 0 (length (a .heights .now) + 1) 0 (omega arith), refl, passed-none (a .q) (a .heights .now) (a .bounds .now) (a .parts .now) (a .counts .now) (a .left .now) (a .base) (a .low) (pointOf (a .s)) (a .work .now) _ (omega arith))
 
 fill-below-requires : tie.Need-fill-below-requires Inv-loop μ-loop
 fill-below-requires c κs =
-    let p = c .before .before .before .before .before .before .before .before .before .before .pre in
+    let p = c .before .before .before .before .before .before .before .before .before .before .before .pre in
     let l = c .before .before .before .loop in
     (rw (l .inv .2) p, (omega (arith, c .before .if1 .taken), l .inv .0))
 
@@ -68,7 +68,7 @@ same-length c =
 returns : tie.Need-returns Inv-loop μ-loop
 returns c =
     let l = c .before .before .loop in
-    let a = c .before .before .before .before .before .before .before .before .before .args in
+    let a = c .before .before .before .before .before .before .before .before .before .before .args in
     passed-all (a .q) (a .heights .now) (a .bounds .now) (a .parts .now) (a .counts .now) (a .left .now) (a .base) (a .low) (pointOf (a .s)) (a .work .now) (l .work) _ _ (omega (arith, c .if1 .left)) (l .inv .1) (l .inv .3)
 
 pub fill-level-spec : {M : Type 1} → statement M
