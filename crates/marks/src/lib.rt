@@ -9,6 +9,7 @@ ghost use Rattle.rows.specs.Rows.{stripOf, pointOf, rowsOf, LevelFits};
 ghost use Rattle.rows.specs.Level.{Level, level, wordsIn, Ready};
 ghost use Rattle.marks.specs.Marks.{EndIn, KeptFrom, StripMarked, JoinsMarked, WindowMarked, StripFits, MarkReady, RowLed, EndLed, LevelLed};
 ghost use Rattle.marks.specs.Marks.{onSites, TableFits, LevelAt, SiteLed, SheetMarked};
+use areas::zero_part;
 use arrays::Measures;
 use rows::End;
 use rows::Site;
@@ -166,11 +167,16 @@ fn follow_level(
     }
 }
 
-// Clears the first word of each row of n words, from a word up to another.
+// Clears the first word of each row of n words, from a word up to another. Rows of one word are zeroed as a part of the area, which is
+// compiled to a loop that clears many at a time.
 fn clear_rows(work: &mut [u32], from: usize, to: usize, n: usize)
     requires { ⌜ (to ≤ length (now work)) × (0 < n) × (n ≤ mostBudgets) ⌝ }
     ensures { λ _. ⌜ KeptFrom to (now (work .entry)) (now (work .exit)) ⌝ }
 {
+    if (n == 1) & (from <= to) {
+        zero_part(work, from, to);
+        return;
+    }
     let mut at = from;
     while at < to {
         work[at] = 0;
