@@ -6,7 +6,7 @@ use mathlib.Core.List.{List, [], _∷_}
 use Prim.Native.Nat.{ℕ}
 use lib.Dec.{ltb, leb, eqb}
 use lib.ListN.{length}
-use Rattle.lists.proofs.Tests.{by-test}
+use Rattle.lists.proofs.Tests.{by-test, not-not}
 use Rattle.sheet.specs.Refusals.{unless, given, numberedTo}
 use Rattle.sheet.specs.Sheet.{sheetIn, sheetFault, sheetRefusals, workFor}
 use Rattle.sheet.proofs.Accepted.{numbered}
@@ -61,7 +61,4 @@ make-chain ws k o =
     after 7 (sheetRefusals ws) _ (numbered ws) ∙
     ap (cond (not (eqb (sheetFault ws) 0)) (sheetFault ws))
     (makes (sheetIn ws .isTwoSided) (leb (workFor (sheetIn ws)) (length k)) (leb (wordsFor (sheetIn ws)) (length o)) (isNone (best (sheetIn ws))) ∙
-    rw (turned (workFor (sheetIn ws)) (length k), turned (wordsFor (sheetIn ws)) (length o), twice (ltb (length k) (workFor (sheetIn ws))), twice (ltb (length o) (wordsFor (sheetIn ws)))))
-  where
-    twice : (b : Bool) → not (not b) ≡ b
-    twice b = by-test b (λ e. rw e) (λ e. rw e)
+    rw (turned (workFor (sheetIn ws)) (length k), turned (wordsFor (sheetIn ws)) (length o), not-not (ltb (length k) (workFor (sheetIn ws))), not-not (ltb (length o) (wordsFor (sheetIn ws)))))

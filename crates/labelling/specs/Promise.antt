@@ -257,7 +257,7 @@ fewestHead = 268468232
 abbrev pub shortestHead : ℕ
 shortestHead = 335577096
 
--- p has slot 11, the others slot 8: a tip at (4,8). With p at (3,8) it is not lawful, nor with p at (3,9), though p be of the same colour;
+-- p has the slot at 11, the others have that at 8: a tip at (4,8). With p at (3,8) or (3,9) it is not lawful, nor where all are of one colour;
 -- with p at (2,8), two units left, or at (3,10), two units below, it is. A site of the label itself does not count
 abbrev pub TipJudged : Type 0
 TipJudged =
@@ -265,8 +265,8 @@ TipJudged =
     judgedAs (beside fewestHead 3 9 ++ layoutWords 2 15 (2 ∷ 1 ∷ 1 ∷ [])) 5 × judgedAs (beside fewestHead 3 10 ++ layoutWords 2 14 (2 ∷ 1 ∷ 1 ∷ [])) 0 ×
     judgedAs (besideOwn fewestHead 3 8 ++ layoutWords 2 16 (2 ∷ 1 ∷ 1 ∷ [])) 5 × judgedAs (besideOwn fewestHead 3 8 ++ layoutWords 1 9 (1 ∷ 1 ∷ 1 ∷ [])) 0
 
--- that layout is the fewest and shortest where it is lawful; where not, the others have slot 1 and 2 labels 22 long, or, for the shortest, slots
--- 1 and 8: a tip at (5,8), two units right of p
+-- where that layout is lawful it is the best. Where not, the fewest labels are 22 long, with the others at 1; the shortest has them at 1 and at 8:
+-- a tip at (5,8), two units right of p
 abbrev pub TipAnswered : Type 0
 TipAnswered =
     laidOut (beside fewestHead 2 8) (layoutWords 2 17 (2 ∷ 1 ∷ 1 ∷ [])) × laidOut (beside fewestHead 3 8) (layoutWords 2 22 (2 ∷ 0 ∷ 0 ∷ [])) ×

@@ -83,6 +83,10 @@ pub not-f : (b : Bool) → not b ≡ true → b ≡ false
 not-f true e = sym e
 not-f false e = refl
 
+pub not-not : (b : Bool) → not (not b) ≡ b
+not-not true = refl
+not-not false = refl
+
 -- for `omega (arith, tests)`: what a test says of numbers, and its value from what is known
 pub ruleset tests = (ltb-true, ltb-false, leb-true, leb-false, eqb-true, eqb-false, lt-ltb, le-ltb, le-leb, lt-leb, eq-eqb, ne-eqb)
 

@@ -1,5 +1,5 @@
-// The slots at which a site may open no label: rule 5 of the sites before it, which a label's tip stands right of. Each site and slot is
-// tried once where a site is taken from the arrays, and not for each strip or budget.
+// The slots at which a site may open no label: rule 5 of the sites before it, left of the label's tip. A site and a slot are tried where
+// the site is taken from the arrays, and not for each strip or budget.
 ghost use mathlib.Core.Path.{_≡_};
 ghost use Prim.Native.Nat.{_<_, _≤_};
 ghost use lib.ListN.{length};

@@ -71,6 +71,14 @@ fn left_end(sheet: &Sheet, layout: &Layout, slot: usize) -> u32 {
     }
 }
 
+/// Whether a foreign site lies so far below the backbone of a slot, less than the gap.
+fn is_near(sheet: &Sheet, layout: &Layout, (site, slot): (usize, usize), below: i32, gap: u32) -> bool {
+    i64::from(sheet.sites()[site].y) == i64::from(sheet.slots()[slot]) + i64::from(below)
+        && usize::from(layout.slots[site]) != slot
+        && below.unsigned_abs() < gap
+        && gap == sheet.gap()
+}
+
 /// Whether what a fault says is so; the numbers are the layout's true ones.
 fn holds(fault: &Fault, sheet: &Sheet, layout: &Layout, numbers: (u32, u32)) -> bool {
     let (sites, slot_of) = (sheet.sites(), |site: usize| usize::from(layout.slots[site]));
@@ -98,19 +106,12 @@ fn holds(fault: &Fault, sheet: &Sheet, layout: &Layout, numbers: (u32, u32)) -> 
                 && (from <= height && height <= to || to <= height && height <= from)
         }
         Fault::NearSite { site, slot, below, gap } => {
-            i64::from(sites[*site].y) == i64::from(sheet.slots()[*slot]) + i64::from(*below)
-                && left_end(sheet, layout, *slot) <= sites[*site].x
-                && slot_of(*site) != *slot
-                && below.unsigned_abs() < *gap
-                && *gap == sheet.gap()
+            left_end(sheet, layout, *slot) <= sites[*site].x && is_near(sheet, layout, (*site, *slot), *below, *gap)
         }
         Fault::NearTip { site, slot, left, below, gap } => {
-            i64::from(sites[*site].y) == i64::from(sheet.slots()[*slot]) + i64::from(*below)
-                && left_end(sheet, layout, *slot) == sites[*site].x + left
-                && slot_of(*site) != *slot
+            left_end(sheet, layout, *slot) == sites[*site].x + left
                 && (1..*gap).contains(left)
-                && below.unsigned_abs() < *gap
-                && *gap == sheet.gap()
+                && is_near(sheet, layout, (*site, *slot), *below, *gap)
         }
         Fault::FalseNumbers { stated, found } => *stated == (layout.labels, layout.length) && *found == numbers,
     }
@@ -192,6 +193,15 @@ fn faults_say_what_is_wrong() {
         "site 2 lies on the backbone at slot 3, which is not its own"
     );
     assert_eq!(
+        says(Fault::FalseNumbers { stated: (2, 18), found: (2, 19) }),
+        "the layout states 2 labels and length 18, but has 2 labels and length 19"
+    );
+}
+
+#[test]
+fn faults_at_a_tip_say_both_distances() {
+    let says = |fault: Fault| fault.to_string();
+    assert_eq!(
         says(Fault::NearTip { site: 2, slot: 3, left: 4, below: 1, gap: 5 }),
         "site 2 lies 4 left of the tip of the backbone at slot 3 and 1 below it, both less than the gap 5"
     );
@@ -202,9 +212,5 @@ fn faults_say_what_is_wrong() {
     assert_eq!(
         says(Fault::NearTip { site: 2, slot: 3, left: 1, below: 0, gap: 2 }),
         "site 2 lies on the row of the backbone at slot 3, 1 left of its tip, less than the gap 2"
-    );
-    assert_eq!(
-        says(Fault::FalseNumbers { stated: (2, 18), found: (2, 19) }),
-        "the layout states 2 labels and length 18, but has 2 labels and length 19"
     );
 }

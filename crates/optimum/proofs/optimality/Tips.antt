@@ -2,14 +2,14 @@
 -- Assumes nothing but that the sheet is accepted.
 use mathlib.Core.Path.{_≡_, refl, sym, ap, _∙_, subst}
 use mathlib.Core.Logic.{_⊎_, inl, inr}
-use mathlib.Core.Bool.{Bool, true, false, cond, not, _||_, false≢true}
+use mathlib.Core.Bool.{true, false, cond, not, _||_, false≢true}
 use mathlib.Core.List.{List, [], _∷_}
 use Prim.Native.Nat.{ℕ, suc, _≤_, _<_}
 use native.Mathlib.Omega.{arith}
 use lib.Dec.{eqb, ltb}
 use lib.ListN.{length, getD, set, length-set}
 use borrow.Author.Tests.{ltb-true, lt-ltb, eqb-true, eq-eqb, ne-eqb}
-use Rattle.lists.proofs.Tests.{by-test, by-equal, by-either, or-e}
+use Rattle.lists.proofs.Tests.{by-test, by-equal, by-either, or-e, not-not}
 use Rattle.search.specs.Cost.{least}
 use Rattle.search.proofs.Cost.{least-le, least-is}
 use Rattle.search.proofs.Masks.{mask-bit}
@@ -29,11 +29,7 @@ module _ (s : Sheet) (i k : ℕ) where
   -- a slot is barred just where the tip of a label there is not clear
   pub barred-tip : k < length (s .slots) → not (hasSlot (barredOf s i) k) ≡ tipClear s i k
   unfolding hasSlot barredOf
-  barred-tip h = ap not (mask-bit (λ k. not (tipClear s i k)) (length (s .slots)) k h) ∙ twice (tipClear s i k)
-    where
-      twice : (b : Bool) → not (not b) ≡ b
-      twice true = refl
-      twice false = refl
+  barred-tip h = ap not (mask-bit (λ k. not (tipClear s i k)) (length (s .slots)) k h) ∙ not-not (tipClear s i k)
 
   -- the test: each site before it that counts is clear of the label
   pub tip-e : tipClear s i k ≡ true → (u : ℕ) → u < length (s .sites) → rankAt s u < rankAt s i → counts s (xOf s i) (xOf s u) ≡ true → isClear s k (siteAt s u .y) ≡ true
