@@ -1,13 +1,13 @@
 -- The slots that are barred to a site, from the arrays by rank, are the sheet's. Assumes nothing but that the sheet is accepted.
 use mathlib.Core.Path.{_≡_, refl, sym, ap, _∙_, subst, subst⁻¹, fun-ext}
-use mathlib.Core.Bool.{Bool, true, false, not, _&&_, _||_}
+use mathlib.Core.Bool.{Bool, true, false, not, _||_}
 use mathlib.Core.List.{List, [], _∷_}
 use Prim.Native.Nat.{ℕ, zero, suc, _+_, _<_}
 use native.Mathlib.Numerals.{add-one}
 use native.Mathlib.Omega.{arith}
 use lib.Bits.{bitOr}
 use lib.ListN.{length, getD}
-use Rattle.lists.proofs.Tests.{same-test, by-test, by-order, by-equal}
+use Rattle.lists.proofs.Tests.{same-test, by-test, by-order, by-equal, and-true, not-and}
 use Rattle.search.specs.Masks.{maskBy}
 use Rattle.search.proofs.Masks.{mask-cong, mask-empty, mask-or}
 use Rattle.sheet.specs.Sheet.{Sheet}
@@ -21,16 +21,8 @@ use Rattle.optimum.specs.OneSided.{xOf, tipClear, barredOf, order}
 use Rattle.optimum.proofs.optimality.Order.{Rise, ordered}
 use Rattle.optimum.proofs.optimality.Tips.{tip-e, tip-i}
 use Rattle.decoding.proofs.Places.{xs-at, ys-at}
-use Rattle.arrays.specs.Arrays.{measuresOf, xsOf, ysOf, gathered, letsOpen, tipClearBy, barredFrom, barredBy}
+use Rattle.arrays.specs.Arrays.{measuresOf, xsOf, ysOf, gathered, letsOpen, tipClearBy, nearSlots, barredFrom, barredBy}
 use Rattle.arrays.proofs.Ordered.{gathered-word}
-
-and-true : (b : Bool) → (b && true) ≡ b
-and-true true = refl
-and-true false = refl
-
-not-and : (a b : Bool) → (not a || not b) ≡ not (a && b)
-not-and true b = refl
-not-and false b = refl
 
 -- ranks rise along the order
 rises : (s : Sheet) (is : List ℕ) → Rise s is → (i j : ℕ) → i < j → j < length is → rankAt s (getD is i 0) < rankAt s (getD is j 0)
@@ -108,7 +100,7 @@ module _ (d : ℕ) (hs xs ys : List ℕ) (j : ℕ) where
 
   -- one that counts bars those that are not clear of it
   pub barred-more : (i : ℕ) → countsBy d (getD xs j 0) (getD xs i 0) ≡ true
-      → bitOr (barredFrom d hs xs ys j i) (maskBy (λ k. not (clearBy d (getD hs k 0) (getD ys i 0))) (length hs)) ≡ barredFrom d hs xs ys j (i + 1)
-  unfolding barredFrom allBefore
+      → bitOr (barredFrom d hs xs ys j i) (nearSlots d hs (getD ys i 0)) ≡ barredFrom d hs xs ys j (i + 1)
+  unfolding barredFrom nearSlots allBefore
   barred-more i c =
       rw (add-one i) (mask-or _ _ (length hs) ∙ mask-cong _ _ (length hs) (λ k l. rw c (not-and (allBefore (letsOpen d xs ys j (getD hs k 0)) i) (clearBy d (getD hs k 0) (getD ys i 0)))))

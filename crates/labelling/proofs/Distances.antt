@@ -1,6 +1,7 @@
 -- Laws of what rules 3 and 5 and the length ask by numbers: heights far enough apart, a label clear of a site, a site that counts, a
 -- site's share. No other proof spells these out. Assumes nothing.
 use mathlib.Core.Path.{_≡_}
+use mathlib.Core.Logic.{_⊎_, inl, inr}
 use mathlib.Core.Bool.{true, false}
 use Prim.Native.Nat.{ℕ, _+_, _-_, _≤_, _<_}
 use lib.Dec.{leb, ltb}
@@ -60,22 +61,20 @@ clear-below d a b y p q f = clear-i d a y (omega (arith, clear-e d b y f))
 pub clear-off : (d h y : ℕ) → 0 < d → clearBy d h y ≡ true → h ≡ y → ⊥
 clear-off d h y g f e = omega (arith, clear-e d h y f)
 
--- ---- a site that counts against a label: it counts against one further left too; every site against one at the left edge; a site at a
--- left end or right of it
+-- ---- a site that counts against a label: it is at its left end or right of it, or left of it by less than the gap; so it counts against
+-- one further left too
+
+pub counts-e : (d e x : ℕ) → countsBy d e x ≡ true → (e ≤ x) ⊎ (e - x < d)
+unfolding countsBy
+counts-e d e x f = by-either (or-e (leb e x) (ltb (e - x) d) f) (λ h. inl (leb-true e x h)) (λ h. inr (ltb-true (e - x) d h))
+
+pub counts-i : (d e x : ℕ) → (e ≤ x) ⊎ (e - x < d) → countsBy d e x ≡ true
+unfolding countsBy
+counts-i d e x (inl h) = rw (le-leb e x h)
+counts-i d e x (inr h) = by-test (leb e x) (λ g. rw g) (λ g. rw (g, lt-ltb (e - x) d h))
 
 pub counts-left : (d c e x : ℕ) → c ≤ e → countsBy d e x ≡ true → countsBy d c x ≡ true
-unfolding countsBy
-counts-left d c e x l f =
-    by-either (or-e (leb e x) (ltb (e - x) d) f)
-    (λ h. rw (le-leb c x (omega (arith, leb-true e x h))))
-    (λ h. by-test (leb c x) (λ g. rw g) (λ g. rw (g, lt-ltb (c - x) d (omega (arith, ltb-true (e - x) d h)))))
-
-pub counts-right : (d e x : ℕ) → e ≤ x → countsBy d e x ≡ true
-unfolding countsBy
-counts-right d e x l = rw (le-leb e x l)
-
-pub counts-all : (d x : ℕ) → countsBy d 0 x ≡ true
-counts-all d x = counts-right d 0 x (omega arith)
+counts-left d c e x l f = counts-i d c x (by-either (counts-e d e x f) (λ h. inl (omega arith)) (λ h. inr (omega arith)))
 
 -- ---- a site's share
 

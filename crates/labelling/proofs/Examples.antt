@@ -44,26 +44,26 @@ examples = (
   ),
 )
 
-pub charge-examples : ChargeExamples
+-- document 02's: of a charge, and of a tip
+pub later-examples : ChargeExamples × TipExamples
 unfolding given all inOrder isCharge slotsIn sitesRun coloursIn sitesIn productOf rising rankBy hasRank ranksDiffer tiedOf isUsed usedFrom leastX slotsOf boundsKept backbones farBy countsBy clearBy offBy shareBy drops tieWords tiesIn nextRank slotAt byRank comesFirst bestOver bestFrom sheetPart
-charge-examples = (
+later-examples = (
   (
-    lays (bends []) (0 ∷ 0 ∷ []) refl refl refl,
-    lays (bends (chargeWord 0 ∷ [])) (0 ∷ 0 ∷ []) refl refl refl,
-    lays (bends (chargeWord 3 ∷ [])) (0 ∷ 0 ∷ []) refl refl refl,
-    lays (bends (chargeWord 5 ∷ [])) (0 ∷ 2 ∷ []) refl refl refl,
+    (
+      lays (bends []) (0 ∷ 0 ∷ []) refl refl refl,
+      lays (bends (chargeWord 0 ∷ [])) (0 ∷ 0 ∷ []) refl refl refl,
+      lays (bends (chargeWord 3 ∷ [])) (0 ∷ 0 ∷ []) refl refl refl,
+      lays (bends (chargeWord 5 ∷ [])) (0 ∷ 2 ∷ []) refl refl refl,
+    ),
+    ((refl, refl), (refl, refl), (refl, refl), (refl, refl), (refl, refl)),
+    (refl, refl, refl, refl, refl, refl),
   ),
-  ((refl, refl), (refl, refl), (refl, refl), (refl, refl), (refl, refl)),
-  (refl, refl, refl, refl, refl, refl),
-)
-
-pub tip-examples : TipExamples
-unfolding given all inOrder isCharge slotsIn sitesRun coloursIn sitesIn productOf rising rankBy hasRank ranksDiffer tiedOf isUsed usedFrom leastX slotsOf boundsKept backbones farBy countsBy clearBy offBy shareBy drops tieWords tiesIn nextRank slotAt byRank comesFirst bestOver bestFrom sheetPart
-tip-examples = (
-  ((refl, refl), (refl, refl), (refl, refl), (refl, refl), (refl, refl), (refl, refl)),
   (
-    lays (beside fewestHead 2 8) (2 ∷ 1 ∷ 1 ∷ []) refl refl refl,
-    lays (beside fewestHead 3 8) (2 ∷ 0 ∷ 0 ∷ []) refl refl refl,
-    lays (beside shortestHead 3 8) (2 ∷ 0 ∷ 1 ∷ []) refl refl refl,
+    ((refl, refl), (refl, refl), (refl, refl), (refl, refl), (refl, refl), (refl, refl)),
+    (
+      lays (beside fewestHead 2 8) (2 ∷ 1 ∷ 1 ∷ []) refl refl refl,
+      lays (beside fewestHead 3 8) (2 ∷ 0 ∷ 0 ∷ []) refl refl refl,
+      lays (beside shortestHead 3 8) (2 ∷ 0 ∷ 1 ∷ []) refl refl refl,
+    ),
   ),
 )

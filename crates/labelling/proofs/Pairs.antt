@@ -17,7 +17,7 @@ use Rattle.labelling.proofs.Members.{each, every, all-used, used-all, u
 use Rattle.labelling.proofs.Best.{lowTies}
 use Rattle.labelling.specs.Lawful.{Rules, RuleTwo, Miss}
 use Rattle.labelling.proofs.LeftEnd.{left-le, left-is}
-use Rattle.labelling.proofs.Distances.{counts-left}
+use Rattle.labelling.proofs.Distances.{counts-e, counts-i, counts-left}
 use Rattle.labelling.proofs.Rules.{used-of, of-used}
 
 -- a test of a label by its slot and left end that a label further right passes too
@@ -88,7 +88,7 @@ module _ (s : Sheet) (inside : all (insideBy (s .width)) (s .sites) ≡ true) (j
     colour = r .one i j hi hj;
     far = r .three i j hi hj;
     misses = λ n c. r .four j (getD js i 0) hj used (λ q. n (sym q)) (omega (arith, left-le s js long i hi));
-    clear = λ n c. r .five j (getD js i 0) hj used (λ q. n (sym q)) (counts-left (s .gap) _ _ ((siteAt s j) .x) (left-le s js long i hi) c);
+    clear = λ n c. r .five j (getD js i 0) hj used (λ q. n (sym q)) (counts-e (s .gap) _ _ (counts-left (s .gap) _ _ ((siteAt s j) .x) (left-le s js long i hi) c));
   }
     where
       used : isUsed (getD js i 0) js ≡ true
@@ -104,7 +104,7 @@ module _ (s : Sheet) (inside : all (insideBy (s .width)) (s .sites) ≡ true) (j
         (p q i hq hi .misses (λ t. n (sym t ∙ eq)) (omega arith));
     five = λ i k hi u n e. let (q, hq, eq, rq) = left-is s js long inside k u in
         subst (λ (z : ℕ). isClear s z ((siteAt s i) .y) ≡ true) eq
-        (p q i hq hi .clear (λ t. n (sym t ∙ eq)) (subst (λ (z : ℕ). counts s z ((siteAt s i) .x) ≡ true) rq e));
+        (p q i hq hi .clear (λ t. n (sym t ∙ eq)) (subst (λ (z : ℕ). counts s z ((siteAt s i) .x) ≡ true) rq (counts-i (s .gap) _ _ e)));
   }
 
   -- THEOREM 0: the rules are every pair in order, and rule 2

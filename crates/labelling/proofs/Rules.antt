@@ -18,6 +18,7 @@ use Rattle.labelling.specs.Layout.{Tied, tieAt, tied, heightOf, isUsed, 
 use Rattle.lists.proofs.Tests.{by-test, and-l, and-r, and-i, or-e, is-false, not-f, not-e, tests}
 use Rattle.labelling.proofs.Members.{each, every, all-used, used-all, used-from, from-used}
 use Rattle.labelling.proofs.Best.{lowTies, Obeys}
+use Rattle.labelling.proofs.Distances.{counts-e, counts-i}
 
 -- rule 2, colour by colour
 bounds-each : (s : Sheet) (js : List ℕ) (c : ℕ) (ks : List Colour) → boundsKept s js c ks ≡ true → (i : ℕ) → i < length ks → Bounded s js (c + i) (getD ks i noColour)
@@ -150,8 +151,8 @@ module _ (s : Sheet) (js : List ℕ) (long : length js ≡ length (s .sites)) wh
 
     pub rule-five : (all (clearsAll s js) (tied s js) ≡ true) ↔ RuleFive s js
     rule-five = (
-      (λ h i k l u n e. five i k .0 (by-labels (clears s js) .0 h i k l u) (ne-eqb (getD js i 0) k n) e),
-      λ r. by-labels (clears s js) .1 λ i k l u. five i k .1 λ n e. r i k l u (eqb-false (getD js i 0) k n) e,
+      (λ h i k l u n e. five i k .0 (by-labels (clears s js) .0 h i k l u) (ne-eqb (getD js i 0) k n) (counts-i (s .gap) _ _ e)),
+      λ r. by-labels (clears s js) .1 λ i k l u. five i k .1 λ n e. r i k l u (eqb-false (getD js i 0) k n) (counts-e (s .gap) _ _ e),
     )
       where
         x : ℕ → ℕ

@@ -17,10 +17,9 @@ use Rattle.sheet.specs.Refusals.{given}
 use Rattle.sheet.specs.Sheet.{kindOf, bits, Sheet, isCharge, chargeAt, sheetIn, sheetFault}
 use Rattle.sheet.proofs.Accepted.{Sound, sound, some-words}
 use Rattle.sheet.proofs.Charge.{body-kept}
-use Rattle.labelling.specs.Layout.{Tied, siteAt, heightOf, leftEnd, counts, siteShare, backbones, drops, lengthOf, usedOf, tied, firstNumber, secondNumber, best, firstWord, statedCount, statedLength, tiesAt, layoutTies, isLayout, sheetPart, layoutPart, judgeFault, judged, storedFault, shareBy}
+use Rattle.labelling.specs.Layout.{Tied, heightOf, leftEnd, siteShare, backbones, drops, lengthOf, usedOf, tied, firstNumber, secondNumber, best, firstWord, statedCount, statedLength, tiesAt, layoutTies, isLayout, sheetPart, layoutPart, judgeFault, judged, storedFault, shareBy}
 use Rattle.labelling.specs.Lawful.{Ties, Rules, Better, IsAnswer, Lawful}
 use Rattle.labelling.specs.Twin.{asOneSided, twinHead, twinSheet, twinLayout, twinWords, twinFaultIn, TwinOf, TwinLawful, TwinOfTwin, NotWorse, BestNotWorse}
-use Rattle.labelling.proofs.Distances.{counts-all}
 use Rattle.labelling.proofs.Refusals.{twin-chain}
 use Rattle.labelling.proofs.Answer.{answer-is, answer-none}
 use Rattle.labelling.proofs.Judge.{sheet-part, judged-so}
@@ -91,7 +90,7 @@ module _ (s : Sheet) (two : s .isTwoSided ≡ true) (js : List ℕ) where
     two = r .two;
     three = r .three;
     four = λ i k l u n e. r .four i k l u n (omega (arith, left-zero k));
-    five = λ i k l u n e. r .five i k l u n (subst⁻¹ (λ (z : ℕ). counts s z ((siteAt s i) .x) ≡ true) (left-zero k) (counts-all (s .gap) ((siteAt s i) .x)));
+    five = λ i k l u n e. r .five i k l u n (inl (omega (arith, left-zero k)));
   }
 
   backbones-one : (ks : List ℕ) → backbones (asOneSided s) js ks ≤ backbones s js ks

@@ -1,15 +1,15 @@
 -- Lawful layouts and the answer as document 01 words them: statements. Only what document 02 changes goes by a test of Layout, so that it
--- is said once: two labels far apart, a label clear of a site, which sites count. The tests of Layout come to these (proofs/Rules,
+-- is said once: two labels far apart, a label clear of a site. The tests of Layout come to these (proofs/Rules,
 -- Earlier and Answer). Sites and colours go by their numbers, i, j and c; k is a slot. Assumes nothing: these are definitions.
 use mathlib.Core.Path.{_≡_}
 use mathlib.Core.Logic.{_⊎_}
 use mathlib.Core.Bool.{true}
 use mathlib.Core.List.{List}
-use Prim.Native.Nat.{ℕ, zero, suc, _≤_, _<_}
+use Prim.Native.Nat.{ℕ, zero, suc, _-_, _≤_, _<_}
 use lib.ListN.{length, getD}
 use Rattle.sheet.specs.Limits.{unbounded}
 use Rattle.sheet.specs.Sheet.{kindOf, bits, Colour, Sheet, rankOf}
-use Rattle.labelling.specs.Layout.{siteAt, tied, heightOf, isUsed, usedOf, leftEnd, slotsOf, noColour, isFar, counts, isClear, countOf, lengthOf, statedCount, statedLength, firstNumber, secondNumber, layoutTies, wordsFor}
+use Rattle.labelling.specs.Layout.{siteAt, tied, heightOf, isUsed, usedOf, leftEnd, slotsOf, noColour, isFar, isClear, countOf, lengthOf, statedCount, statedLength, firstNumber, secondNumber, layoutTies, wordsFor}
 
 -- one tie for each site, to a slot below m
 pub record Ties (s : Sheet) (js : List ℕ) : Type 0 where
@@ -45,9 +45,12 @@ RuleFour s js =
 
 -- 5: a backbone lies at least D in height from every site of another label that counts: its x is at or right of the left end, or left of
 -- it by less than D
+abbrev pub Counted : Sheet → (left x : ℕ) → Type 0
+Counted s e x = (e ≤ x) ⊎ (e - x < s .gap)
+
 abbrev pub RuleFive : Sheet → (ties : List ℕ) → Type 0
 RuleFive s js =
-    (i k : ℕ) → i < length (s .sites) → isUsed k js ≡ true → (getD js i 0 ≡ k → ⊥) → counts s (leftEnd s js k) ((siteAt s i) .x) ≡ true →
+    (i k : ℕ) → i < length (s .sites) → isUsed k js ≡ true → (getD js i 0 ≡ k → ⊥) → Counted s (leftEnd s js k) ((siteAt s i) .x) →
     isClear s k ((siteAt s i) .y) ≡ true
 
 -- 6: the count and the length that the layout's words state are those of its ties

@@ -1,30 +1,28 @@
 -- Theorem 1, the numbers: count, length and the labels of a colour are sums over the steps of the walk, since the leftmost site of a
 -- label is the one that opens it.
 use mathlib.Core.Path.{_≡_, refl, sym, ap, ap₂, _∙_, subst}
-use mathlib.Core.Bool.{Bool, true, false, cond, false≢true}
+use mathlib.Core.Bool.{Bool, true, false, cond}
 use mathlib.Core.List.{List, [], _∷_}
 use Prim.Native.Nat.{ℕ, zero, suc, _+_, _-_, _≤_, _<_}
 use native.Mathlib.Omega.{arith}
-use lib.Dec.{eqb}
 use lib.ListN.{length, getD, replicate, length-replicate}
-use borrow.Author.Tests.{eqb-true, eqb-false, eq-eqb, ne-eqb}
-use Rattle.lists.proofs.Tests.{by-test, by-equal, by-either, or-e, is-false}
+use borrow.Author.Tests.{eq-eqb, ne-eqb}
+use Rattle.lists.proofs.Tests.{by-equal, is-false}
 use Rattle.search.specs.Sums.{sum}
 use Rattle.search.proofs.Sums.{sum-cong, sum-front}
 use Rattle.sheet.specs.Sheet.{Site, Sheet}
 use Rattle.sheet.proofs.Accepted.{Sound}
 use Rattle.labelling.specs.Layout.{tiedOf, tied, siteShare, heightOf, isUsed, usedFrom, usedOf, leftEnd, slotsOf, countOf, backbones, drops}
-use Rattle.labelling.proofs.Members.{noSite, used-at, at-used, used-head, used-tail}
-use Rattle.labelling.proofs.Earlier.{rankAt}
+use Rattle.labelling.proofs.Members.{noSite, used-at, at-used}
 use Rattle.labelling.proofs.LeftEnd.{left-end}
 use Rattle.labelling.proofs.Counted.{slots-at, at-slots, sumOver, length-over, backbones-over}
 use Rattle.optimum.specs.Strips.{Point}
 use Rattle.optimum.specs.OneSided.{leadOf, xOf, order, pointAt, pointsAt, instanceOf}
 use Rattle.optimum.proofs.Steps.{Steps, isFree, opened, shares}
 use Rattle.optimum.proofs.Pairs.{zeros}
-use Rattle.optimum.proofs.optimality.Opened.{firstOf, opened-sum}
+use Rattle.optimum.proofs.optimality.Opened.{firstOf, Leads, leads, opened-sum}
 use Rattle.optimum.proofs.optimality.Pays.{isOf}
-use Rattle.optimum.proofs.optimality.Order.{rank-x, Rise, ordered, gather, sum-order}
+use Rattle.optimum.proofs.optimality.Order.{rank-x, ordered, gather, sum-order}
 use Rattle.optimum.proofs.optimality.RankedPairs.{yOf, colourOf}
 
 -- ---- sums
@@ -62,32 +60,6 @@ shares-sum s js (i ∷ is) = ap (λ (z : ℕ). siteShare s (heightOf s (getD js 
 -- the sites' shares are the drops
 pub shares-drops : (s : Sheet) → Sound s → (js : List ℕ) → length js ≡ length (s .sites) → shares (instanceOf s) (pointsAt s (order s)) (gather js (order s)) ≡ drops s (tied s js)
 shares-drops s o js l = shares-sum s js (order s) ∙ sum-order s o (λ i. siteShare s (heightOf s (getD js i 0)) (yOf s i)) ∙ sym (drops-sum s (s .sites) js l)
-
--- ---- the first site at a slot
-
-pub data Leads (s : Sheet) (js is : List ℕ) (k : ℕ) : Type 0 where
-  nobody : ((i : ℕ) → isUsed i is ≡ true → getD js i 0 ≡ k → ⊥) → ((g : Point → ℕ) → firstOf g k (pointsAt s is) (gather js is) ≡ 0) → Leads s js is k
-  somebody : (p : ℕ) → isUsed p is ≡ true → getD js p 0 ≡ k → ((i : ℕ) → isUsed i is ≡ true → getD js i 0 ≡ k → rankAt s p ≤ rankAt s i)
-      → ((g : Point → ℕ) → firstOf g k (pointsAt s is) (gather js is) ≡ g (pointAt s p)) → Leads s js is k
-
-pub leads : (s : Sheet) (js is : List ℕ) (k : ℕ) → Rise s is → Leads s js is k
-unfolding firstOf pointsAt gather Rise isUsed
-leads s js [] k r = Leads.nobody (λ i u e. false≢true u) (λ g. refl)
-leads s js (i ∷ is) k r =
-    by-test (eqb (getD js i 0) k)
-    (λ t. Leads.somebody i (used-head i is) (eqb-true _ k t)
-    (λ j u e. by-either (or-e (eqb i j) (isUsed j is) u) (λ q. omega (arith, ap (rankAt s) (eqb-true i j q))) (λ q. omega (arith, r .0 j q)))
-    (λ g. rw t))
-    (λ t. later t (leads s js is k (r .1)))
-  where
-    later : eqb (getD js i 0) k ≡ false → Leads s js is k → Leads s js (i ∷ is) k
-    later t (Leads.nobody f g) =
-        Leads.nobody (λ j u e. by-either (or-e (eqb i j) (isUsed j is) u) (λ q. eqb-false (getD js i 0) k t (ap (λ (z : ℕ). getD js z 0) (eqb-true i j q) ∙ e)) (λ q. f j q e)) (λ h. rw t (g h))
-    later t (Leads.somebody p u e f g) =
-        Leads.somebody p (used-tail p i is u) e
-        (λ j v q. by-either (or-e (eqb i j) (isUsed j is) v)
-        (λ z. absurd (eqb-false (getD js i 0) k t (ap (λ (z : ℕ). getD js z 0) (eqb-true i j z) ∙ q)))
-        (λ z. f j z q)) (λ h. rw t (g h))
 
 -- ---- count, length and colours of the whole walk
 

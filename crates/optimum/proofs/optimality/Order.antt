@@ -81,7 +81,7 @@ pub record Ordered (s : Sheet) (n a : ℕ) (is : List ℕ) : Type 0 where
   pub rise : Rise s is
 
 module _ (s : Sheet) (o : Sound s) where
-  pub low-at : (i : ℕ) → i < length (s .sites) → rankAt s i < rankTop
+  low-at : (i : ℕ) → i < length (s .sites) → rankAt s i < rankTop
   low-at i h = rank-low (getD (s .sites) i noSite) (ltb-true _ _ (all-at lowX noSite (s .sites) (o .xs) i h)) (ltb-true _ _ (all-at lowY noSite (s .sites) (o .ys) i h))
 
   -- how many sites lie at a or right of it

@@ -1,6 +1,7 @@
 -- THEOREM 0 by rank: the pairs of labelling's proofs/Pairs, each site with those after it, are what `Pairs` says of the lists.
 use mathlib.Core.Path.{_≡_, refl, sym, ap, _∙_, subst, subst⁻¹}
 use mathlib.Core.Bool.{true, false, false≢true}
+use mathlib.Core.Logic.{inl}
 use mathlib.Core.List.{List, [], _∷_}
 use Prim.Native.Nat.{ℕ, suc, _≤_, _<_}
 use native.Mathlib.Omega.{arith}
@@ -20,7 +21,7 @@ use Rattle.optimum.specs.Slots.{farEnough}
 use Rattle.optimum.specs.OneSided.{xOf, pointAt, pointsAt, instanceOf}
 use Rattle.optimum.proofs.Pairs.{Pair, PairAll, Pairs}
 use Rattle.optimum.proofs.optimality.Order.{rank-x, x-rank, Rise, gather, same-site}
-use Rattle.labelling.proofs.Distances.{counts-left, counts-right}
+use Rattle.labelling.proofs.Distances.{counts-i, counts-left}
 use Rattle.optimum.proofs.optimality.Distances.{good}
 use Rattle.optimum.proofs.optimality.Tips.{tip-e, tip-i, TipsClear, opener}
 
@@ -42,7 +43,7 @@ unfolding farEnough
 pairs-rising s o t js p i j hi hj h =
     let q = p i j hi hj in
     let x : startOf s (siteAt s i) ≤ xOf s j = omega (arith, start-one s t (siteAt s i), rank-x s o i j hi hj (omega arith)) in
-    (q .colour, λ n. (q .far n, q .clear n (counts-right (s .gap) _ _ x), q .misses n x))
+    (q .colour, λ n. (q .far n, q .clear n (counts-i (s .gap) _ _ (inl x)), q .misses n x))
 
 -- a label's first site stands at its tip
 pub pairs-tips : (s : Sheet) → s .isTwoSided ≡ false → (js : List ℕ) → AllInOrder s js → TipsClear s js

@@ -1,8 +1,7 @@
 -- TIPS: rule 5 of the sites before a label's first is a test of that site alone, and, along the order, of each step that opens a label.
 -- Assumes nothing but that the sheet is accepted.
 use mathlib.Core.Path.{_≡_, refl, sym, ap, _∙_, subst}
-use mathlib.Core.Logic.{_⊎_, inl, inr}
-use mathlib.Core.Bool.{true, false, cond, not, _||_, false≢true}
+use mathlib.Core.Bool.{true, false, not, _||_, false≢true}
 use mathlib.Core.List.{List, [], _∷_}
 use Prim.Native.Nat.{ℕ, suc, _≤_, _<_}
 use native.Mathlib.Omega.{arith}
@@ -10,18 +9,17 @@ use lib.Dec.{eqb, ltb}
 use lib.ListN.{length, getD, set, length-set}
 use borrow.Author.Tests.{ltb-true, lt-ltb, eqb-true, eq-eqb, ne-eqb}
 use Rattle.lists.proofs.Tests.{by-test, by-equal, by-either, or-e, not-not}
-use Rattle.search.specs.Cost.{least}
-use Rattle.search.proofs.Cost.{least-le, least-is}
 use Rattle.search.proofs.Masks.{mask-bit}
-use Rattle.sheet.specs.Sheet.{Sheet, rankTop}
+use Rattle.sheet.specs.Sheet.{Sheet}
 use Rattle.sheet.proofs.Accepted.{Sound}
 use Rattle.labelling.specs.Layout.{siteAt, isUsed, counts, isClear}
 use Rattle.labelling.proofs.Earlier.{rankAt}
 use Rattle.labelling.proofs.Members.{noSite, all-at, at-all, used-head, used-tail}
-use Rattle.optimum.specs.OneSided.{xOf, tipPasses, tipClear, barredOf, hasSlot, pointsAt, instanceOf}
+use Rattle.optimum.specs.OneSided.{xOf, tipPasses, tipClear, barredOf, hasSlot, order, pointsAt, instanceOf}
 use Rattle.optimum.proofs.StripsHeld.{set-same, set-other}
 use Rattle.optimum.proofs.Steps.{isFree, Tips}
-use Rattle.optimum.proofs.optimality.Order.{low-at, Rise, gather}
+use Rattle.optimum.proofs.optimality.Order.{Rise, ordered, gather}
+use Rattle.optimum.proofs.optimality.Opened.{Leads, leads}
 
 -- ---- of one label
 
@@ -46,13 +44,11 @@ module _ (s : Sheet) (i k : ℕ) where
       (λ p. by-test (counts s (xOf s i) (xOf s u)) (λ q. rw (p, q) (f u l (ltb-true _ _ p) q)) (λ q. rw (p, q)))
       (λ p. rw p))
 
--- p is the first site of its label
-abbrev pub Leads : Sheet → (ties : List ℕ) → ℕ → Type 0
-Leads s js p = (u : ℕ) → u < length (s .sites) → getD js u 0 ≡ getD js p 0 → rankAt s p ≤ rankAt s u
-
--- EVERY LABEL'S TIP is clear
+-- EVERY LABEL'S TIP is clear: that of each site that is the first of its label
 abbrev pub TipsClear : Sheet → (ties : List ℕ) → Type 0
-TipsClear s js = (p : ℕ) → p < length (s .sites) → Leads s js p → tipClear s p (getD js p 0) ≡ true
+TipsClear s js =
+    (p : ℕ) → p < length (s .sites) → ((u : ℕ) → u < length (s .sites) → getD js u 0 ≡ getD js p 0 → rankAt s p ≤ rankAt s u) →
+    tipClear s p (getD js p 0) ≡ true
 
 -- every label has a first site
 pub record Opener (s : Sheet) (js : List ℕ) (q : ℕ) : Type 0 where
@@ -62,24 +58,14 @@ pub record Opener (s : Sheet) (js : List ℕ) (q : ℕ) : Type 0 where
   pub first : (u : ℕ) → u < length (s .sites) → getD js u 0 ≡ getD js q 0 → rankAt s site ≤ rankAt s u
 
 pub opener : (s : Sheet) → Sound s → (js : List ℕ) (q : ℕ) → q < length (s .sites) → Opener s js q
-opener s o js q hq = go (least-is rankTop n f)
+opener s o js q hq = go (leads s js (order s) (getD js q 0) (ordered s o .rise))
   where
-    n : ℕ
-    n = length (s .sites)
+    member : (u : ℕ) → u < length (s .sites) → isUsed u (order s) ≡ true
+    member u h = ordered s o .whole u h (omega arith)
 
-    f : ℕ → ℕ
-    f i = cond (eqb (getD js i 0) (getD js q 0)) (rankAt s i) rankTop
-
-    low : (i : ℕ) → i < n → getD js i 0 ≡ getD js q 0 → least rankTop n f ≤ rankAt s i
-    low i h e = let g : least rankTop n f ≤ f i = least-le rankTop n f i h in rw (eq-eqb _ _ e) at g
-
-    go : (least rankTop n f ≡ rankTop) ⊎ ((k : ℕ) × (k < n) × (f k ≡ least rankTop n f)) → Opener s js q
-    go (inl e) = absurd (omega (arith, e, low q hq refl, low-at s o q hq))
-    go (inr (k, hk, e)) =
-        by-test (eqb (getD js k 0) (getD js q 0))
-        (λ t. let g : rankAt s k ≡ least rankTop n f = rw t at e in
-        record { site = k; inside = hk; same = eqb-true _ _ t; first = λ u hu eu. omega (arith, g, low u hu eu) })
-        (λ t. absurd (let g : rankTop ≡ least rankTop n f = rw t at e in omega (arith, g, low q hq refl, low-at s o q hq)))
+    go : Leads s js (order s) (getD js q 0) → Opener s js q
+    go (Leads.nobody f g) = absurd (f q (member q hq) refl)
+    go (Leads.somebody p u e f g) = record { site = p; inside = ordered s o .low p u .0; same = e; first = λ v hv ev. f v (member v hv) ev }
 
 -- ---- along the order
 

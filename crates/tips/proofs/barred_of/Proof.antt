@@ -4,7 +4,6 @@ use Prim.Native.Nat.{_-_, _≤_}
 use native.Mathlib.Omega.{arith}
 use borrow.Author.Needs.{needs}
 use lib.Bits.{bitOr}
-use Rattle.tips.specs.Tips.{nearSlots}
 use Rattle.arrays.specs.Arrays.{barredFrom}
 use Rattle.arrays.proofs.Barred.{barred-none, barred-past, barred-more}
 use Rattle.tips.proofs.barred_of.Statement.{statement}
@@ -50,7 +49,6 @@ loop-less : tie.Need-loop-less Inv-loop μ-loop
 loop-less c = search needs
 
 loop-again : tie.Need-loop-again Inv-loop μ-loop
-unfolding nearSlots
 loop-again c =
     let a = c .before .before .before .before .before .before .before .before .before .args in
     let l = c .before .before .before .before .loop in

@@ -8,7 +8,7 @@ use borrow.Author.Needs.{needs}
 use Rattle.search.specs.Masks.{maskFrom}
 use Rattle.search.proofs.Masks.{bit-small, mask-none, mask-all, mask-down, mask-room}
 use Rattle.labelling.specs.Layout.{clearBy}
-use Rattle.tips.specs.Tips.{nearSlots}
+use Rattle.arrays.specs.Arrays.{nearSlots}
 use Rattle.tips.proofs.near_slots.Statement.{statement}
 use Rattle.tips.proofs.near_slots.Tie as tie
 
