@@ -6,7 +6,7 @@ ghost use Prim.Native.Nat.{_≤_};
 ghost use lib.Dec.{eqb};
 ghost use lib.ListN.{length, drop};
 ghost use Rattle.sheet.specs.Sheet.{sheetIn, sheetFault};
-ghost use Rattle.report.specs.Text.{written, pastOf};
+ghost use Rattle.text.specs.Text.{written, pastOf};
 ghost use Rattle.report.specs.Lines.{refusedLine, layoutText};
 ghost use Rattle.report.specs.Report.{programSheetText, programText, textBound};
 use decoding::numbers_of;

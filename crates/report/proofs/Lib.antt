@@ -1,5 +1,3 @@
-mod Written
-mod Decimal
 pub mod LinesPut
 mod Words
 pub mod Report

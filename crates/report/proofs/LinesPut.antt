@@ -5,8 +5,8 @@ use Prim.Native.Nat.{ℕ, suc, _+_, _<_}
 use native.Mathlib.Numerals.{add-one}
 use lib.ListN.{length, getD, drop}
 use lib.Seq.{drop-cons}
-use Rattle.report.specs.Text.{ascii, decimal, blank, lineFeed}
-use Rattle.report.proofs.Written.{Put, put-more}
+use Rattle.text.specs.Text.{ascii, decimal, blank, lineFeed}
+use Rattle.text.proofs.Written.{Put, put-more}
 use Rattle.sheet.specs.Sheet.{Site, Sheet}
 use Rattle.labelling.specs.Layout.{statedCount, statedLength}
 use Rattle.decoding.specs.Decoding.{coloursOf}

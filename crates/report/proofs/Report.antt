@@ -19,9 +19,9 @@ use Rattle.labelling.specs.Layout.{statedCount, statedLength}
 use Rattle.labelling.specs.Entry.{makeFault, makeAnswer, makeRefusals}
 use Rattle.refusals.specs.Input.{mostBytes, isUnfit}
 use Rattle.report.specs.Input.{wordsIn}
-use Rattle.report.specs.Text.{decimal, written, pastOf}
-use Rattle.report.proofs.Decimal.{decimal-length}
-use Rattle.report.proofs.Written.{written-front}
+use Rattle.text.specs.Text.{decimal, written, pastOf}
+use Rattle.text.proofs.Decimal.{decimal-length}
+use Rattle.text.proofs.Written.{written-front}
 use Rattle.report.specs.Lines.{refusedLine, slotAt, siteLines, layoutText}
 use Rattle.report.specs.Report.{sheetText, programSheetText, programText, siteLineBound, textBound}
 use Rattle.report.proofs.Words.{words-fit}

@@ -4,7 +4,7 @@ use Prim.Native.Nat.{ℕ, suc, _+_}
 use lib.ListN.{getD}
 use Rattle.sheet.specs.Sheet.{bits, Site, Sheet}
 use Rattle.labelling.specs.Layout.{statedCount, statedLength}
-use Rattle.report.specs.Text.{ascii, decimal}
+use Rattle.text.specs.Text.{ascii, decimal}
 
 -- THE LINES, each with its line feed
 abbrev pub refusedLine : (number : ℕ) → List ℕ

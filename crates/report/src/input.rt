@@ -4,7 +4,7 @@ ghost use mathlib.Core.List.{[], _∷_};
 ghost use Prim.Native.Nat.{_+_, _≤_};
 ghost use lib.ListN.{length, getD};
 ghost use Rattle.report.specs.Input.{wordFrom, wordsIn};
-ghost use Rattle.report.specs.Text.{written, pastOf};
+ghost use Rattle.text.specs.Text.{written, pastOf};
 use refusals::refusal_12::WORD_BYTES;
 use words::BYTE_TOP;
 use words::wide;

@@ -1,4 +1,3 @@
-// What the program reads and writes: the words of an input (input), the lines of a report (lines), text in an area (text).
+// What the program reads and writes: the words of an input (input), the lines of a report (lines).
 pub mod input;
 pub mod lines;
-pub mod text;

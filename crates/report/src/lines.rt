@@ -2,11 +2,10 @@
 ghost use mathlib.Core.Path.{_≡_};
 ghost use mathlib.Core.List.{[], _∷_, _++_};
 ghost use Rattle.sheet.specs.Sheet.{bits};
-ghost use Rattle.report.specs.Text.{decimal, written, pastOf};
+ghost use Rattle.text.specs.Text.{decimal, written, pastOf};
 ghost use Rattle.report.specs.Lines.{refusedLine, layoutLine, siteLine, slotAt, siteLinesBy, layoutTextBy};
-use crate::text::put_byte;
-use crate::text::put_bytes;
-use crate::text::put_decimal;
+use text::put_byte;
+use text::put_number;
 use words::byte_field;
 use words::count_field;
 use words::get;
@@ -17,8 +16,7 @@ fn put_named(text: &mut [u8], at: usize, name: &[u8], number: u64, last: u8) -> 
     ensures { λ r. ⌜ r ≡ pastOf (now (text .entry)) at (now (name .entry) ++ decimal number ++ (last ∷ [])) ⌝ }
     ensures { λ r. ⌜ now (text .exit) ≡ written (now (text .entry)) at (now (name .entry) ++ decimal number ++ (last ∷ [])) ⌝ }
 {
-    let mut past = put_bytes(text, at, name);
-    past = put_decimal(text, past, number);
+    let past = put_number(text, at, 0, name, number);
     put_byte(text, past, last)
 }
 

@@ -1,6 +1,6 @@
 use Rattle.report.specs.Input.{wordsIn}
 use Rattle.report.proofs.Words.{words-at, words-end}
-use Rattle.report.proofs.Written.{Left, left-all, left-more, left-none}
+use Rattle.text.proofs.Written.{Left, left-all, left-more, left-none}
 use mathlib.Core.Path.{refl, _∙_}
 use mathlib.Core.List.{[], _∷_}
 use Prim.Native.Nat.{_+_, _-_, _≤_}

@@ -1,5 +1,5 @@
 use Rattle.report.specs.Lines.{layoutTextBy}
-use Rattle.report.proofs.Written.{put-more}
+use Rattle.text.proofs.Written.{put-more}
 use borrow.Author.Needs.{needs}
 use Rattle.report.proofs.lines.put_layout.Statement.{statement}
 use Rattle.report.proofs.lines.put_layout.Tie as tie

@@ -4,7 +4,7 @@ use lib.ListN.{drop-of-length-le, length, getD, drop}
 use borrow.Author.Needs.{needs}
 use Rattle.report.specs.Lines.{siteLine, slotAt, siteLinesBy}
 use Rattle.report.proofs.LinesPut.{lines-at}
-use Rattle.report.proofs.Written.{Left, left-all, left-more, left-none}
+use Rattle.text.proofs.Written.{Left, left-all, left-more, left-none}
 use Rattle.report.proofs.lines.put_site_lines.Statement.{statement}
 use Rattle.report.proofs.lines.put_site_lines.Tie as tie
 

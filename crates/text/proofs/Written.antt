@@ -6,7 +6,7 @@ use native.Mathlib.Omega.{arith}
 use lib.ListN.{length, set, take, drop, length-set, length-append, take-append-drop}
 use lib.Seq.{set-out, take-suc-set, drop-set-lt}
 use Rattle.lists.proofs.Tests.{by-order}
-use Rattle.report.specs.Text.{written, pastOf}
+use Rattle.text.specs.Text.{written, pastOf}
 
 pub length-written : (l : List ℕ) (i : ℕ) (s : List ℕ) → length (written l i s) ≡ length l
 unfolding written

@@ -8,7 +8,7 @@ use lib.Dec.{ltb}
 use lib.ListN.{length, length-append}
 use borrow.Author.Tests.{ltb-false, lt-ltb, le-ltb}
 use Rattle.lists.proofs.Tests.{by-test, by-order}
-use Rattle.report.specs.Text.{zeroDigit, digitsBy, decimal}
+use Rattle.text.specs.Text.{zeroDigit, digitsBy, decimal}
 
 -- any fuel that is enough gives the same
 enough : (f g n : ℕ) → n ≤ f → n ≤ g → digitsBy f n ≡ digitsBy g n

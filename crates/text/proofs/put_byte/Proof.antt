@@ -1,11 +1,11 @@
-use Rattle.report.specs.Text.{written}
-use Rattle.report.proofs.Written.{written-out}
+use Rattle.text.specs.Text.{written}
+use Rattle.text.proofs.Written.{written-out}
 use mathlib.Core.Path.{refl, sym}
 use mathlib.Core.List.{[], _∷_}
 use native.Mathlib.Omega.{arith}
 use borrow.Author.Needs.{needs}
-use Rattle.report.proofs.text.put_byte.Statement.{statement}
-use Rattle.report.proofs.text.put_byte.Tie as tie
+use Rattle.text.proofs.put_byte.Statement.{statement}
+use Rattle.text.proofs.put_byte.Tie as tie
 
 slice-write-text : tie.Need-slice-write-text
 slice-write-text c = search needs

@@ -1,4 +1,4 @@
-use Rattle.report.proofs.Written.{Left, left-all, left-more, left-none}
+use Rattle.text.proofs.Written.{Left, left-all, left-more, left-none}
 use lib.Seq.{drop-cons}
 use lib.ListN.{drop-of-length-le, length, getD, drop}
 use mathlib.Core.Path.{refl}
@@ -7,8 +7,8 @@ use Prim.Native.Nat.{_+_, _-_, _<_, _≤_}
 use native.Mathlib.Omega.{arith}
 use native.Mathlib.Numerals.{add-one}
 use borrow.Author.Needs.{needs}
-use Rattle.report.proofs.text.put_bytes.Statement.{statement}
-use Rattle.report.proofs.text.put_bytes.Tie as tie
+use Rattle.text.proofs.put_bytes.Statement.{statement}
+use Rattle.text.proofs.put_bytes.Tie as tie
 
 abbrev Inv-loop : tie.InvT-loop
 Inv-loop text₀ at bytes past₀ i₀ text past i = (i ≤ length bytes) × Left text₀ at bytes text past (drop i bytes)

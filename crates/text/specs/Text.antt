@@ -1,11 +1,11 @@
 -- Text as bytes, and what putting it into an area leaves. Assumes nothing: these are definitions.
 use mathlib.Core.Bool.{cond}
 use mathlib.Core.List.{List, [], _∷_, _++_}
-use Prim.Native.Nat.{ℕ, zero, suc, _+_, _/_, _%_, min, max}
+use Prim.Native.Nat.{ℕ, zero, suc, _+_, _-_, _/_, _%_, min, max}
 use Prim.Native.Char.{code}
 use Prim.Native.String.{String, [] as empty, _∷_ as _then_}
 use lib.Dec.{ltb}
-use lib.ListN.{length, set}
+use lib.ListN.{length, set, replicate}
 
 -- the bytes of a text of ASCII characters
 abbrev pub ascii : String → List ℕ
@@ -29,6 +29,10 @@ digitsBy (suc f) n = cond (ltb n 10) ((zeroDigit + n) ∷ []) (digitsBy f (n / 1
 
 unfoldable pub decimal : ℕ → List ℕ
 decimal n = digitsBy n n
+
+-- a text at the right of so many columns: blanks before it
+unfoldable pub rightIn : (columns : ℕ) → (text : List ℕ) → List ℕ
+rightIn w t = replicate (w - length t) blank ++ t
 
 -- an area after bytes were put from a place on; what would lie past its end is left out
 unfoldable pub written : (area : List ℕ) → (place : ℕ) → (bytes : List ℕ) → List ℕ
