@@ -10,11 +10,11 @@ ghost use Rattle.twin.specs.Twin.{twinPost};
 ghost use Rattle.points.specs.Strokes.{flatOf};
 ghost use Rattle.strokes.specs.Strokes.{strokePost};
 ghost use Rattle.demands.specs.Demands.{ServedByReader, ServedByJudge, TrueVerdict, Served, ContentsApart, BestOfLawful, ServedByTwin, ServedByStrokes};
+use faults::written::Written;
 use judge::Verdict;
 use points::flat::FlatStroke;
 use points::flat::flat_stroke;
 use reader::Sizes;
-use twin::Written;
 
 #[no_mangle]
 pub extern "C" fn backbone_read(sheet: &[u32]) -> Sizes

@@ -1,3 +1,4 @@
+mod Tools
 pub mod Layouts
 pub mod Demands
 pub mod Twin

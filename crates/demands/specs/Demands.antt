@@ -21,7 +21,7 @@ use Rattle.reader.specs.declared.Sizes.{Sizes}
 use Rattle.reader.specs.Read.{readPost, refusedOf, eightOf}
 use Rattle.judge.specs.declared.Verdict.{Verdict}
 use Rattle.judge.specs.Judge.{judgePost}
-use Rattle.twin.specs.declared.Written.{Written}
+use Rattle.faults.specs.declared.written.Written.{Written}
 use Rattle.twin.specs.Twin.{twinPost}
 use Rattle.points.specs.declared.flat.FlatStroke.{FlatStroke}
 use Rattle.points.specs.Points.{PointsExact}
@@ -147,15 +147,20 @@ DemandThreeByTests =
     ((b : List ℕ) → areWords b ≡ true → isLawful (sheetIn ws) b ≡ true → same b (layoutIn ws o') ≡ false →
     isBeaten (sheetIn ws) (layoutIn ws o') b ≡ true))
 
--- THE TWIN (document 02, (n)), of one call, by its outcome: 1 to 7 or 11 as the judge; 13, the layout isn't lawful; 9, the area is shorter
--- than the stored sheet; each leaves the area. Or the twin stands in front, and what lies past it is as before
-pub record ServedByTwin (ws o : List ℕ) (r : Written) (o' : List ℕ) : Type 0 where
+-- A TOOL that writes so many places into an area, over a stored sheet, of one call, by its outcome: 1 to 7 or 11 as the judge; 13, the layout
+-- isn't lawful; 9, the area has fewer places; each leaves the area. Or what it writes stands in front, and Q holds of it, and what lies past
+-- it is as before
+pub record ServedByTool (ws : List ℕ) (size : ℕ) (Q : List ℕ → Type 0) (o : List ℕ) (r : Written) (o' : List ℕ) : Type 0 where
   pub judge : 0 < judgeFault ws → (r .refusal ≡ judgeFault ws) × (r .written ≡ 0) × (o' ≡ o)
   pub unlawful : judgeFault ws ≡ 0 → (Lawful (storedSheet ws) (layoutPart ws) → ⊥) → (r .refusal ≡ 13) × (r .written ≡ 0) × (o' ≡ o)
-  pub short : judgeFault ws ≡ 0 → Lawful (storedSheet ws) (layoutPart ws) → length o < length ws → (r .refusal ≡ 9) × (r .written ≡ 0) × (o' ≡ o)
-  pub given : judgeFault ws ≡ 0 → Lawful (storedSheet ws) (layoutPart ws) → length ws ≤ length o →
-      (r .refusal ≡ 0) × (r .written ≡ length ws) × TwinOf ws (take (length ws) o') × (drop (length ws) o' ≡ drop (length ws) o)
+  pub short : judgeFault ws ≡ 0 → Lawful (storedSheet ws) (layoutPart ws) → length o < size → (r .refusal ≡ 9) × (r .written ≡ 0) × (o' ≡ o)
+  pub given : judgeFault ws ≡ 0 → Lawful (storedSheet ws) (layoutPart ws) → size ≤ length o →
+      (r .refusal ≡ 0) × (r .written ≡ size) × Q (take size o') × (drop size o' ≡ drop size o)
   pub kept : length o' ≡ length o
+
+-- THE TWIN (document 02, (n)): as many words as the stored sheet has, and they are its twin
+abbrev pub ServedByTwin : (ws o : List ℕ) → Written → (o' : List ℕ) → Type 0
+ServedByTwin ws o r o' = ServedByTool ws (length ws) (TwinOf ws) o r o'
 
 -- of every call; the twin of a twin is itself; and the one-sided best is never worse than the two-sided one was
 pub record TwinPromised : Type 0 where

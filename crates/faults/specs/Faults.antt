@@ -7,8 +7,8 @@ use lib.Dec.{eqb, ltb, leb}
 abbrev pub makerFault : (refusal : ℕ) → (twoSided : Bool) → (needed sites work out : ℕ) → ℕ
 makerFault f t w n k o = cond (not (eqb f 0)) f (cond t 18 (cond (ltb k w) 8 (cond (ltb o (n + 1)) 9 0)))
 
--- OF A TOOL that writes so many words into an area: that of what it is given; 9, fewer words are lent; or 0
-abbrev pub writtenFault : (refusal words lent : ℕ) → ℕ
+-- OF A TOOL that writes so many places into an area: that of what it is given; 9, fewer are lent; or 0
+abbrev pub writtenFault : (refusal size lent : ℕ) → ℕ
 writtenFault f n l = cond (not (eqb f 0)) f (cond (leb n l) 0 9)
 
 -- OF A STORED SHEET: the sheet's; 11, what follows is not a layout of it; or 0. Then 13, a rule is broken; or 0

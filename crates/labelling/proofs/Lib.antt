@@ -18,5 +18,6 @@ pub mod Rules
 pub mod Stored
 pub mod Verdict
 pub mod Words
+pub mod Tools
 pub mod Twin
 pub mod Strokes

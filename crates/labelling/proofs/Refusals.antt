@@ -13,7 +13,7 @@ use Rattle.sheet.proofs.Accepted.{numbered}
 use Rattle.sheet.proofs.Refusals.{turned, after}
 use Rattle.labelling.specs.Layout.{isLayout, sheetPart, layoutPart, judgeRefusals, judgeFault, judged, storedRefusals, storedFault, best, wordsFor}
 use Rattle.labelling.specs.Entry.{isNone, makeFault}
-use Rattle.labelling.specs.Twin.{twinFaultIn}
+use Rattle.labelling.specs.Tools.{toolFault}
 use Rattle.labelling.specs.Strokes.{strokesIn, strokeFault}
 
 -- one refusal more
@@ -38,9 +38,9 @@ pub stored-chain : (ws : List ℕ) → storedFault ws ≡ cond (not (eqb (judgeF
 stored-chain ws =
     after 11 (judgeRefusals ws) _ (judge-numbered ws) ∙ ap (cond (not (eqb (judgeFault ws) 0)) (judgeFault ws)) (single (eqb (judged ws) 0) 13)
 
-pub twin-chain : (ws : List ℕ) (n : ℕ) → twinFaultIn ws n ≡ cond (not (eqb (storedFault ws) 0)) (storedFault ws) (cond (leb (length ws) n) 0 9)
-twin-chain ws n =
-    after 13 (storedRefusals ws) _ (stored-numbered ws) ∙ ap (cond (not (eqb (storedFault ws) 0)) (storedFault ws)) (single (leb (length ws) n) 9)
+pub tool-chain : (ws : List ℕ) (n l : ℕ) → toolFault ws n l ≡ cond (not (eqb (storedFault ws) 0)) (storedFault ws) (cond (leb n l) 0 9)
+tool-chain ws n l =
+    after 13 (storedRefusals ws) _ (stored-numbered ws) ∙ ap (cond (not (eqb (storedFault ws) 0)) (storedFault ws)) (single (leb n l) 9)
 
 pub stroke-chain : (ws : List ℕ) (i : ℕ) → strokeFault ws i ≡ cond (not (eqb (storedFault ws) 0)) (storedFault ws) (cond (ltb i (length (strokesIn ws))) 0 14)
 stroke-chain ws i =

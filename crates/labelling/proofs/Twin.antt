@@ -1,6 +1,5 @@
 -- THE TWIN'S PROMISES, KEPT: ties that are lawful on a two-sided sheet are lawful on its one-sided sheet, and their length is not greater
--- there. And the twin tool's refusal by its causes.
--- Assumes nothing.
+-- there. Assumes nothing.
 use mathlib.Core.Path.{_≡_, refl, sym, _∙_, ap, ap₂, subst, subst⁻¹}
 use mathlib.Core.Logic.{inl, inr}
 use mathlib.Core.Bool.{Bool, true, false, cond}
@@ -10,20 +9,17 @@ use Prim.Native.Nat.{ℕ, _+_, _≤_, _<_}
 use native.Mathlib.Omega.{arith}
 use lib.ListN.{length, drop, length-append, length-drop}
 use lib.Seq.{drop-append-seam}
-use borrow.Author.Tests.{eq-eqb, ne-eqb, lt-leb, le-leb}
-use Rattle.lists.proofs.Tests.{by-test, by-order, by-equal}
+use Rattle.lists.proofs.Tests.{by-test, by-order}
 use Rattle.sheet.specs.Limits.{lengthTop, countTop}
 use Rattle.sheet.specs.Refusals.{given}
 use Rattle.sheet.specs.Sheet.{kindOf, bits, Sheet, isCharge, chargeAt, sheetIn, sheetFault}
 use Rattle.sheet.proofs.Accepted.{Sound, sound, some-words}
 use Rattle.sheet.proofs.Charge.{body-kept}
-use Rattle.labelling.specs.Layout.{Tied, heightOf, leftEnd, siteShare, backbones, drops, lengthOf, usedOf, tied, firstNumber, secondNumber, best, firstWord, statedCount, statedLength, tiesAt, layoutTies, isLayout, sheetPart, layoutPart, judgeFault, judged, storedFault, shareBy}
+use Rattle.labelling.specs.Layout.{Tied, heightOf, leftEnd, siteShare, backbones, drops, lengthOf, usedOf, tied, firstNumber, secondNumber, best, firstWord, statedCount, statedLength, tiesAt, layoutTies, isLayout, sheetPart, layoutPart, judgeFault, judged, shareBy}
 use Rattle.labelling.specs.Lawful.{Ties, Rules, Better, IsAnswer, Lawful}
-use Rattle.labelling.specs.Twin.{asOneSided, twinHead, twinSheet, twinLayout, twinWords, twinFaultIn, TwinOf, TwinLawful, TwinOfTwin, NotWorse, BestNotWorse}
-use Rattle.labelling.proofs.Refusals.{twin-chain}
+use Rattle.labelling.specs.Twin.{asOneSided, twinHead, twinSheet, twinLayout, twinWords, TwinOf, TwinLawful, TwinOfTwin, NotWorse, BestNotWorse}
 use Rattle.labelling.proofs.Answer.{answer-is, answer-none}
 use Rattle.labelling.proofs.Judge.{sheet-part, judged-so}
-use Rattle.labelling.proofs.Stored.{stored-judge, stored-unlawful, stored-none, stored-judged, stored-verdict}
 use Rattle.labelling.proofs.Words.{formed, form, length-low, stated-count, stated-length}
 
 -- THE HEAD without its side bit
@@ -235,26 +231,3 @@ twin-lawful ws h v =
 
 pub twin-of-twin : TwinOfTwin
 twin-of-twin ws h v = same-words (twinWords ws) (ap (λ (t : Sheet). t .isTwoSided) (twin-lawful ws h v .0 .sheet))
-
--- THE TWIN TOOL'S REFUSAL, by its causes
-module _ (ws : List ℕ) (lent : ℕ) where
-  stored-refused : (storedFault ws ≡ 0 → ⊥) → twinFaultIn ws lent ≡ storedFault ws
-  stored-refused n = twin-chain ws lent ∙ rw (ne-eqb (storedFault ws) 0 n) refl
-
-  pub fault-judge : (judgeFault ws ≡ 0 → ⊥) → twinFaultIn ws lent ≡ judgeFault ws
-  fault-judge n = stored-refused (λ z. n (stored-judged ws z)) ∙ stored-judge ws n
-
-  module _ (h : judgeFault ws ≡ 0) where
-    pub fault-unlawful : (judged ws ≡ 0 → ⊥) → twinFaultIn ws lent ≡ 13
-    fault-unlawful n = stored-refused (λ z. n (stored-verdict ws z)) ∙ stored-unlawful ws h n
-
-    pub fault-short : judged ws ≡ 0 → lent < length ws → twinFaultIn ws lent ≡ 9
-    fault-short v l = twin-chain ws lent ∙ rw (eq-eqb (storedFault ws) 0 (stored-none ws h v), lt-leb (length ws) lent l) refl
-
-    pub fault-none : judged ws ≡ 0 → length ws ≤ lent → twinFaultIn ws lent ≡ 0
-    fault-none v l = twin-chain ws lent ∙ rw (eq-eqb (storedFault ws) 0 (stored-none ws h v), le-leb (length ws) lent l) refl
-
-  -- the four cases
-  pub by-cause : {P : Type 0} → ((judgeFault ws ≡ 0 → ⊥) → P) → (judgeFault ws ≡ 0 → (judged ws ≡ 0 → ⊥) → P) →
-      (judgeFault ws ≡ 0 → judged ws ≡ 0 → lent < length ws → P) → (judgeFault ws ≡ 0 → judged ws ≡ 0 → length ws ≤ lent → P) → P
-  by-cause a b c d = by-equal (judgeFault ws) 0 (λ h. by-equal (judged ws) 0 (λ v. by-order (length ws) lent (d h v) (c h v)) (b h)) a

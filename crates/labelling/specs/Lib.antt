@@ -4,5 +4,6 @@ pub mod Pairs
 pub mod Counted
 pub mod Promise
 pub mod Entry
+pub mod Tools
 pub mod Twin
 pub mod Strokes

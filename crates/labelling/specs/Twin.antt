@@ -3,14 +3,13 @@
 use mathlib.Core.Path.{_≡_}
 use mathlib.Core.Logic.{_⊎_}
 use mathlib.Core.Bool.{true, false, cond}
-use mathlib.Core.List.{List, _∷_, _++_, []}
+use mathlib.Core.List.{List, _∷_, _++_}
 use Prim.Native.Nat.{ℕ, _*_, _-_, _≤_, _<_}
-use lib.Dec.{eqb, leb}
 use lib.ListN.{length, drop}
 use Rattle.sheet.specs.Limits.{sidePlace}
-use Rattle.sheet.specs.Refusals.{Refusal, unless, given}
 use Rattle.sheet.specs.Sheet.{bits, Sheet, headIn, chargeAt, sheetIn, sheetFault}
-use Rattle.labelling.specs.Layout.{lengthOf, firstWord, statedCount, statedLength, layoutBody, layoutTies, firstNumber, secondNumber, sheetPart, layoutPart, judgeFault, judged, storedRefusals}
+use Rattle.labelling.specs.Layout.{lengthOf, firstWord, statedCount, statedLength, layoutBody, layoutTies, firstNumber, secondNumber, sheetPart, layoutPart, judgeFault, judged}
+use Rattle.labelling.specs.Tools.{toolFault, toolArea}
 use Rattle.labelling.specs.Lawful.{Ties, Rules, Lawful, IsAnswer}
 
 -- THE TWIN
@@ -46,19 +45,13 @@ twinWords ws =
     cond (sheetIn (sheetPart ws) .isTwoSided) (twinSheet (sheetPart ws) ++ twinLayout (sheetIn (sheetPart ws)) (layoutPart ws)) ws
 
 -- THE TWIN TOOL
--- the refusal, with an area of so many words: 1 to 7, 11 and 13 of any stored sheet; then 9, the area is shorter than it; or 0
-abbrev pub twinRefusals : (stored : List ℕ) → (lent : ℕ) → List Refusal
-twinRefusals ws n = storedRefusals ws ++ (unless (leb (length ws) n) 9 ∷ [])
-
-abbrev pub twinFaultIn : (stored : List ℕ) → (lent : ℕ) → ℕ
-twinFaultIn ws n = given (twinRefusals ws n)
-
+-- the refusal: the area must have as many words as the stored sheet
 abbrev pub twinFault : (stored out : List ℕ) → ℕ
-twinFault ws o = twinFaultIn ws (length o)
+twinFault ws o = toolFault ws (length ws) (length o)
 
--- the area afterwards: the twin in its first words, the rest as before; a refusal changes nothing
+-- the area afterwards
 abbrev pub twinArea : (stored out : List ℕ) → List ℕ
-twinArea ws o = cond (eqb (twinFault ws o) 0) (twinWords ws ++ drop (length ws) o) o
+twinArea ws o = toolArea (twinFault ws o) (length ws) (twinWords ws) o
 
 -- WHAT IS PROMISED
 -- tw has as many words as ws; the judge refuses nothing and finds it lawful; its sheet is that of ws, one-sided; its layout has the

@@ -6,16 +6,11 @@ ghost use mathlib.Core.Path.{_≡_};
 ghost use Rattle.labelling.specs.Twin.{twinArea};
 ghost use Rattle.twin.specs.Twin.{twinPost};
 use crate::writing::write_twin;
+use faults::written::Written;
 use faults::written::written_fault;
 use judge::opened::open_stored;
 
-// refusal: 1 to 7, 11, 13 or 9, 0 for none. written: the words of the twin, 0 beside a refusal.
-#[repr(C)]
-pub struct Written {
-    pub refusal: u8,
-    pub written: u32,
-}
-
+// Refused: 1 to 7, 11, 13; then 9, the area is shorter than the stored sheet. Written are the words of the twin.
 pub fn make_twin(stored: &[u32], out: &mut [u32]) -> Written
     ensures { λ r. ⌜ r ≡ twinPost (now (stored .entry)) (now (out .entry)) ⌝ }
     ensures { λ r. ⌜ now (out .exit) ≡ twinArea (now (stored .entry)) (now (out .entry)) ⌝ }

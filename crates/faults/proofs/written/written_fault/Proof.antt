@@ -12,12 +12,12 @@ returns c =
 returns-2 : tie.Need-returns-2
 returns-2 c =
     let a = c .before .before .args in
-    rw (eq-eqb (a .refusal) 0 (omega (arith, c .before .if1 .left)), lt-leb (a .words) (a .lent) (c .if2 .taken)) refl
+    rw (eq-eqb (a .refusal) 0 (omega (arith, c .before .if1 .left)), lt-leb (a .size) (a .lent) (c .if2 .taken)) refl
 
 returns-3 : tie.Need-returns-3
 returns-3 c =
     let a = c .before .before .args in
-    rw (eq-eqb (a .refusal) 0 (omega (arith, c .before .if1 .left)), le-leb (a .words) (a .lent) (c .if2 .left)) refl
+    rw (eq-eqb (a .refusal) 0 (omega (arith, c .before .if1 .left)), le-leb (a .size) (a .lent) (c .if2 .left)) refl
 
 pub written-fault-spec : {M : Type 1} → statement M
 written-fault-spec = tie.close (tie.spec returns returns-2 returns-3)
