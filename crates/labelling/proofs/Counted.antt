@@ -130,6 +130,31 @@ unfolding sumWhere
 where-same t u f a zero h = refl
 where-same t u f a (suc n) h = ap₂ _+_ (ap (λ (b : Bool). cond b (f a) 0) (h a (omega arith))) (where-same t u f (suc a) n λ k l. h k (omega arith))
 
+pub where-zero : (t : ℕ → Bool) (a n : ℕ) → sumWhere t (λ k. 0) a n ≡ 0
+unfolding sumWhere
+where-zero t a zero = refl
+where-zero t a (suc n) = by-test (t a) (λ e. rw e (omega (arith, where-zero t (suc a) n))) λ e. rw e (omega (arith, where-zero t (suc a) n))
+
+-- of two numbers, and of a number that one alone has
+pub where-plus : (t : ℕ → Bool) (f g : ℕ → ℕ) (a n : ℕ) → sumWhere t (λ k. f k + g k) a n ≡ sumWhere t f a n + sumWhere t g a n
+unfolding sumWhere
+where-plus t f g a zero = refl
+where-plus t f g a (suc n) = by-test (t a) (λ e. rw e (omega (arith, where-plus t f g (suc a) n))) λ e. rw e (omega (arith, where-plus t f g (suc a) n))
+
+where-past : (t : ℕ → Bool) (j v a n : ℕ) → j < a → sumWhere t (λ k. cond (eqb j k) v 0) a n ≡ 0
+unfolding sumWhere
+where-past t j v a zero h = refl
+where-past t j v a (suc n) h =
+    rw (ne-eqb j a (λ q. omega arith)) (by-test (t a) (λ e. rw e (omega (arith, where-past t j v (suc a) n (omega arith)))) λ e. rw e (omega (arith, where-past t j v (suc a) n (omega arith))))
+
+pub where-one : (t : ℕ → Bool) (j v a n : ℕ) → a ≤ j → j < a + n → t j ≡ true → sumWhere t (λ k. cond (eqb j k) v 0) a n ≡ v
+unfolding sumWhere
+where-one t j v a zero l u h = absurd (omega arith)
+where-one t j v a (suc n) l u h =
+    by-equal j a
+    (λ e. rw (← e, h, eq-eqb j j refl) (omega (arith, where-past t j v (suc j) n (omega arith))))
+    λ e. rw (ne-eqb j a e) (by-test (t a) (λ q. rw q (omega (arith, where-one t j v (suc a) n (omega arith) (omega arith) h))) λ q. rw q (omega (arith, where-one t j v (suc a) n (omega arith) (omega arith) h)))
+
 or-false : (b : Bool) → (b || false) ≡ b
 or-false true = refl
 or-false false = refl
@@ -182,6 +207,12 @@ pub sum-front : (f : ℕ → ℕ) (n : ℕ) → sumBefore f (suc n) ≡ f 0 + su
 unfolding sumBefore
 sum-front f zero = omega arith
 sum-front f (suc n) = omega (arith, sum-front f n)
+
+-- a sum over a list, by its places
+pub over-places : (f : ℕ → ℕ) (ks : List ℕ) → sumOver f ks ≡ sumBefore (λ i. f (getD ks i 0)) (length ks)
+unfolding sumOver
+over-places f [] = unfold sumBefore in refl
+over-places f (k ∷ ks) = ap (λ (z : ℕ). f k + z) (over-places f ks) ∙ sym (sum-front (λ i. f (getD (k ∷ ks) i 0)) (length ks))
 
 shares-is : (s : Sheet) (ss : List Site) (js : List ℕ) → length js ≡ length ss →
     drops s (tiedOf ss js) ≡ sumBefore (λ i. siteShare s (heightOf s (getD js i 0)) ((getD ss i noSite) .y)) (length ss)

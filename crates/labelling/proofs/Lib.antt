@@ -21,3 +21,4 @@ pub mod Words
 pub mod Tools
 pub mod Twin
 pub mod Strokes
+pub mod Labels

@@ -16,7 +16,7 @@ use Rattle.labelling.specs.Lawful.{RuleSix}
 use Rattle.labelling.specs.Strokes.{Stroke, boneOf, dropOf, isOff, listed, bonesOf, dropsOf, strokesOf, strokesIn, noStroke, strokeFault, sumOf, oneBone, oneDrop, unitsOf, sitesOff, chargesOff, EndsInside, StrokesAddUp}
 use Rattle.labelling.proofs.Distances.{off-none, off-some, share-on, share-off}
 use Rattle.labelling.proofs.Members.{all-at, leastX-width}
-use Rattle.labelling.proofs.Counted.{sumWhere, over-used, length-over, backbones-over, sum-front, sum-plus, drops-counted}
+use Rattle.labelling.proofs.Counted.{sumWhere, where-zero, over-used, length-over, backbones-over, sum-front, sum-plus, drops-counted}
 use Rattle.labelling.proofs.Refusals.{stroke-chain}
 use Rattle.labelling.proofs.Stored.{stored-accepted, stored-layout, stored-lawful}
 use Rattle.labelling.proofs.Words.{formed, formed-long}
@@ -42,11 +42,6 @@ sum-listed : (g : Stroke → ℕ) (t : ℕ → Bool) (f : ℕ → Stroke) (a n :
 unfolding sumOf listed sumWhere
 sum-listed g t f a zero = refl
 sum-listed g t f a (suc n) = by-test (t a) (λ e. rw e (omega (arith, sum-listed g t f (suc a) n))) λ e. rw e (omega (arith, sum-listed g t f (suc a) n))
-
-where-zero : (t : ℕ → Bool) (a n : ℕ) → sumWhere t (λ k. 0) a n ≡ 0
-unfolding sumWhere
-where-zero t a zero = refl
-where-zero t a (suc n) = by-test (t a) (λ e. rw e (omega (arith, where-zero t (suc a) n))) λ e. rw e (omega (arith, where-zero t (suc a) n))
 
 -- by the numbers before one, from the first on
 where-before : (t : ℕ → Bool) (f h : ℕ → ℕ) (a n : ℕ) → ((i : ℕ) → cond (t (a + i)) (f (a + i)) 0 ≡ h i) → sumWhere t f a n ≡ sumBefore h n

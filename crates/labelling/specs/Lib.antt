@@ -7,3 +7,4 @@ pub mod Entry
 pub mod Tools
 pub mod Twin
 pub mod Strokes
+pub mod Labels
