@@ -4,7 +4,7 @@ use mathlib.Core.Bool.{Bool, true, false, true≢false}
 use Prim.Native.Nat.{ℕ, zero, suc, _+_, _-_, _<_, _≤_}
 use native.Mathlib.Nat.{zero-add}
 use native.Mathlib.Omega.{arith}
-use borrow.Author.Tests.{ltb-true, ltb-false}
+use borrow.Author.Tests.{ltb-true, ltb-false, le-ltb}
 use lib.Dec.{ltb}
 use lib.IntN.{ℤ, pos, negsuc, natAbs, _-ℤ_, subℕ}
 use lib.Signed.{mag, ltZ}
@@ -27,6 +27,15 @@ diff-by false h k e = rw e (omega (arith, ltb-false h (suc k) e))
 pub diff-size : (h y : ℕ) → natAbs (pos h -ℤ pos y) ≡ (h - y) + (y - h)
 diff-size h zero = omega arith
 diff-size h (suc k) = diff-by (ltb h (suc k)) h k refl
+
+-- the sign of a difference
+sign-by : (b : Bool) (h k : ℕ) → ltb h (suc k) ≡ b → ltZ (subℕ h (suc k)) (pos 0) ≡ b
+sign-by true h k e = rw e
+sign-by false h k e = rw e (le-ltb (h - suc k) 0 (omega arith))
+
+pub diff-sign : (h y : ℕ) → ltZ (pos h -ℤ pos y) (pos 0) ≡ ltb h y
+diff-sign h zero = let e : h + 0 ≡ h = omega arith in ap (λ (n : ℕ). ltb n 0) e
+diff-sign h (suc k) = sign-by (ltb h (suc k)) h k refl
 
 mag-le : (z : ℤ) → mag z ≤ natAbs z
 mag-le (pos n) = omega arith

@@ -44,7 +44,7 @@ pub fn put_blanks(text: &mut [u8], at: usize, count: usize) -> usize
 }
 
 // The difference, or 0.
-fn less(a: usize, b: usize) -> usize
+pub fn monus(a: usize, b: usize) -> usize
     ensures { λ r. ⌜ r ≡ a - b ⌝ }
 {
     if a < b {
@@ -58,7 +58,7 @@ pub fn put_right(text: &mut [u8], at: usize, columns: usize, bytes: &[u8]) -> us
     ensures { λ r. ⌜ r ≡ pastOf (now (text .entry)) at (rightIn columns (now (bytes .entry))) ⌝ }
     ensures { λ r. ⌜ now (text .exit) ≡ written (now (text .entry)) at (rightIn columns (now (bytes .entry))) ⌝ }
 {
-    let past = put_blanks(text, at, less(columns, bytes.len()));
+    let past = put_blanks(text, at, monus(columns, bytes.len()));
     put_bytes(text, past, bytes)
 }
 
@@ -75,7 +75,7 @@ pub fn put_number(text: &mut [u8], at: usize, columns: usize, before: &[u8], n: 
     ensures { λ r. ⌜ r ≡ pastOf (now (text .entry)) at (rightIn columns (now (before .entry) ++ decimal n)) ⌝ }
     ensures { λ r. ⌜ now (text .exit) ≡ written (now (text .entry)) at (rightIn columns (now (before .entry) ++ decimal n)) ⌝ }
 {
-    let rest = less(columns, 1);
+    let rest = monus(columns, 1);
     if n < 10 {
         let past = put_right(text, at, rest, before);
         return put_byte(text, past, last_digit(n));

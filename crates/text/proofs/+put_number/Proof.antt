@@ -8,7 +8,7 @@ use Rattle.text.proofs.put_number.Reads as put-number
 use Rattle.text.proofs.put_number.Kinds as put-number-kinds
 use Rattle.text.proofs.+put_number.Lts-put_number as put-number-lts
 use Rattle.text.proofs.last_digit.Reads as last-digit-reads
-use Rattle.text.proofs.less.Reads as less-reads
+use Rattle.text.proofs.monus.Reads as monus-reads
 use Rattle.text.proofs.put_byte.Reads as put-byte-reads
 use Rattle.text.proofs.put_right.Reads as put-right-reads
 use Rattle.text.proofs.+put_number.{statement}
@@ -25,9 +25,9 @@ abbrev put-number-below : ℕ → In 2 put-number-kinds.ps
 put-number-below t =
     and 2 put-number-kinds.ps (falls 2 put-number-kinds.ps _<_ μ-put-number t) put-number.Pre
 
-put-number-less-requires : (t : ℕ) → put-number-lts.Need-less-requires (
-  less-reads.Asked,
-  less-reads.Learnt,
+put-number-monus-requires : (t : ℕ) → put-number-lts.Need-monus-requires (
+  monus-reads.Asked,
+  monus-reads.Learnt,
   put-right-reads.Asked,
   put-right-reads.Learnt,
   last-digit-reads.Asked,
@@ -37,11 +37,11 @@ put-number-less-requires : (t : ℕ) → put-number-lts.Need-less-requires (
   put-number-below t,
   put-number.Post,
 ) (put-number-at t) put-number.Post
-put-number-less-requires t c κs = search needs
+put-number-monus-requires t c κs = search needs
 
 put-number-put-right-requires : (t : ℕ) → put-number-lts.Need-put-right-requires (
-  less-reads.Asked,
-  less-reads.Learnt,
+  monus-reads.Asked,
+  monus-reads.Learnt,
   put-right-reads.Asked,
   put-right-reads.Learnt,
   last-digit-reads.Asked,
@@ -54,8 +54,8 @@ put-number-put-right-requires : (t : ℕ) → put-number-lts.Need-put-right-requ
 put-number-put-right-requires t c κs = search needs
 
 put-number-last-digit-requires : (t : ℕ) → put-number-lts.Need-last-digit-requires (
-  less-reads.Asked,
-  less-reads.Learnt,
+  monus-reads.Asked,
+  monus-reads.Learnt,
   put-right-reads.Asked,
   put-right-reads.Learnt,
   last-digit-reads.Asked,
@@ -68,8 +68,8 @@ put-number-last-digit-requires : (t : ℕ) → put-number-lts.Need-last-digit-re
 put-number-last-digit-requires t c κs = search needs
 
 put-number-put-byte-requires : (t : ℕ) → put-number-lts.Need-put-byte-requires (
-  less-reads.Asked,
-  less-reads.Learnt,
+  monus-reads.Asked,
+  monus-reads.Learnt,
   put-right-reads.Asked,
   put-right-reads.Learnt,
   last-digit-reads.Asked,
@@ -82,8 +82,8 @@ put-number-put-byte-requires : (t : ℕ) → put-number-lts.Need-put-byte-requir
 put-number-put-byte-requires t c κs = search needs
 
 put-number-same-length : (t : ℕ) → put-number-lts.Need-same-length (
-  less-reads.Asked,
-  less-reads.Learnt,
+  monus-reads.Asked,
+  monus-reads.Learnt,
   put-right-reads.Asked,
   put-right-reads.Learnt,
   last-digit-reads.Asked,
@@ -96,8 +96,8 @@ put-number-same-length : (t : ℕ) → put-number-lts.Need-same-length (
 put-number-same-length t c = search needs
 
 put-number-returns : (t : ℕ) → put-number-lts.Need-returns (
-  less-reads.Asked,
-  less-reads.Learnt,
+  monus-reads.Asked,
+  monus-reads.Learnt,
   put-right-reads.Asked,
   put-right-reads.Learnt,
   last-digit-reads.Asked,
@@ -109,11 +109,11 @@ put-number-returns : (t : ℕ) → put-number-lts.Need-returns (
 ) (put-number-at t) put-number.Post
 put-number-returns t c =
     let a = c .before .before .before .before .before .before .before .before .before .before .before .before .before .args in
-    number-one (a .text .now) (a .at) (a .columns) (a .before .now) (a .n) (c .before .before .before .before .before .before .before .before .before .if1 .taken) (rw (c .before .before .before .before .before .before .before .before .before .before .less .ensures) at (c .before .before .before .before .before .before .before .put-right .ensures)) (rw (c .before .before .before .last-digit .ensures) at (c .before .before .put-byte .ensures))
+    number-one (a .text .now) (a .at) (a .columns) (a .before .now) (a .n) (c .before .before .before .before .before .before .before .before .before .if1 .taken) (rw (c .before .before .before .before .before .before .before .before .before .before .monus .ensures) at (c .before .before .before .before .before .before .before .put-right .ensures)) (rw (c .before .before .before .last-digit .ensures) at (c .before .before .put-byte .ensures))
 
 put-number-put-number-requires : (t : ℕ) → put-number-lts.Need-put-number-requires (
-  less-reads.Asked,
-  less-reads.Learnt,
+  monus-reads.Asked,
+  monus-reads.Learnt,
   put-right-reads.Asked,
   put-right-reads.Learnt,
   last-digit-reads.Asked,
@@ -126,8 +126,8 @@ put-number-put-number-requires : (t : ℕ) → put-number-lts.Need-put-number-re
 put-number-put-number-requires t c κs = search needs
 
 put-number-last-digit-requires-2 : (t : ℕ) → put-number-lts.Need-last-digit-requires-2 (
-  less-reads.Asked,
-  less-reads.Learnt,
+  monus-reads.Asked,
+  monus-reads.Learnt,
   put-right-reads.Asked,
   put-right-reads.Learnt,
   last-digit-reads.Asked,
@@ -140,8 +140,8 @@ put-number-last-digit-requires-2 : (t : ℕ) → put-number-lts.Need-last-digit-
 put-number-last-digit-requires-2 t c κs = search needs
 
 put-number-put-byte-requires-2 : (t : ℕ) → put-number-lts.Need-put-byte-requires-2 (
-  less-reads.Asked,
-  less-reads.Learnt,
+  monus-reads.Asked,
+  monus-reads.Learnt,
   put-right-reads.Asked,
   put-right-reads.Learnt,
   last-digit-reads.Asked,
@@ -154,8 +154,8 @@ put-number-put-byte-requires-2 : (t : ℕ) → put-number-lts.Need-put-byte-requ
 put-number-put-byte-requires-2 t c κs = search needs
 
 put-number-same-length-2 : (t : ℕ) → put-number-lts.Need-same-length-2 (
-  less-reads.Asked,
-  less-reads.Learnt,
+  monus-reads.Asked,
+  monus-reads.Learnt,
   put-right-reads.Asked,
   put-right-reads.Learnt,
   last-digit-reads.Asked,
@@ -168,8 +168,8 @@ put-number-same-length-2 : (t : ℕ) → put-number-lts.Need-same-length-2 (
 put-number-same-length-2 t c = search needs
 
 put-number-returns-2 : (t : ℕ) → put-number-lts.Need-returns-2 (
-  less-reads.Asked,
-  less-reads.Learnt,
+  monus-reads.Asked,
+  monus-reads.Learnt,
   put-right-reads.Asked,
   put-right-reads.Learnt,
   last-digit-reads.Asked,
@@ -181,12 +181,12 @@ put-number-returns-2 : (t : ℕ) → put-number-lts.Need-returns-2 (
 ) (put-number-at t) put-number.Post
 put-number-returns-2 t c =
     let a = c .before .before .before .before .before .before .before .before .before .before .before .before .before .args in
-    number-more (a .text .now) (a .at) (a .columns) (a .before .now) (a .n) (c .before .before .before .before .before .before .before .before .before .if1 .left) (rw (c .before .before .before .before .before .before .before .before .before .before .less .ensures) at (c .before .before .before .before .before .before .before .put-number .ensures)) (rw (c .before .before .before .last-digit2 .ensures) at (c .before .before .put-byte2 .ensures))
+    number-more (a .text .now) (a .at) (a .columns) (a .before .now) (a .n) (c .before .before .before .before .before .before .before .before .before .if1 .left) (rw (c .before .before .before .before .before .before .before .before .before .before .monus .ensures) at (c .before .before .before .before .before .before .before .put-number .ensures)) (rw (c .before .before .before .last-digit2 .ensures) at (c .before .before .put-byte2 .ensures))
 
 pub +put-number-spec : {M : Type 1} → statement M
 +put-number-spec = close μ-put-number λ t. put-number-lts.spec (
-  less-reads.Asked,
-  less-reads.Learnt,
+  monus-reads.Asked,
+  monus-reads.Learnt,
   put-right-reads.Asked,
   put-right-reads.Learnt,
   last-digit-reads.Asked,
@@ -198,7 +198,7 @@ pub +put-number-spec : {M : Type 1} → statement M
 )
     (put-number-at t)
     put-number.Post
-    (put-number-less-requires t)
+    (put-number-monus-requires t)
     (put-number-put-right-requires t)
     (put-number-last-digit-requires t)
     (put-number-put-byte-requires t)

@@ -4,8 +4,8 @@ use borrow.Author.Needs.{needs}
 use Rattle.text.proofs.put_right.Statement.{statement}
 use Rattle.text.proofs.put_right.Tie as tie
 
-less-requires : tie.Need-less-requires
-less-requires c κs = search needs
+monus-requires : tie.Need-monus-requires
+monus-requires c κs = search needs
 
 put-blanks-requires : tie.Need-put-blanks-requires
 put-blanks-requires c κs = search needs
@@ -19,8 +19,8 @@ same-length c = search needs
 returns : tie.Need-returns
 returns c =
     let a = c .before .before .before .before .before .before .before .before .before .before .before .args in
-    right-put (a .text .now) (a .at) (a .columns) (a .bytes .now) (rw (c .before .before .before .before .before .before .before .less .ensures) at (c .before .before .before .before .before .before .put-blanks .ensures)) (c .before .before .put-bytes .ensures)
+    right-put (a .text .now) (a .at) (a .columns) (a .bytes .now) (rw (c .before .before .before .before .before .before .before .monus .ensures) at (c .before .before .before .before .before .before .put-blanks .ensures)) (c .before .before .put-bytes .ensures)
 
 pub put-right-spec : {M : Type 1} → statement M
 put-right-spec =
-    tie.close (tie.spec less-requires put-blanks-requires put-bytes-requires same-length returns)
+    tie.close (tie.spec monus-requires put-blanks-requires put-bytes-requires same-length returns)
