@@ -24,7 +24,7 @@ use Rattle.strokes.specs.declared.seeking.Sought.{Sought}
 use Rattle.strokes.specs.Seeking.{countBy, isListed, Listing, soughtIn, soughtOn}
 use Rattle.strokes.specs.Strokes.{strokeOn}
 use Rattle.strokes.proofs.Drawn.{on-past, on-given}
-use Rattle.strokes.proofs.Read.{decoded-read, slots-long, sites-long, body-long}
+use Rattle.layouts.proofs.Read.{decoded-read, slots-long, sites-long, body-long}
 use Rattle.strokes.proofs.Sought.{Placed, placed}
 
 -- WHAT IS SOUGHT on a sheet's numbers and a layout of it

@@ -3,7 +3,7 @@ use borrow.Author.Needs.{needs}
 use Rattle.labelling.specs.Layout.{layoutTies}
 use Rattle.decoding.specs.Decoding.{sheetBy}
 use Rattle.decoding.proofs.Fronts.{few}
-use Rattle.strokes.proofs.Read.{slots-long, sites-long}
+use Rattle.layouts.proofs.Read.{slots-long, sites-long}
 use Rattle.strokes.proofs.Placed.{bone-low, bone-found, drop-low, drop-found, none-found}
 use Rattle.strokes.proofs.stroke_on.Statement.{statement}
 use Rattle.strokes.proofs.stroke_on.Tie as tie

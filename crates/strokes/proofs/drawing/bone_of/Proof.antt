@@ -3,7 +3,8 @@ use borrow.Author.Needs.{needs}
 use Rattle.lists.proofs.Places.{part-from}
 use Rattle.labelling.specs.Layout.{tiesAt}
 use Rattle.layouts.proofs.Fitting.{some-read, fits-read}
-use Rattle.strokes.proofs.Read.{left-found, left-low, width-low, height-low, bone-is}
+use Rattle.layouts.proofs.Read.{left-found}
+use Rattle.strokes.proofs.Read.{left-low, width-low, height-low, bone-is}
 use Rattle.strokes.proofs.drawing.bone_of.Statement.{statement}
 use Rattle.strokes.proofs.drawing.bone_of.Tie as tie
 

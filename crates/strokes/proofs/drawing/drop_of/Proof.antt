@@ -5,7 +5,8 @@ use borrow.Author.Needs.{needs}
 use Rattle.lists.proofs.Places.{part-from}
 use Rattle.labelling.specs.Layout.{tiesAt}
 use Rattle.layouts.proofs.Fitting.{some-read}
-use Rattle.strokes.proofs.Read.{body-long, sites-long, sites-few, x-low, y-low, height-low, drop-is}
+use Rattle.layouts.proofs.Read.{body-long, sites-long, sites-few}
+use Rattle.strokes.proofs.Read.{x-low, y-low, height-low, drop-is}
 use Rattle.strokes.proofs.drawing.drop_of.Statement.{statement}
 use Rattle.strokes.proofs.drawing.drop_of.Tie as tie
 
