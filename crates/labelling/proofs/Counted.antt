@@ -4,7 +4,7 @@
 use mathlib.Core.Path.{_≡_, refl, sym, _∙_, ap, ap₂, subst, fun-ext}
 use mathlib.Core.Bool.{Bool, true, false, _&&_, _||_, false≢true, cond}
 use mathlib.Core.List.{List, [], _∷_}
-use Prim.Native.Nat.{ℕ, zero, suc, _+_, _-_, _≤_, _<_}
+use Prim.Native.Nat.{ℕ, zero, suc, _+_, _*_, _-_, _≤_, _<_}
 use native.Mathlib.Omega.{arith}
 use lib.Dec.{ltb, eqb}
 use lib.ListN.{length, getD}
@@ -213,6 +213,18 @@ pub over-places : (f : ℕ → ℕ) (ks : List ℕ) → sumOver f ks ≡ sumBefo
 unfolding sumOver
 over-places f [] = unfold sumBefore in refl
 over-places f (k ∷ ks) = ap (λ (z : ℕ). f k + z) (over-places f ks) ∙ sym (sum-front (λ i. f (getD (k ∷ ks) i 0)) (length ks))
+
+-- the same where each is
+pub sum-same : (f g : ℕ → ℕ) (n : ℕ) → ((i : ℕ) → i < n → f i ≡ g i) → sumBefore f n ≡ sumBefore g n
+unfolding sumBefore
+sum-same f g zero h = refl
+sum-same f g (suc n) h = ap₂ _+_ (sum-same f g n λ i l. h i (omega arith)) (h n (omega arith))
+
+-- each at most a number
+pub sum-le : (f : ℕ → ℕ) (m : ℕ) → ((i : ℕ) → f i ≤ m) → (n : ℕ) → sumBefore f n ≤ n * m
+unfolding sumBefore
+sum-le f m h zero = omega arith
+sum-le f m h (suc n) = omega (arith, sum-le f m h n, h n)
 
 shares-is : (s : Sheet) (ss : List Site) (js : List ℕ) → length js ≡ length ss →
     drops s (tiedOf ss js) ≡ sumBefore (λ i. siteShare s (heightOf s (getD js i 0)) ((getD ss i noSite) .y)) (length ss)

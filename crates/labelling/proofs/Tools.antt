@@ -13,15 +13,15 @@ use Rattle.labelling.proofs.Stored.{stored-judge, stored-unlawful, stor
 
 -- THE REFUSAL
 module _ (ws : List ℕ) (size lent : ℕ) where
-  stored-refused : (storedFault ws ≡ 0 → ⊥) → toolFault ws size lent ≡ storedFault ws
-  stored-refused n = tool-chain ws size lent ∙ rw (ne-eqb (storedFault ws) 0 n) refl
+  pub fault-stored : (storedFault ws ≡ 0 → ⊥) → toolFault ws size lent ≡ storedFault ws
+  fault-stored n = tool-chain ws size lent ∙ rw (ne-eqb (storedFault ws) 0 n) refl
 
   pub fault-judge : (judgeFault ws ≡ 0 → ⊥) → toolFault ws size lent ≡ judgeFault ws
-  fault-judge n = stored-refused (λ z. n (stored-judged ws z)) ∙ stored-judge ws n
+  fault-judge n = fault-stored (λ z. n (stored-judged ws z)) ∙ stored-judge ws n
 
   module _ (h : judgeFault ws ≡ 0) where
     pub fault-unlawful : (judged ws ≡ 0 → ⊥) → toolFault ws size lent ≡ 13
-    fault-unlawful n = stored-refused (λ z. n (stored-verdict ws z)) ∙ stored-unlawful ws h n
+    fault-unlawful n = fault-stored (λ z. n (stored-verdict ws z)) ∙ stored-unlawful ws h n
 
     pub fault-short : judged ws ≡ 0 → lent < size → toolFault ws size lent ≡ 9
     fault-short v l = tool-chain ws size lent ∙ rw (eq-eqb (storedFault ws) 0 (stored-none ws h v), lt-leb size lent l) refl

@@ -10,7 +10,7 @@ use lib.ListN.{length, getD}
 use borrow.Author.Tests.{ltb-true, eqb-true, eqb-false, lt-ltb, eq-eqb}
 use Rattle.sheet.specs.Limits.{mostSlots, mostSites, wordTop, numberTop, mostNumber, mostShare, byteTop, lengthTop, countTop}
 use Rattle.sheet.specs.Sheet.{all, kindOf, bits, Site, Sheet}
-use Rattle.labelling.specs.Layout.{tiedOf, tied, heightOf, isUsed, usedFrom, usedOf, leftEnd, countOf, backbones, drops, lengthOf, brokenIn, tieWord, tieWords, firstWord, layoutWords, statedCount, statedLength, tiesIn, isTie, isLayout, brokenBy, isLawful, answerOf, layoutBody, layoutTies, wordsFor}
+use Rattle.labelling.specs.Layout.{noSite, tiedOf, tied, heightOf, isUsed, usedFrom, usedOf, leftEnd, countOf, backbones, drops, lengthOf, brokenIn, tieWord, tieWords, firstWord, layoutWords, statedCount, statedLength, tiesIn, isTie, isLayout, brokenBy, isLawful, answerOf, layoutBody, layoutTies, wordsFor}
 use Rattle.labelling.specs.Promise.{areWords, same}
 use Rattle.lists.proofs.Tests.{by-test, and-l, and-r, and-i, eqb-self}
 use Rattle.sheet.proofs.Accepted.{Sound, lowY, lowN}
@@ -37,6 +37,12 @@ unfolding all
 height-low [] k h = omega arith
 height-low (x ∷ hs) zero h = ltb-true x numberTop (and-l (lowN x) (all lowN hs) h)
 height-low (x ∷ hs) (suc k) h = height-low hs k (and-r (lowN x) (all lowN hs) h)
+
+pub y-low : (ss : List Site) (i : ℕ) → all lowY ss ≡ true → (getD ss i noSite) .y < numberTop
+unfolding all
+y-low [] i h = omega arith
+y-low (s ∷ ss) zero h = ltb-true (s .y) numberTop (and-l (lowY s) (all lowY ss) h)
+y-low (s ∷ ss) (suc i) h = y-low ss i (and-r (lowY s) (all lowY ss) h)
 
 drops-le : (s : Sheet) (ss : List Site) (js : List ℕ) → s .charge < numberTop → all lowN (s .slots) ≡ true → all lowY ss ≡ true →
     drops s (tiedOf ss js) ≤ length ss * mostShare

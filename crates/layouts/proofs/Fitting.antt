@@ -13,19 +13,13 @@ use Rattle.sheet.specs.Limits.{mostSlots, mostSites, numberTop}
 use Rattle.sheet.specs.Sheet.{all, Site, Sheet, sheetIn, sheetFault}
 use Rattle.sheet.proofs.Accepted.{sound, lowY}
 use Rattle.labelling.specs.Layout.{noSite, tiesAt, layoutBody, isLayout}
-use Rattle.labelling.proofs.Words.{height-low, formed}
+use Rattle.labelling.proofs.Words.{height-low, y-low, formed}
 use Rattle.decoding.specs.Decoding.{headBy, xsOf, ysOf, coloursOf, LayoutRead}
 use Rattle.decoding.specs.declared.Numbers.{Numbers}
 use Rattle.decoding.proofs.Fields.{xs-long, ys-long, colours-long}
 use Rattle.decoding.proofs.Places.{ys-at}
 use Rattle.words.specs.declared.tied.Head.{Head}
 use Rattle.layouts.specs.Model.{Fits, Low}
-
-y-low : (ss : List Site) (i : ℕ) → all lowY ss ≡ true → (getD ss i noSite) .y < numberTop
-unfolding all
-y-low [] i h = omega arith
-y-low (s ∷ ss) zero h = ltb-true (s .y) numberTop (and-l (lowY s) (all lowY ss) h)
-y-low (s ∷ ss) (suc i) h = y-low ss i (and-r (lowY s) (all lowY ss) h)
 
 module _ (ss ls : List ℕ) (ok : sheetFault ss ≡ 0) (form : isLayout (sheetIn ss) ls ≡ true) where
   abbrev s : Sheet

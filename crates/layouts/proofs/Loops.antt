@@ -46,11 +46,6 @@ sum-more f i n t e q = rw (add-one i, e, q) refl
 pub sum-end : (f : ℕ → ℕ) (n i t : ℕ) → i ≤ n → n ≤ i → t ≡ sumBefore f i → t ≡ sumBefore f n
 sum-end f n i t l m h = let e : i ≡ n = omega arith in h ∙ ap (sumBefore f) e
 
-pub sum-le : (f : ℕ → ℕ) (m : ℕ) → ((i : ℕ) → f i ≤ m) → (n : ℕ) → sumBefore f n ≤ n * m
-unfolding sumBefore
-sum-le f m h zero = omega arith
-sum-le f m h (suc n) = omega (arith, sum-le f m h n, h n)
-
 pub one-le : (b : Bool) → oneIf b ≤ 1
 one-le true = omega arith
 one-le false = omega arith

@@ -40,6 +40,9 @@ module _ {d : Numbers} {ls : List ℕ} (p : LayoutRead d ls) where
   pub body-long : length (layoutBody ls) ≡ length (s .sites)
   body-long = long (p .read .words) ls (p .read .accepted) (p .form) ∙ sym (ap (λ (z : Sheet). length (z .sites)) sheet-is)
 
+  pub body-sites : (ts : List ℕ) → ts ≡ layoutBody ls → length ts ≡ d .sites
+  body-sites ts e = ap length e ∙ body-long ∙ sym sites-long
+
   pub ties-long : length (layoutTies ls) ≡ length (s .sites)
   ties-long = length-tiesIn (layoutBody ls) ∙ body-long
 

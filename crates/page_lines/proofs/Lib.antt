@@ -1,2 +1,4 @@
 mod Fields
 mod Signs
+pub mod Reading
+pub mod EachLine

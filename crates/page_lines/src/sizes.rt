@@ -1,6 +1,7 @@
 // How many bytes a page has, and a label's own length.
 ghost use mathlib.Core.Path.{_≡_};
-ghost use Prim.Native.Nat.{_+_, _≤_, _<_};
+ghost use Prim.Native.Nat.{_+_, _<_};
+ghost use Rattle.sheet.specs.Limits.{topWord};
 ghost use Rattle.page_lines.specs.Lines.{bytesFor, ownLength};
 use words::monus;
 
@@ -9,7 +10,7 @@ const LINE_BYTES: usize = 41;
 
 // A page has a line for each label and each site, and the last.
 pub fn bytes_for(labels: usize, sites: usize) -> usize
-    requires { ⌜ (labels < 65536) × (sites < 65536) ⌝ }
+    requires { ⌜ (labels < topWord) × (sites < topWord) ⌝ }
     ensures { λ r. ⌜ r ≡ bytesFor labels sites ⌝ }
 {
     LINE_BYTES * (labels + sites + 1)
@@ -17,7 +18,7 @@ pub fn bytes_for(labels: usize, sites: usize) -> usize
 
 // Its backbone's length, from its left end to the width, and its sites' shares.
 pub fn own_length(width: u32, left: u32, shares: u32) -> u32
-    requires { ⌜ width + shares < 4294967296 ⌝ }
+    requires { ⌜ width + shares < topWord ⌝ }
     ensures { λ r. ⌜ r ≡ ownLength width left shares ⌝ }
 {
     monus(width, left) + shares

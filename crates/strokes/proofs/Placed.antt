@@ -24,7 +24,7 @@ use Rattle.strokes.specs.declared.seeking.Sought.{Sought}
 use Rattle.strokes.specs.Seeking.{countBy, isListed, Listing, soughtIn, soughtOn}
 use Rattle.strokes.specs.Strokes.{strokeOn}
 use Rattle.strokes.proofs.Drawn.{on-past, on-given}
-use Rattle.layouts.proofs.Read.{decoded-read, slots-long, sites-long, body-long}
+use Rattle.layouts.proofs.Read.{decoded-read, slots-long, sites-long, body-sites}
 use Rattle.strokes.proofs.Sought.{Placed, placed}
 
 -- WHAT IS SOUGHT on a sheet's numbers and a layout of it
@@ -49,9 +49,6 @@ module _ {d : Numbers} {ls : List ℕ} (p : LayoutRead d ls) {ts : List ℕ} (e 
   isDrops Bones = false
   isDrops Drops = true
 
-  ties-are : length ts ≡ d .sites
-  ties-are = ap length e ∙ body-long p ∙ sym (sites-long p)
-
   pub listing : (sort : Listed) {n : ℕ} → n ≡ countBy sort (d .slots) (d .sites) → Listing sort (d .ys) (d .colours) ts n
   listing sort h = record { ys-long = fits-read p ts e .ys-long; colours-long = fits-read p ts e .colours-long; few = few-so sort h; have-ties = have sort h }
     where
@@ -61,7 +58,7 @@ module _ {d : Numbers} {ls : List ℕ} (p : LayoutRead d ls) {ts : List ℕ} (e 
 
       have : (sort : Listed) {n : ℕ} → n ≡ countBy sort (d .slots) (d .sites) → sort ≡ Drops → n ≤ length ts
       have Bones h q = absurd (false≢true (ap isDrops q))
-      have Drops h q = omega (arith, ties-are)
+      have Drops h q = omega (arith, body-sites p ts e)
 
 -- THE STROKE
 module _ (s : Sheet) (js : List ℕ) (p : ℕ) {r : Sought} (q : r ≡ soughtOn Bones s js p) where

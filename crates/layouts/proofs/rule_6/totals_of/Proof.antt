@@ -8,7 +8,8 @@ use Rattle.labelling.specs.Layout.{tiesIn}
 use Rattle.labelling.specs.Counted.{sumBefore, isFirst}
 use Rattle.layouts.specs.declared.labels.Among.the-variants.{All}
 use Rattle.layouts.specs.Model.{oneIf, amongBy, lengthBy, lengthAt, mostAdded}
-use Rattle.layouts.proofs.Loops.{sum-none, sum-more, sum-end, sum-le, one-le, length-le}
+use Rattle.labelling.proofs.Counted.{sum-le}
+use Rattle.layouts.proofs.Loops.{sum-none, sum-more, sum-end, one-le, length-le}
 use Rattle.layouts.proofs.rule_6.totals_of.Statement.{statement}
 use Rattle.layouts.proofs.rule_6.totals_of.Tie as tie
 

@@ -1,0 +1,6 @@
+mod Counting
+mod Texts
+mod Numbered
+mod Joined
+pub mod Promise
+mod Writing
