@@ -1,5 +1,5 @@
-// The C interface: reader, judge, layout maker, twin tool and strokes. Their structs are laid out as C has them.
-// Each contract has the call's equations, and then what demands 1, 2 and 3, or the promises about the twin and the strokes, conclude of it
+// The C interface: reader, judge, layout maker, twin tool, page and strokes. Their structs are laid out as C has them.
+// Each contract has the call's equations, and then what demands 1, 2 and 3, or the promises about the twin, the page and the strokes, conclude of it
 // (demands/specs/Demands).
 ghost use mathlib.Core.Path.{_≡_};
 ghost use Rattle.reader.specs.Read.{readPost};
@@ -7,9 +7,10 @@ ghost use Rattle.judge.specs.Judge.{judgePost};
 ghost use Rattle.labelling.specs.Entry.{makeFault, makeAnswer, makeWork};
 ghost use Rattle.labelling.specs.Twin.{twinArea};
 ghost use Rattle.twin.specs.Twin.{twinPost};
+ghost use Rattle.page.specs.Page.{pagePost, pageArea};
 ghost use Rattle.points.specs.Strokes.{flatOf};
 ghost use Rattle.strokes.specs.Strokes.{strokePost};
-ghost use Rattle.demands.specs.Demands.{ServedByReader, ServedByJudge, TrueVerdict, Served, ContentsApart, BestOfLawful, ServedByTwin, ServedByStrokes};
+ghost use Rattle.demands.specs.Demands.{ServedByReader, ServedByJudge, TrueVerdict, Served, ContentsApart, BestOfLawful, ServedByTwin, ServedByPage, ServedByStrokes};
 use faults::written::Written;
 use judge::Verdict;
 use points::flat::FlatStroke;
@@ -54,6 +55,16 @@ pub extern "C" fn backbone_twin(stored: &[u32], out: &mut [u32]) -> Written
     ensures { λ r. ⌜ ServedByTwin (now (stored .entry)) (now (out .entry)) r (now (out .exit)) ⌝ }
 {
     twin::make_twin(stored, out)
+}
+
+#[no_mangle]
+pub extern "C" fn backbone_page(stored: &[u32], page: &mut [u8]) -> Written
+    ensures { λ r. ⌜ r ≡ pagePost (now (stored .entry)) (now (page .entry)) ⌝ }
+    ensures { λ _. ⌜ now (page .exit) ≡ pageArea (now (stored .entry)) (now (page .entry)) ⌝ }
+    ensures { λ _. ⌜ now (stored .exit) ≡ now (stored .entry) ⌝ }
+    ensures { λ r. ⌜ ServedByPage (now (stored .entry)) (now (page .entry)) r (now (page .exit)) ⌝ }
+{
+    page::write_page(stored, page)
 }
 
 #[no_mangle]

@@ -1,8 +1,8 @@
 -- THE THREE DEMANDS, each as one statement about any call that meets the contract of the reader, the layout maker or the judge; and
--- beside them what is promised of the twin tool's and of a stroke's.
+-- beside them what is promised of the twin tool's, of a page's and of a stroke's.
 -- What a demand concludes of one call is a record; the contracts of the C interface (crate cabi) state these records of their calls.
--- ws: the sheet's words (the stored sheet's, for the judge, the twin and a stroke), ws' after the call; k, o: work and answer area, k', o'
--- after it; i: a stroke's place; r: what it returns.
+-- ws: the sheet's words (the stored sheet's, for the judge, the twin, the page and a stroke), ws' after the call; k, o: work and answer area
+-- (o: the page's bytes), k', o' after it; i: a stroke's place; r: what it returns.
 -- Assumes nothing: these are definitions; the proofs stand in proofs/Demands.
 use mathlib.Core.Path.{_≡_}
 use mathlib.Core.Logic.{_⊎_, _↔_}
@@ -23,6 +23,8 @@ use Rattle.judge.specs.declared.Verdict.{Verdict}
 use Rattle.judge.specs.Judge.{judgePost}
 use Rattle.faults.specs.declared.written.Written.{Written}
 use Rattle.twin.specs.Twin.{twinPost}
+use Rattle.page.specs.Page.{pageSize, pagePost, pageArea}
+use Rattle.page.specs.Promise.{PageOf, PagesAddUp, ColoursShared}
 use Rattle.points.specs.declared.flat.FlatStroke.{FlatStroke}
 use Rattle.points.specs.Points.{PointsExact}
 use Rattle.points.specs.Strokes.{flatRefusal, flatOf, IsStroke}
@@ -40,6 +42,9 @@ WasJudged ws r ws' = (r ≡ judgePost ws) × (ws' ≡ ws)
 
 abbrev pub WasTwinned : (ws o : List ℕ) → Written → (o' : List ℕ) → Type 0
 WasTwinned ws o r o' = (r ≡ twinPost ws o) × (o' ≡ twinArea ws o)
+
+abbrev pub WasPaged : (ws o : List ℕ) → Written → (o' : List ℕ) → Type 0
+WasPaged ws o r o' = (r ≡ pagePost ws o) × (o' ≡ pageArea ws o)
 
 abbrev pub WasDrawn : (ws : List ℕ) → (i : ℕ) → FlatStroke → (ws' : List ℕ) → Type 0
 WasDrawn ws i r ws' = (r ≡ flatOf (strokePost ws i)) × (ws' ≡ ws)
@@ -167,6 +172,16 @@ pub record TwinPromised : Type 0 where
   pub served : (ws o : List ℕ) (r : Written) (o' : List ℕ) → WasTwinned ws o r o' → ServedByTwin ws o r o'
   pub again : TwinOfTwin
   pub best : BestNotWorse
+
+-- THE PAGE (document 02, (d)): 41 bytes a line, and what a reader finds on it is true
+abbrev pub ServedByPage : (ws o : List ℕ) → Written → (o' : List ℕ) → Type 0
+ServedByPage ws o r o' = ServedByTool ws (pageSize ws) (PageOf ws) o r o'
+
+-- of every call; and the colour on a label's line is that of all its sites
+pub record PagePromised : Type 0 where
+  pub served : (ws o : List ℕ) (r : Written) (o' : List ℕ) → WasPaged ws o r o' → ServedByPage ws o r o'
+  pub add-up : PagesAddUp
+  pub colours : ColoursShared
 
 -- A STROKE (document 02, (a)), of one call for that of a place, by its outcome: 1 to 7 or 11 as the judge; 13, the layout isn't lawful; 14, the
 -- place is past the last stroke; zeros stand beside each. Or the stroke of that place, each float exactly an eighth of its whole number. It

@@ -13,6 +13,69 @@ use text::put_bytes;
 use words::drops::drop_of;
 use words::drops::magnitude;
 
+// The columns of a label's line.
+const SLOT: Columns = Columns {
+    after: 0,
+    from: 1,
+    to: 3,
+};
+
+const COLOUR: Columns = Columns {
+    after: 3,
+    from: 5,
+    to: 6,
+};
+
+const SITES: Columns = Columns {
+    after: 6,
+    from: 8,
+    to: 9,
+};
+
+const HEIGHT: Columns = Columns {
+    after: 9,
+    from: 11,
+    to: 18,
+};
+
+const LENGTH: Columns = Columns {
+    after: 18,
+    from: 20,
+    to: 27,
+};
+
+// Those of a site's, after its six bytes.
+const SITE: Columns = Columns {
+    after: 6,
+    from: 8,
+    to: 10,
+};
+
+const TIE: Columns = Columns {
+    after: 10,
+    from: 12,
+    to: 14,
+};
+
+const DROP: Columns = Columns {
+    after: 14,
+    from: 16,
+    to: 23,
+};
+
+// Those of the last, after its five bytes.
+const COUNT: Columns = Columns {
+    after: 5,
+    from: 8,
+    to: 10,
+};
+
+const TOTAL: Columns = Columns {
+    after: 10,
+    from: 20,
+    to: 27,
+};
+
 // A label's numbers, in the order of its line.
 pub struct Label {
     pub slot: u32,
@@ -26,57 +89,12 @@ pub fn put_slot_line(text: &mut [u8], at: usize, label: Label) -> usize
     ensures { λ r. ⌜ r ≡ pastOf (now (text .entry)) at (slotLine (label .slot) (label .colour) (label .sites) (label .height) (label .length)) ⌝ }
     ensures { λ r. ⌜ now (text .exit) ≡ written (now (text .entry)) at (slotLine (label .slot) (label .colour) (label .sites) (label .height) (label .length)) ⌝ }
 {
-    let mut past = put_plain(
-        text,
-        at,
-        Columns {
-            after: 0,
-            from: 1,
-            to: 3,
-        },
-        label.slot as u64,
-    );
-    past = put_plain(
-        text,
-        past,
-        Columns {
-            after: 3,
-            from: 5,
-            to: 6,
-        },
-        label.colour as u64,
-    );
-    past = put_plain(
-        text,
-        past,
-        Columns {
-            after: 6,
-            from: 8,
-            to: 9,
-        },
-        label.sites as u64,
-    );
-    past = put_plain(
-        text,
-        past,
-        Columns {
-            after: 9,
-            from: 11,
-            to: 18,
-        },
-        label.height as u64,
-    );
-    past = put_plain(
-        text,
-        past,
-        Columns {
-            after: 18,
-            from: 20,
-            to: 27,
-        },
-        label.length as u64,
-    );
-    put_end(text, past, 27)
+    let mut past = put_plain(text, at, SLOT, label.slot as u64);
+    past = put_plain(text, past, COLOUR, label.colour as u64);
+    past = put_plain(text, past, SITES, label.sites as u64);
+    past = put_plain(text, past, HEIGHT, label.height as u64);
+    past = put_plain(text, past, LENGTH, label.length as u64);
+    put_end(text, past, LENGTH.to)
 }
 
 // A drop, by the height of its slot and its own: + or - just before its digits, none at zero.
@@ -102,38 +120,10 @@ pub fn put_site_line(text: &mut [u8], at: usize, site: u32, slot: u32, height: u
     ensures { λ r. ⌜ now (text .exit) ≡ written (now (text .entry)) at (siteLine site slot height y) ⌝ }
 {
     let mut past = put_bytes(text, at, b"  drop");
-    past = put_plain(
-        text,
-        past,
-        Columns {
-            after: 6,
-            from: 8,
-            to: 10,
-        },
-        site as u64,
-    );
-    past = put_plain(
-        text,
-        past,
-        Columns {
-            after: 10,
-            from: 12,
-            to: 14,
-        },
-        slot as u64,
-    );
-    past = put_drop(
-        text,
-        past,
-        Columns {
-            after: 14,
-            from: 16,
-            to: 23,
-        },
-        height,
-        y,
-    );
-    put_end(text, past, 23)
+    past = put_plain(text, past, SITE, site as u64);
+    past = put_plain(text, past, TIE, slot as u64);
+    past = put_drop(text, past, DROP, height, y);
+    put_end(text, past, DROP.to)
 }
 
 pub fn put_total_line(text: &mut [u8], at: usize, count: u32, length: u32) -> usize
@@ -141,25 +131,7 @@ pub fn put_total_line(text: &mut [u8], at: usize, count: u32, length: u32) -> us
     ensures { λ r. ⌜ now (text .exit) ≡ written (now (text .entry)) at (totalLine count length) ⌝ }
 {
     let mut past = put_bytes(text, at, b"total");
-    past = put_plain(
-        text,
-        past,
-        Columns {
-            after: 5,
-            from: 8,
-            to: 10,
-        },
-        count as u64,
-    );
-    past = put_plain(
-        text,
-        past,
-        Columns {
-            after: 10,
-            from: 20,
-            to: 27,
-        },
-        length as u64,
-    );
-    put_end(text, past, 27)
+    past = put_plain(text, past, COUNT, count as u64);
+    past = put_plain(text, past, TOTAL, length as u64);
+    put_end(text, past, TOTAL.to)
 }
