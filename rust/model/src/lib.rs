@@ -9,18 +9,21 @@
 //! - [`maker`]: the best layout of a one-sided sheet by a table and a walk, in the caller's areas;
 //! - [`twin`]: the one-sided twin of a stored sheet;
 //! - [`strokes`]: what a viewer draws of a stored sheet;
+//! - [`page`]: the page of a stored sheet for the print room;
 //! - [`program`]: what the program prints;
 //! - [`random`]: random sheets, and damage to them;
 //! - [`nested`]: random sheets that are aimed at a depth;
 //! - [`depth`]: how many cuts are nested in a layout;
 //! - [`rounding`]: a rival that rounds at each cut.
 
+mod areas;
 mod budgets;
 mod costs;
 pub mod depth;
 pub mod maker;
 pub mod nested;
 mod one_sided;
+pub mod page;
 mod places;
 pub mod program;
 pub mod random;

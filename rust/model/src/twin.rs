@@ -1,21 +1,14 @@
 //! The one-sided twin of a stored sheet: its sheet with a one-sided head, its ties, and the count and length that are
 //! then true. Both parts are written anew from what was read, so no word is taken over.
 
+use crate::areas::write;
 use crate::rules::{lawful, layout_words};
 
 /// The refusal, 0 if there is none, and how many words were written from the start of the area, 0 beside a refusal.
 ///
 /// Refusals 1 to 7 and 11 are the judge's; 13 is a layout that breaks a rule, 9 an area shorter than the stored sheet.
 pub fn twin(stored: &[u32], area: &mut [u32]) -> (u8, usize) {
-    let words = match words(stored) {
-        Ok(words) => words,
-        Err(refusal) => return (refusal, 0),
-    };
-    let Some(first) = area.get_mut(..words.len()) else {
-        return (9, 0);
-    };
-    first.copy_from_slice(&words);
-    (0, words.len())
+    write(words(stored), area)
 }
 
 /// The words of the twin.
