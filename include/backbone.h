@@ -1,7 +1,7 @@
 /* Backbone labelling of parts sheets: the C interface of the proved library, libbackbone.
  *
  * A sheet, a layout and a stored sheet are lists of 32-bit words. No function keeps a pointer, allocates or
- * touches anything but the areas that it is given. Areas must not overlap and are aligned as uint32_t is.
+ * touches anything but the areas that it is given. Areas must not overlap, and those of words are aligned as uint32_t is.
  * A pointer may be null where its length is 0.
  *
  * Right after a sheet's head may stand a charge word, of kind 5: 5 << 28 | charge, the charge from 0 to
@@ -27,6 +27,11 @@ enum {
     BACKBONE_MOST_CHARGE = 16383,
     /* Answer words that serve for every sheet. */
     BACKBONE_ANSWER_WORDS = BACKBONE_MOST_SITES + 1,
+    /* The bytes of a line of a page: 40 columns and a line feed. */
+    BACKBONE_PAGE_LINE_BYTES = 41,
+    /* Bytes that serve for every page: a line for each used slot, of which there are no more than sites, a line for each
+     * site, and the last. */
+    BACKBONE_PAGE_BYTES = BACKBONE_PAGE_LINE_BYTES * (2 * BACKBONE_MOST_SITES + 1),
     /* The bound of a colour without one. */
     BACKBONE_UNBOUNDED = 255
 };
@@ -43,7 +48,7 @@ enum {
     BACKBONE_EQUAL_X = 6,           /* two sites have equal x */
     BACKBONE_TOO_MANY_BUDGETS = 7,  /* the product of bound plus one over the bounded colours is above 64 */
     BACKBONE_WORK_TOO_SHORT = 8,    /* the work area is shorter than needed */
-    BACKBONE_ANSWER_TOO_SHORT = 9,  /* the answer area is shorter than needed */
+    BACKBONE_ANSWER_TOO_SHORT = 9,  /* the area for the answer is shorter than needed */
     BACKBONE_NO_LAYOUT = 10,        /* no layout obeys rules 1 to 5 */
     BACKBONE_BAD_LAYOUT = 11,       /* the stored sheet has no layout, or one that is not in its form */
     BACKBONE_BAD_INPUT = 12,        /* more than 1,024 bytes or not whole words */
@@ -81,7 +86,8 @@ typedef struct {
     uint8_t rule;
 } backbone_verdict;
 
-/* What the twin's writer gives: how many words it wrote. Beside a refusal it is 0. */
+/* What the writers of the twin and of the page give: how many words, or bytes of the page, were written. Beside a refusal
+ * it is 0. */
 typedef struct {
     uint8_t refusal;
     uint32_t written;
@@ -119,6 +125,22 @@ backbone_written backbone_twin(const uint32_t *stored, size_t len, uint32_t *out
  * from 0: who draws all strokes asks for 0, 1, 2 and so on until 14 comes back. The lengths of all strokes, eight units a
  * point, and the charge for each drop add up to the length that the layout states. */
 backbone_stroke backbone_stroke_at(const uint32_t *stored, size_t len, size_t place);
+
+/* Writes the page of a stored sheet, a text for the print room, to the start of page: refusals 1 to 7 and 11 as the judge
+ * gives them, then 13, then 9 where page has fewer than BACKBONE_PAGE_LINE_BYTES for each used slot, each site and the last
+ * line. A line has 40 columns, counted from 1, and a line feed. Numbers are decimal and stand at the right of their
+ * columns; all else is blank.
+ *
+ * A line for each used slot, by rising slot: slot in columns 1 to 3, colour in 5 and 6, its number of sites in 8 and 9,
+ * height in 11 to 18, the label's own length in 20 to 27, which is its backbone's and its sites' drops without their signs,
+ * with the charge for each that is not 0.
+ * A line for each site, in sheet order, that begins with "  drop": site in columns 8 to 10, slot in 12 to 14, drop in 16 to
+ * 23, which is the slot's height less the site's y, with + or - right before its digits, none at 0.
+ * Last a line that begins with "total": the count in columns 8 to 10, the length in 20 to 27.
+ *
+ * The slots' numbers of sites add up to all sites, their lengths to the length of the last line. The page does not end with
+ * a zero byte. A refusal changes nothing in page; bytes past the page stay as they were. */
+backbone_written backbone_page(const uint32_t *stored, size_t len, uint8_t *page, size_t page_len);
 
 #ifdef __cplusplus
 }

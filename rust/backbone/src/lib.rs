@@ -22,9 +22,9 @@
 //! # Ok::<(), Box<dyn std::error::Error>>(())
 //! ```
 //!
-//! [`read`], [`make`], [`judge`], [`twin`] and [`stroke_at`] are the library's own operations, on lists of words. [`Sheet`]
-//! builds such lists, [`Layout`] takes answers apart, [`Stored`] is a sheet with a layout, [`Word`] names the fields of one
-//! word. [`strokes`] are what a viewer draws of a stored sheet.
+//! [`read`], [`make`], [`judge`], [`twin`], [`stroke_at`] and [`write_page`] are the library's own operations, on lists of
+//! words. [`Sheet`] builds such lists, [`Layout`] takes answers apart, [`Stored`] is a sheet with a layout, [`Word`] names the
+//! fields of one word. [`strokes`] are what a viewer draws of a stored sheet, [`page()`] is its text for the print room.
 //! [`labels`] are a layout's used slots, [`faults`] the places at which it breaks a rule, [`causes`] the words that a
 //! refusal comes from. [`WorkArea`] lays out many sheets in one area.
 //!
@@ -46,6 +46,7 @@ mod label;
 mod layout;
 mod library;
 mod numbered;
+mod page;
 mod refusal;
 mod rule;
 mod sheet;
@@ -58,7 +59,8 @@ pub use cause::{causes, Cause};
 pub use fault::{faults, Fault};
 pub use label::{labels, true_numbers, Label};
 pub use layout::Layout;
-pub use library::{judge, lay_out, make, read, stroke_at, twin, twin_words, ColourSizes, Sizes};
+pub use library::{judge, lay_out, make, read, stroke_at, twin, twin_words, write_page, ColourSizes, Sizes};
+pub use page::{page, MOST_PAGE_BYTES, PAGE_LINE_BYTES};
 pub use refusal::Refusal;
 pub use rule::Rule;
 pub use sheet::{Sheet, Site};

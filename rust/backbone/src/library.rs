@@ -56,6 +56,7 @@ extern "C" {
     ) -> u32;
     fn backbone_twin(stored: *const u32, len: usize, out: *mut u32, out_len: usize) -> RawWritten;
     fn backbone_stroke_at(stored: *const u32, len: usize, place: usize) -> RawStroke;
+    fn backbone_page(stored: *const u32, len: usize, page: *mut u8, page_len: usize) -> RawWritten;
 }
 
 /// What the reader says of a sheet that it accepts.
@@ -85,6 +86,12 @@ fn refusal(number: u32) -> Result<(), Refusal> {
         0 => Ok(()),
         _ => Err(Refusal::from_number(number).expect("the library gives refusals 1 to 11, 13, 14 and 18")),
     }
+}
+
+/// How many words or bytes were written, or the refusal.
+fn written(raw: RawWritten) -> Result<usize, Refusal> {
+    refusal(u32::from(raw.refusal))?;
+    Ok(raw.written as usize)
 }
 
 /// Reads a sheet: its sizes, or one of the refusals 1 to 7.
@@ -182,9 +189,7 @@ pub fn lay_out(sheet: &[u32]) -> Result<Layout, Refusal> {
 /// ```
 pub fn twin(stored: &[u32], area: &mut [u32]) -> Result<usize, Refusal> {
     // SAFETY: pointers and lengths are those of two slices that Rust keeps apart.
-    let written = unsafe { backbone_twin(stored.as_ptr(), stored.len(), area.as_mut_ptr(), area.len()) };
-    refusal(u32::from(written.refusal))?;
-    Ok(written.written as usize)
+    written(unsafe { backbone_twin(stored.as_ptr(), stored.len(), area.as_mut_ptr(), area.len()) })
 }
 
 /// The words of a stored sheet's one-sided twin, or one of the refusals 1 to 7, 11 and 13: see [`twin`].
@@ -215,4 +220,23 @@ pub fn stroke_at(stored: &[u32], place: usize) -> Result<Stroke, Refusal> {
         1 => Ok(Stroke::Drop { from, to }),
         kind => unreachable!("the library gives kinds 0 and 1, not {kind}"),
     }
+}
+
+/// Writes the page of a stored sheet, a text for the print room, to the start of the caller's area and gives the number of
+/// bytes written; or one of the refusals 1 to 7, 11, 13 and 9, in this order. [`MOST_PAGE_BYTES`](crate::MOST_PAGE_BYTES)
+/// serve for every page; one page needs [`PAGE_LINE_BYTES`](crate::PAGE_LINE_BYTES) for each label, each site and the total.
+/// A refusal leaves the area as it was, and bytes past the page keep what they hold. [`page`](crate::page()) gives the text.
+///
+/// ```
+/// use backbone::{write_page, Refusal};
+/// let stored = [0x10008008, 0x20000002, 0x300000FF, 0x40008004, 0x80200008, 0x90000000];
+/// let mut area = [b'?'; 125];
+/// assert_eq!(write_page(&stored, &mut area), Ok(3 * 41));
+/// assert_eq!(&area[..27], b"  0  0  1        2        8");
+/// assert_eq!(&area[3 * 41..], b"??");
+/// assert_eq!(write_page(&stored, &mut area[..122]), Err(Refusal::AnswerTooShort));
+/// ```
+pub fn write_page(stored: &[u32], area: &mut [u8]) -> Result<usize, Refusal> {
+    // SAFETY: pointers and lengths are those of two slices that Rust keeps apart.
+    written(unsafe { backbone_page(stored.as_ptr(), stored.len(), area.as_mut_ptr(), area.len()) })
 }

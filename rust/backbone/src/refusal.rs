@@ -2,7 +2,7 @@ use crate::numbered::numbered;
 
 numbered! {
     /// Why a list of words, an area or an input is refused. An operation gives the first that applies, by rising number,
-    /// but 18 is looked for right after 7, and the twin looks for 9 last.
+    /// but 18 is looked for right after 7, and twin and page look for 9 last.
     ///
     /// ```
     /// use backbone::Refusal;
@@ -18,7 +18,7 @@ numbered! {
     EqualX = 6, "two sites have equal x";
     TooManyBudgets = 7, "the product of bound plus one over the bounded colours is above 64";
     WorkTooShort = 8, "the work area is shorter than needed";
-    AnswerTooShort = 9, "the answer area is shorter than needed";
+    AnswerTooShort = 9, "the area for the answer is shorter than needed";
     NoLayout = 10, "no layout obeys rules 1 to 5";
     BadLayout = 11, "there is no layout, or it is not one tie to a slot for each site";
     BadInput = 12, "more than 1,024 bytes, or not whole words";

@@ -1,4 +1,4 @@
-use crate::{judge, strokes, twin_words, Layout, Refusal, Rule, Sheet, Stroke, Word};
+use crate::{judge, page, strokes, twin_words, Layout, Refusal, Rule, Sheet, Stroke, Word};
 
 /// A sheet with a layout of it, whoever made it.
 #[derive(Clone, Debug, PartialEq, Eq)]
@@ -43,6 +43,11 @@ impl Stored {
     /// What a viewer draws, or one of the refusals 3 to 7, 11 and 13: see [`strokes`](crate::strokes()).
     pub fn strokes(&self) -> Result<Vec<Stroke>, Refusal> {
         Ok(strokes(&self.words())?.collect())
+    }
+
+    /// The page for the print room, or one of the refusals 3 to 7, 11 and 13: see [`page`](crate::page()).
+    pub fn page(&self) -> Result<String, Refusal> {
+        page(&self.words())
     }
 }
 

@@ -2,15 +2,13 @@
 
 mod common;
 
-use backbone::{lay_out, stroke_at, strokes, End, Refusal, Stored, Stroke};
-use common::SHEET_A;
-use model::random::{any_stored, damage, invented_layout, medium_sheet, Random};
+use backbone::{stroke_at, strokes, End, Refusal, Stored, Stroke};
+use common::{any_sort, refused_stored, stored_a, LAYOUT_A, SHEET_A};
+use model::random::Random;
 use model::rules;
 use model::strokes as plain;
 
 const SHEETS: usize = 100_000;
-/// Document 01's layout of sheet A: 2 labels, length 19, slots 0, 0 and 2.
-const LAYOUT_A: [u32; 4] = [0x80400013, 0x90000000, 0x90000000, 0x90000002];
 
 fn bone(x: f32, y: f32, to_x: f32, to_y: f32) -> Stroke {
     Stroke::Bone { from: End { x, y }, to: End { x: to_x, y: to_y } }
@@ -18,11 +16,6 @@ fn bone(x: f32, y: f32, to_x: f32, to_y: f32) -> Stroke {
 
 fn drop(x: f32, y: f32, to_x: f32, to_y: f32) -> Stroke {
     Stroke::Drop { from: End { x, y }, to: End { x: to_x, y: to_y } }
-}
-
-/// Sheet A with another head and this layout.
-fn stored_a(head: u32, layout: &[u32]) -> Vec<u32> {
-    [&[head], &SHEET_A[1..], layout].concat()
 }
 
 /// All strokes, each asked for by its place too.
@@ -105,32 +98,11 @@ fn the_largest_coordinates() {
 /// 1 to 7 and 11 as the judge refuses, then 13; each comes before 14.
 #[test]
 fn refusals() {
-    let many: Vec<u32> = (0..49).map(|height| 2 << 28 | height).collect();
-    let cases: [(Vec<u32>, Refusal); 13] = [
-        (vec![], Refusal::NoHead),
-        (LAYOUT_A.to_vec(), Refusal::NoHead),
-        (stored_a(0x10008000, &LAYOUT_A), Refusal::NoHead),
-        ([&SHEET_A[..], &SHEET_A[..1], &LAYOUT_A].concat(), Refusal::BadWord),
-        ([&SHEET_A[..1], &many, &[0x80000000]].concat(), Refusal::TooMany),
-        (vec![0x10008008, 0x20000005, 0x20000005, 0x80000000], Refusal::SlotsNotRising),
-        (stored_a(0x10008005, &LAYOUT_A), Refusal::SiteBeyondWidth),
-        (vec![0x10008008, 0x20000005, 0x300000FF, 0x40008004, 0x40008005, 0x80000000], Refusal::EqualX),
-        (vec![0x10008008, 0x30000007, 0x30000008, 0x80000000], Refusal::TooManyBudgets),
-        (SHEET_A.to_vec(), Refusal::BadLayout),
-        (stored_a(0x10008008, &LAYOUT_A[..3]), Refusal::BadLayout),
-        (stored_a(0x10008008, &[0x80400012, 0x90000000, 0x90000000, 0x90000002]), Refusal::Unlawful),
-        (stored_a(0x18008008, &LAYOUT_A), Refusal::Unlawful),
-    ];
-    for (stored, refusal) in cases {
+    for (stored, refusal) in refused_stored() {
         assert_eq!(strokes(&stored).err(), Some(refusal), "{stored:x?}");
         for place in [0, 1, 99, usize::MAX] {
             assert_eq!(stroke_at(&stored, place), Err(refusal), "{stored:x?}");
         }
-    }
-    // 0, 0, 1 breaks rule 4; 0, 0, 0 breaks rule 1.
-    for last in [1, 0] {
-        let stored = stored_a(0x10008008, &[0x80400013, 0x90000000, 0x90000000, 9 << 28 | last]);
-        assert_eq!(strokes(&stored).err(), Some(Refusal::Unlawful));
     }
 }
 
@@ -143,20 +115,6 @@ fn the_iterator() {
     let rest: Vec<Stroke> = given.clone().collect();
     assert_eq!(rest, all(&stored).unwrap()[1..]);
     assert_eq!((given.by_ref().count(), given.next(), given.next()), (4, None, None));
-}
-
-/// A stored sheet of any sort: the maker's layout of a sheet that no search is tried on, or one of `any_stored`.
-fn any_sort(random: &mut Random) -> Vec<u32> {
-    if !random.one_in(4) {
-        return any_stored(random);
-    }
-    let sheet = medium_sheet(random).one_sided();
-    let made = lay_out(&sheet.words()).map(|layout| layout.words());
-    let mut stored = [sheet.words(), made.unwrap_or_else(|_| invented_layout(&sheet, random))].concat();
-    if random.one_in(4) {
-        damage(&mut stored, random);
-    }
-    stored
 }
 
 /// What a stroke is, bit for bit.

@@ -5,9 +5,9 @@ mod common;
 
 use backbone::{judge, read, stroke_at, Refusal, Rule};
 use common::vectors::{cases, shown, Case};
-use common::{make_in_dirt, twin_in_dirt};
+use common::{make_in_dirt, page_in_dirt, twin_in_dirt};
 use model::random::Random;
-use model::{maker, program, rules, strokes, twin};
+use model::{maker, page, program, rules, strokes, twin};
 use std::collections::BTreeMap;
 
 /// A result in the words of the file.
@@ -21,6 +21,11 @@ fn sizes(words: &[u32]) -> String {
         numbers.extend(sizes.each_colour.iter().flat_map(|colour| [colour.bound, colour.sites].map(usize::from)));
         numbers.iter().map(usize::to_string).collect::<Vec<_>>().join(" ")
     })
+}
+
+/// A text as an answer has it: / stands for each line feed.
+fn in_one_line(text: &str) -> String {
+    text.replace('\n', "/")
 }
 
 /// A stroke with the bits of its floats.
@@ -40,6 +45,7 @@ fn answer(case: &Case, random: &mut Random) -> Option<String> {
         ("judge", []) => told(judge(&case.words), |rule| rule.map_or(0, Rule::number).to_string()),
         ("twin", [area]) => told(twin_in_dirt(&case.words, *area, random), show),
         ("stroke", [place]) => stroke(&case.words, *place),
+        ("page", [area]) => told(page_in_dirt(&case.words, *area, random), |text| in_one_line(&text)),
         ("program", []) => return None,
         (operation, numbers) => panic!("line {}: no operation '{operation}' with numbers {numbers:?}", case.line),
     })
@@ -60,7 +66,7 @@ fn hold(operations: usize, mut answer: impl FnMut(&Case) -> Option<String>) {
 #[test]
 fn every_line_is_answered() {
     let mut random = Random::new(310);
-    hold(5, |case| answer(case, &mut random));
+    hold(6, |case| answer(case, &mut random));
 }
 
 fn plain_sizes(words: &[u32]) -> String {
@@ -86,7 +92,7 @@ fn written(refusal: u32, words: &[u32]) -> String {
 /// What the program prints for these words, as a line of the file has it.
 fn printed(words: &[u32]) -> String {
     let bytes: Vec<u8> = words.iter().flat_map(|word| word.to_le_bytes()).collect();
-    program::prints(&bytes).trim_end_matches('\n').replace('\n', "/")
+    in_one_line(program::prints(&bytes).trim_end_matches('\n'))
 }
 
 /// What the plain model answers to a line.
@@ -116,6 +122,13 @@ fn plain_answer(case: &Case) -> Option<String> {
             }
             Err(refusal) => written(u32::from(refusal), &[]),
         },
+        ("page", [area]) => {
+            let mut area = vec![0; *area];
+            match page::page(words, &mut area) {
+                (0, count) => in_one_line(&String::from_utf8_lossy(&area[..count])),
+                (refusal, _) => written(u32::from(refusal), &[]),
+            }
+        }
         ("program", []) => printed(words),
         _ => return None,
     })
@@ -123,5 +136,5 @@ fn plain_answer(case: &Case) -> Option<String> {
 
 #[test]
 fn the_plain_model_answers_every_line() {
-    hold(6, plain_answer);
+    hold(7, plain_answer);
 }

@@ -5,7 +5,7 @@ pub struct Case {
     /// Its number in the file, from 1.
     pub line: usize,
     pub operation: &'static str,
-    /// Lengths of areas, in words, or a stroke's place.
+    /// Lengths of areas, in words and for a page in bytes, or a stroke's place.
     pub numbers: Vec<usize>,
     pub words: Vec<u32>,
     pub answer: &'static str,
