@@ -1,7 +1,7 @@
 //! What a subcommand is: one table for the command line, help and the man page.
 
 use crate::arguments::{Arguments, Setting};
-use crate::commands::{check, convert, corpus, draw, lay_out, merge, shrink, strokes, twin, why};
+use crate::commands::{check, convert, corpus, draw, lay_out, merge, page, shrink, strokes, twin, why};
 use crate::exit::{Exit, Failure};
 use crate::output::Output;
 
@@ -22,13 +22,14 @@ pub struct Subcommand {
 }
 
 /// Every subcommand, in the order of help.
-pub const ALL: [&Subcommand; 10] = [
+pub const ALL: [&Subcommand; 11] = [
     &lay_out::SUBCOMMAND,
     &check::SUBCOMMAND,
     &draw::SUBCOMMAND,
     &convert::SUBCOMMAND,
     &twin::SUBCOMMAND,
     &strokes::SUBCOMMAND,
+    &page::SUBCOMMAND,
     &corpus::SUBCOMMAND,
     &merge::SUBCOMMAND,
     &shrink::SUBCOMMAND,

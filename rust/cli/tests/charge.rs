@@ -77,9 +77,10 @@ fn a_charge_of_0_is_kept() {
     assert_eq!(laid_out.text(), twin);
 }
 
-/// The twin has the charge, and its length is true with it; strokes are those without a charge.
+/// The twin has the charge, and its length is true with it; strokes are those without a charge. A page has the charges in its
+/// lengths: two at slot 0, one at slot 2.
 #[test]
-fn twins_and_strokes() {
+fn twins_strokes_and_pages() {
     let two_sided = charged(&stored_a(2, 40, [0, 0, 2])).replace("one-sided", "two-sided");
     let twin = charged(&stored_a(2, 34, [0, 0, 2]));
     assert_eq!(check(&two_sided).1.split(':').next(), Some("lawful"));
@@ -87,6 +88,10 @@ fn twins_and_strokes() {
     let strokes = |text: &str| run(["strokes", "-"], text.as_bytes()).text();
     assert_eq!(strokes(&twin), strokes(&stored_a(2, 19, [0, 0, 2])));
     assert_eq!(strokes(&twin).lines().filter(|line| line.starts_with("drop ")).count(), 3);
+    let uncharged = run(["page", "-"], stored_a(2, 19, [0, 0, 2]).as_bytes()).text();
+    let expected = [("      12 ", "      22 "), ("       7 ", "      12 "), ("      19 ", "      34 ")];
+    let page = expected.iter().fold(uncharged, |page, (without, with)| page.replacen(without, with, 1));
+    assert_eq!(run(["page", "-"], twin.as_bytes()).text(), page);
 }
 
 /// Out of its place, twice, with a spare bit, and as the first word: by every subcommand that reads a sheet.
@@ -101,7 +106,7 @@ fn charges_that_are_refused() {
         (stored.replace("tie 2", "charge 5"), 11, "word 12 is 0x50000005: it is no tie"),
     ];
     for (text, number, cause) in &cases {
-        for command in ["twin", "strokes"] {
+        for command in ["twin", "strokes", "page"] {
             let told = run([command, "-"], text.as_bytes());
             assert_eq!((told.code, told.text()), (Some(1), format!("refused {number}\n")), "{text}");
             assert!(told.err.contains(cause), "{cause}: {}", told.err);

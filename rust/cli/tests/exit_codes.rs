@@ -46,6 +46,10 @@ const WRONG_USES: &[&[&str]] = &[
     &["strokes", "--place", "-"],
     &["strokes", "--place", "-1", "-"],
     &["strokes", "--place", "18446744073709551616", "-"],
+    &["page"],
+    &["page", "a", "b"],
+    &["page", "--format", "text", "-"],
+    &["lay-out", "--format", "pages", "-"],
     &["draw"],
     &["draw", "-o"],
     &["draw", "--rounded=yes", "-"],
@@ -89,8 +93,9 @@ fn texts_with_errors_are_3_with_line_and_column() {
         (b"<svg xmlns=\"http://www.w3.org/2000/svg\"/>", "line 1, column 1"),
     ];
     for (input, message) in cases {
-        let reading = [&["lay-out", "-"][..], &["draw", "-"], &["twin", "-"], &["strokes", "-"]];
-        for arguments in reading.into_iter().chain([&["convert", "--to", "json", "-"][..]]) {
+        let reading = [&["lay-out", "-"][..], &["draw", "-"], &["twin", "-"], &["strokes", "-"], &["page", "-"]];
+        let writing = [&["convert", "--to", "json", "-"][..], &["lay-out", "--format", "page", "-"]];
+        for arguments in reading.into_iter().chain(writing) {
             let run = run(arguments, input);
             assert_unreadable(&run, message);
             assert!(run.err.contains("standard input: ") && run.out.is_empty(), "{run:?}");
@@ -120,7 +125,8 @@ fn files_that_cannot_be_read_are_3() {
         cases.push((closed, "Permission denied"));
     }
     for (file, message) in cases {
-        for arguments in [&["lay-out"][..], &["draw"], &["twin"], &["strokes"], &["convert", "--to", "text"]] {
+        let reading = [&["lay-out"][..], &["draw"], &["twin"], &["strokes"], &["page"]];
+        for arguments in reading.into_iter().chain([&["convert", "--to", "text"][..]]) {
             let run = run(arguments.iter().copied().chain([&file[..]]), b"");
             assert_unreadable(&run, message);
             assert!(run.err.contains(&file), "{run:?}");

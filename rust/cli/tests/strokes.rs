@@ -2,7 +2,7 @@
 
 mod common;
 
-use common::{examples, run, shell, stored_a, Run, SHEET_A};
+use common::{assert_unwritten_is_3, best_a, examples, refused_stored, run, shell, stored_a, Run};
 use model::random::{any_stored, Random};
 use model::strokes::{stroke_at, strokes, Stroke};
 use sheet::json::{Json, Value};
@@ -16,10 +16,6 @@ drop 0.25 0.5 0.25 0.25
 drop 0.75 0.75 0.75 0.25
 drop 0.5 0.625 0.5 1
 ";
-
-fn best_a() -> String {
-    stored_a(2, 19, [0, 0, 2])
-}
 
 #[test]
 fn sheet_a_in_every_form() {
@@ -64,32 +60,12 @@ fn lines_are_for_awk() {
 /// The number on standard output; the meaning and what it comes from on standard error. Each comes before 14.
 #[test]
 fn refusals() {
-    let many = (3..52).map(|height| format!("slot {height}\n")).collect::<String>();
-    let (past, best) = (&["--place", "5"][..], best_a());
-    let cases: [(String, &[&str], u64, &str); 16] = [
-        (String::new(), &[], 1, "there is no word"),
-        (best.replace("head one-sided fewest gap 2 width 8\n", ""), past, 1, "word 0 is 0x20000002, no head"),
-        (best.replace("slot 5", "tie 1"), past, 2, "word 2 is 0x90000001: a tie stands in the sheet"),
-        (best.replace("slot 5\nslot 8\n", &many), past, 3, "there are 50 slots, at most 48 are allowed"),
-        (best.replace("slot 5", "slot 2"), past, 4, "slot 0 has height 2, and slot 1 after it height 2"),
-        (best.replace("site 4", "site 9"), past, 5, "site 2 has x 9, and the width is 8"),
-        (best.replace("site 4", "site 6"), past, 6, "sites 1 and 2 both have x 6"),
-        (
-            best.replace("colour unbounded", "colour bound 8"),
-            past,
-            7,
-            "the bounds 8 of colour 0, 8 of colour 1 give 81",
-        ),
-        (SHEET_A.to_string(), past, 11, "there is no word of a layout"),
-        (format!("{SHEET_A}refused 10\n"), &[], 11, "there is no word of a layout"),
-        (stored_a(2, 19, [0, 0, 3]), past, 11, "site 2 is tied to slot 3, and the sheet has 3 slots"),
-        (stored_a(2, 19, [0, 0, 1]), past, 13, "rule 4: the vertical of site 1 meets the backbone at slot 1, at x 6"),
-        (stored_a(2, 18, [0, 0, 2]), &[], 13, "rule 6: the layout states 2 labels and length 18"),
-        (best.replace("one-sided", "two-sided"), &[], 13, "rule 6: the layout states 2 labels and length 19"),
-        (best.clone(), past, 14, "strokes: 5; places count from 0"),
-        (best.clone(), &["--place", "18446744073709551615"], 14, "the place is past the last stroke"),
-    ];
-    for (text, options, number, cause) in cases {
+    let past = &["--place", "5"][..];
+    let all = refused_stored().into_iter().flat_map(|case| [(case.clone(), &[][..]), (case, past)]);
+    let past_last =
+        [(past, "strokes: 5; places count from 0"), (&["--place", "18446744073709551615"], "past the last")];
+    let past_last = past_last.map(|(options, cause)| ((best_a(), 14, cause), options));
+    for ((text, number, cause), options) in all.chain(past_last) {
         let with = |more: &[&'static str]| run(["strokes", "-"].iter().chain(options).chain(more), text.as_bytes());
         let plain = with(&[]);
         assert_eq!((plain.code, plain.text()), (Some(1), format!("refused {number}\n")), "{text}");
@@ -100,19 +76,9 @@ fn refusals() {
     }
 }
 
-/// Output that can't be written is told, whether it is strokes or a refusal.
 #[test]
 fn output_that_cannot_be_written_is_3() {
-    let mut places = vec![(">&-", "standard output: it is closed")];
-    if std::path::Path::new("/dev/full").exists() {
-        places.push((">/dev/full", "standard output: No space left"));
-    }
-    for (to, message) in places {
-        for input in [best_a(), SHEET_A.to_string()] {
-            let run = shell(&format!("$BACKBONE strokes - {to}"), input.as_bytes());
-            assert!(run.code == Some(3) && run.err.contains(message), "{run:?}");
-        }
-    }
+    assert_unwritten_is_3("strokes");
 }
 
 /// The lines that stand beside the gearbox's twin are the plain model's, and the command's.

@@ -45,10 +45,10 @@ fn its_layout_is_unlawful_in_every_report() {
     assert!(answered.text().contains(&format!("unlawful: {NEAR}")), "{answered:?}");
 }
 
-/// 13 of the twin and of the strokes, with what it comes from; the picture says it too.
+/// 13 of the twin, the strokes and the page, with what it comes from; the picture says it too.
 #[test]
-fn its_layout_has_no_twin_and_no_strokes() {
-    for command in ["twin", "strokes"] {
+fn its_layout_has_no_twin_no_strokes_and_no_page() {
+    for command in ["twin", "strokes", "page"] {
         let refused = run([command, "-"], stored().as_bytes());
         assert_eq!((refused.code, &refused.text()[..]), (Some(1), "refused 13\n"), "{command}");
         assert!(refused.err.contains(NEAR), "{}", refused.err);

@@ -6,7 +6,7 @@ use crate::input::Source;
 use crate::output::Output;
 use crate::refused::tell;
 use crate::subcommand::Subcommand;
-use backbone::{split_stored, Layout, NotLaidOut, Refusal, Sheet, WorkArea};
+use backbone::{page, split_stored, Layout, NotLaidOut, Refusal, Sheet, WorkArea};
 use sheet::{Form, Record};
 
 pub const SUBCOMMAND: Subcommand = Subcommand {
@@ -30,7 +30,8 @@ is as large as the sheet needs: at most 428 million words.",
     settings: &[Setting {
         name: "--format",
         value: "FORM",
-        about: "text (as above), or the stored sheet: stored (as text), words (hexadecimal), bin or json",
+        about: "text (as above), page (as `backbone page` prints it), or the stored sheet: stored (as text), words \
+                (hexadecimal), bin or json",
     }],
     exits: &[(Exit::Done, "a layout"), (Exit::Found, "refused")],
     run,
@@ -40,11 +41,13 @@ is as large as the sheet needs: at most 428 million words.",
 #[derive(Clone, Copy, PartialEq, Eq)]
 enum Answer {
     Lines,
+    Page,
     Stored(Form),
 }
 
-const FORMATS: [(&str, Answer); 5] = [
+const FORMATS: [(&str, Answer); 6] = [
     ("text", Answer::Lines),
+    ("page", Answer::Page),
     ("stored", Answer::Stored(Form::Text)),
     ("words", Answer::Stored(Form::Words)),
     ("bin", Answer::Stored(Form::Binary)),
@@ -71,10 +74,11 @@ fn run(arguments: &Arguments, output: &mut Output) -> Result<Exit, Failure> {
 /// What is printed of a layout.
 fn laid_out(record: &Record, layout: &Layout, answer: Answer) -> Result<Vec<u8>, Refusal> {
     let (sheet, _) = split_stored(&record.words);
+    let words = [sheet, &layout.words()].concat();
     match answer {
         Answer::Lines => Ok(lines(&Sheet::from_words(sheet)?, layout).into_bytes()),
+        Answer::Page => Ok(page(&words)?.into_bytes()),
         Answer::Stored(form) => {
-            let words = [sheet, &layout.words()].concat();
             let stored = Record { words, names: record.names.clone(), claims_no_layout: false };
             Ok(sheet::write(&stored, form).unwrap_or_default())
         }

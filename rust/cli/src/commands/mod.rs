@@ -6,6 +6,7 @@ pub mod corpus;
 pub mod draw;
 pub mod lay_out;
 pub mod merge;
+pub mod page;
 pub mod shrink;
 pub mod strokes;
 pub mod twin;
