@@ -1,7 +1,7 @@
 """Backbone labelling of parts sheets, over the proved shared library.
 
-A sheet, a layout and a stored sheet are lists of 32-bit words. `read`, `make`, `judge`, `twin` and `stroke_at` are the
-library's operations; `strokes` asks for all strokes; `head`, `charge`, `slot`, `colour` and `site` make the words of a
+A sheet, a layout and a stored sheet are lists of 32-bit words. `read`, `make`, `judge`, `twin`, `stroke_at` and `page` are
+the library's operations; `strokes` asks for all strokes; `head`, `charge`, `slot`, `colour` and `site` make the words of a
 sheet. A refusal is raised as `Refused`.
 
 >>> from backbone import colour, head, make, site, slot
@@ -11,7 +11,7 @@ sheet. A refusal is raised as `Refused`.
 Layout(labels=2, length=19, slots=(0, 0, 2))
 """
 
-from .library import judge, make, read, stroke_at, strokes, twin
+from .library import judge, make, page, read, stroke_at, strokes, twin
 from .results import ColourSizes, Layout, Refusal, Refused, Rule, Sizes, Stroke
 from .words import charge, colour, head, site, slot
 
@@ -28,6 +28,7 @@ __all__ = [
     "head",
     "judge",
     "make",
+    "page",
     "read",
     "site",
     "slot",

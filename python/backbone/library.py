@@ -14,18 +14,27 @@ from .results import ColourSizes, Layout, Refusal, Refused, Rule, Sizes, Stroke
 
 MOST_COLOURS = 8
 MOST_SITES = 32
+PAGE_LINE_BYTES = 41
+"""A page's line: 40 columns and a line feed."""
+MOST_PAGE_BYTES = PAGE_LINE_BYTES * (2 * MOST_SITES + 1)
+"""A line for each used slot, of which there are no more than sites, a line for each site, and the last."""
 _MOST_PLACE = ctypes.c_size_t(-1).value
 _KINDS = ("bone", "drop")
 _NAME = "libbackbone.so.0"
+_ITEMS = {ctypes.c_uint32: ("I", "32-bit words"), ctypes.c_uint8: ("B", "bytes")}
+"""The letter of each sort of area's format, and its items in words."""
 
 Words = Union[bytes, Iterable[int]]
 """A list of words: numbers from 0 to 2^32 - 1, or bytes with the lowest of each word first."""
 
 _Array = ctypes.Array
-"""Words that the library may be given."""
+"""Words or bytes that the library may be given."""
 
 Area = Any
 """A buffer of unsigned 32-bit words that can be written to: array("I"), a ctypes or a NumPy array, a memoryview."""
+
+ByteArea = Any
+"""A buffer of unsigned bytes that can be written to: bytearray, array("B"), a ctypes or a NumPy array, a memoryview."""
 
 
 class _Colour(ctypes.Structure):
@@ -83,12 +92,14 @@ def _library() -> ctypes.CDLL:
     library.backbone_make.restype = ctypes.c_uint32
     library.backbone_twin.argtypes, library.backbone_twin.restype = [words, count, words, count], _Written
     library.backbone_stroke_at.argtypes, library.backbone_stroke_at.restype = [words, count, count], _Stroke
+    library.backbone_page.argtypes = [words, count, ctypes.POINTER(ctypes.c_uint8), count]
+    library.backbone_page.restype = _Written
     return library
 
 
-def _own(count: int) -> _Array:
+def _own(count: int, item: Any = ctypes.c_uint32) -> _Array:
     """An area of zeros."""
-    return (ctypes.c_uint32 * count)()
+    return (item * count)()
 
 
 def _copied(words: Words) -> _Array:
@@ -97,17 +108,17 @@ def _copied(words: Words) -> _Array:
     return (ctypes.c_uint32 * len(own)).from_buffer(own)
 
 
-def _lent(name: str, area: Area) -> _Array:
-    """The caller's own words."""
-    view = memoryview(area)
-    if view.format not in ("I", "<I", "=I", "@I") or view.readonly or not view.c_contiguous:
-        raise TypeError(f"the {name} area is no buffer of unsigned 32-bit words that can be written to")
+def _lent(name: str, area: Area, item: Any = ctypes.c_uint32) -> _Array:
+    """The caller's own words or bytes."""
+    view, (letter, items) = memoryview(area), _ITEMS[item]
+    if view.format not in (letter, "<" + letter, "=" + letter, "@" + letter) or view.readonly or not view.c_contiguous:
+        raise TypeError(f"the {name} area is no buffer of unsigned {items} that can be written to")
     if view.nbytes == 0:
-        return _own(0)
-    words = (ctypes.c_uint32 * (view.nbytes // 4)).from_buffer(view)
-    if ctypes.addressof(words) % 4 != 0:
+        return _own(0, item)
+    lent = (item * (view.nbytes // ctypes.sizeof(item))).from_buffer(view)
+    if ctypes.addressof(lent) % ctypes.sizeof(item) != 0:
         raise ValueError(f"the {name} area is not aligned to its words")
-    return words
+    return lent
 
 
 def _overlap(one: _Array, other: _Array) -> bool:
@@ -205,3 +216,20 @@ def strokes(stored: Words) -> List[Stroke]:
         if refused.refusal is not Refusal.PAST_LAST_STROKE:
             raise
     return found
+
+
+def page(stored: Words, area: Optional[ByteArea] = None) -> str:
+    """The page of a stored sheet, a text for the print room; refusals 1 to 7, 11, 13 and 9.
+
+    Each line has 40 columns, counted from 1, and a line feed. A line for each used slot: slot in columns 1 to 3, colour in 5
+    and 6, its number of sites in 8 and 9, height in 11 to 18, the label's own length in 20 to 27. A line for each site that
+    begins with "  drop": site in columns 8 to 10, slot in 12 to 14, drop in 16 to 23, with its sign. Last a line that begins
+    with "total": the count in columns 8 to 10, the length in 20 to 27. In an area of the caller the page's bytes are the
+    first, and the others stay.
+    """
+    words = _copied(stored)
+    byte = ctypes.c_uint8
+    area_bytes = _own(MOST_PAGE_BYTES, byte) if area is None else _lent("page", area, byte)
+    written = _library().backbone_page(words, len(words), area_bytes, len(area_bytes))
+    _refuse(written.refusal)
+    return bytes(area_bytes[: written.written]).decode("ascii")

@@ -20,7 +20,7 @@ class _Numbered(IntEnum):
 
 class Refusal(_Numbered):
     """Why a list of words or an area is refused: the first that applies, by rising number, but 18 is looked for right
-    after 7, and the twin looks for 9 last."""
+    after 7, and twin and page look for 9 last."""
 
     NO_HEAD = 1, "the list is empty, or its first word is no head, or its width or gap is 0"
     BAD_WORD = 2, "a word of another kind, out of its order, or with a spare bit set"
@@ -30,7 +30,7 @@ class Refusal(_Numbered):
     EQUAL_X = 6, "two sites have equal x"
     TOO_MANY_BUDGETS = 7, "the product of bound plus one over the bounded colours is above 64"
     WORK_TOO_SHORT = 8, "the work area is shorter than needed"
-    ANSWER_TOO_SHORT = 9, "the answer area is shorter than needed"
+    ANSWER_TOO_SHORT = 9, "the area for the answer is shorter than needed"
     NO_LAYOUT = 10, "no layout obeys rules 1 to 5"
     BAD_LAYOUT = 11, "there is no layout, or it is not one tie to a slot for each site"
     BAD_INPUT = 12, "more than 1,024 bytes, or not whole words"

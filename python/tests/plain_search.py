@@ -115,6 +115,30 @@ def strokes(sheet: Sheet, ties: Ties) -> List[Tuple[str, float, float, float, fl
     return [(kind, x0 / 8, y0 / 8, x1 / 8, y1 / 8) for kind, x0, y0, x1, y1 in bones + drops]
 
 
+def in_columns(*cells: Tuple[int, object]) -> str:
+    """A line of 40 columns with each text or number ending in its column."""
+    line = ""
+    for column, cell in cells:
+        line += str(cell).rjust(column - len(line))
+    return line.ljust(40) + "\n"
+
+
+def page(sheet: Sheet, ties: Ties) -> str:
+    """A line a used slot, a line a site with its drop, and the total."""
+    lines = []
+    for slot in sorted(set(ties)):
+        own = [site for site, tied in zip(sheet.sites, ties) if tied == slot]
+        length = sheet.width - left_end(sheet, ties, slot) + sum(share(sheet, site, slot) for site in own)
+        numbers = (slot, own[0].colour, len(own), sheet.slots[slot], length)
+        lines.append(in_columns(*zip((3, 6, 9, 18, 27), numbers)))
+    for number, (site, slot) in enumerate(zip(sheet.sites, ties)):
+        drop = sheet.slots[slot] - site.y
+        signed = f"{drop:+}" if drop else "0"
+        lines.append(in_columns((6, "  drop"), (10, number), (14, slot), (23, signed)))
+    count, length = count_and_length(sheet, ties)
+    return "".join(lines) + in_columns((5, "total"), (10, count), (27, length))
+
+
 RULES = (shares_colour, keeps_bounds, keeps_apart, crosses_none, clears_sites)
 RULES_BUT_AT_TIPS = RULES[:4] + (clears_sites_but_at_tips,)
 

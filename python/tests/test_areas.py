@@ -4,10 +4,10 @@ import ctypes
 import unittest
 from array import array
 
-from backbone import Layout, Refusal, Refused, make, read, strokes, twin
-from backbone.library import _library
+from backbone import Layout, Refusal, Refused, make, page, read, strokes, twin
+from backbone.library import MOST_PAGE_BYTES, PAGE_LINE_BYTES, _library
 
-from .test_drawn import BONES_A, DROPS_A, REST, SHEET_A, STORED_A
+from .test_drawn import BONES_A, DROPS_A, PAGE_A, REFUSED, REST, SHEET_A, STORED_A
 
 WORK, ANSWER, SPARE = 900, 4, 3
 DIRT = 0xDEADBEEF
@@ -68,6 +68,33 @@ class Areas(unittest.TestCase):
             self.assertIs(raised.exception.refusal, refusal)
             self.assertEqual(area, dirty(lent))
 
+    def test_page_in_dirty_areas(self):
+        expected = "".join(PAGE_A)
+        needed = len(expected)
+        self.assertEqual((needed, MOST_PAGE_BYTES), (6 * PAGE_LINE_BYTES, 2665))
+        for spare in (0, 1, MOST_PAGE_BYTES):
+            area = bytearray(b"?" * (needed + spare))
+            self.assertEqual(page(STORED_A, area), expected)
+            self.assertEqual(area, expected.encode("ascii") + b"?" * spare)
+        short = [(STORED_A, Refusal.ANSWER_TOO_SHORT, lent) for lent in (0, 1, PAGE_LINE_BYTES, needed - 1)]
+        for words, refusal, lent in short + [(words, refusal, needed) for refusal, words in REFUSED.items()]:
+            area = bytearray(b"?" * lent)
+            with self.assertRaises(Refused) as raised:
+                page(words, area)
+            self.assertIs(raised.exception.refusal, refusal)
+            self.assertEqual(area, b"?" * lent)
+
+    def test_other_buffers_of_bytes(self):
+        expected = "".join(PAGE_A)
+        whole = bytearray(b"?" * (len(expected) + 2))
+        for area in (array("B", whole), (ctypes.c_uint8 * len(whole))(), memoryview(whole)[1:-1]):
+            self.assertEqual(page(STORED_A, area), expected)
+        self.assertEqual(whole, b"?" + expected.encode("ascii") + b"?")
+        every_other = memoryview(bytearray(600))[::2]
+        for area in (bytes(300), array("I", [0] * 300), array("b", [0] * 300), every_other, "page", [0] * 300):
+            with self.subTest(area=type(area)), self.assertRaises(TypeError):
+                page(STORED_A, area)
+
     def test_null_pointers(self):
         library, words = _library(), (ctypes.c_uint32 * len(SHEET_A))(*SHEET_A)
         self.assertEqual(library.backbone_read(None, 0).refusal, Refusal.NO_HEAD)
@@ -75,6 +102,9 @@ class Areas(unittest.TestCase):
         self.assertEqual(library.backbone_make(words, len(words), None, 0, None, 0), Refusal.WORK_TOO_SHORT)
         self.assertEqual(library.backbone_twin(None, 0, None, 0).refusal, Refusal.NO_HEAD)
         self.assertEqual(library.backbone_stroke_at(None, 0, 0).refusal, Refusal.NO_HEAD)
+        self.assertEqual(library.backbone_page(None, 0, None, 0).refusal, Refusal.NO_HEAD)
+        stored = (ctypes.c_uint32 * len(STORED_A))(*STORED_A)
+        self.assertEqual(library.backbone_page(stored, len(stored), None, 0).refusal, Refusal.ANSWER_TOO_SHORT)
 
     def test_strokes_leave_the_words(self):
         library, words = _library(), (ctypes.c_uint32 * len(STORED_A))(*STORED_A)

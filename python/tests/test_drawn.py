@@ -1,8 +1,8 @@
-"""The format's drawn examples: sheet A, its heads, the judge on its layouts, and its strokes."""
+"""The format's drawn examples: sheet A, its heads, the judge on its layouts, its strokes and its page."""
 
 import unittest
 
-from backbone import Layout, Refusal, Refused, Rule, judge, make, read, stroke_at, strokes, twin
+from backbone import Layout, Refusal, Refused, Rule, judge, make, page, read, stroke_at, strokes, twin
 
 HEAD = 0x10008008
 REST = [0x20000002, 0x20000005, 0x20000008, 0x300000FF, 0x40008004, 0x40018006, 0x300000FF, 0x40010005]
@@ -10,6 +10,28 @@ SHEET_A = [HEAD] + REST
 STORED_A = SHEET_A + list(Layout(2, 19, (0, 0, 2)).words())
 BONES_A = [("bone", 0.25, 0.25, 1, 0.25), ("bone", 0.5, 1, 1, 1)]
 DROPS_A = [("drop", 0.25, 0.5, 0.25, 0.25), ("drop", 0.75, 0.75, 0.75, 0.25), ("drop", 0.5, 0.625, 0.5, 1)]
+# Slot 0 has a backbone of 6 and drops of 2 and 4, slot 2 a backbone of 4 and a drop of 3.
+PAGE_A = [
+    "  0  0  2        2       12             \n",
+    "  2  1  1        8        7             \n",
+    "  drop   0   0       -2                 \n",
+    "  drop   1   0       -4                 \n",
+    "  drop   2   2       +3                 \n",
+    "total    2               19             \n",
+]
+LAYOUT_A = STORED_A[9:]
+# What every tool over stored sheets refuses.
+REFUSED = {
+    Refusal.NO_HEAD: LAYOUT_A,
+    Refusal.BAD_WORD: SHEET_A + [HEAD] + LAYOUT_A,
+    Refusal.TOO_MANY: [HEAD] + [2 << 28 | height for height in range(49)] + LAYOUT_A,
+    Refusal.SLOTS_NOT_RISING: [HEAD, REST[1], REST[0]] + LAYOUT_A,
+    Refusal.SITE_BEYOND_WIDTH: [0x10008005] + REST + LAYOUT_A,
+    Refusal.EQUAL_X: SHEET_A + [0x40010006] + LAYOUT_A,
+    Refusal.TOO_MANY_BUDGETS: [HEAD, 0x30000007, 0x30000008] + LAYOUT_A,
+    Refusal.BAD_LAYOUT: SHEET_A,
+    Refusal.UNLAWFUL: SHEET_A + list(Layout(2, 18, (0, 0, 2)).words()),
+}
 
 
 class Drawn(unittest.TestCase):
@@ -68,19 +90,7 @@ class Drawn(unittest.TestCase):
         self.assert_refused(Refusal.PAST_LAST_STROKE, stroke_at, [HEAD, 0x80000000], 0)
 
     def test_refusals_of_strokes(self):
-        layout, slots = STORED_A[9:], [2 << 28 | height for height in range(49)]
-        refused = {
-            Refusal.NO_HEAD: layout,
-            Refusal.BAD_WORD: SHEET_A + [HEAD] + layout,
-            Refusal.TOO_MANY: [HEAD] + slots + layout,
-            Refusal.SLOTS_NOT_RISING: [HEAD, REST[1], REST[0]] + layout,
-            Refusal.SITE_BEYOND_WIDTH: [0x10008005] + REST + layout,
-            Refusal.EQUAL_X: SHEET_A + [0x40010006] + layout,
-            Refusal.TOO_MANY_BUDGETS: [HEAD, 0x30000007, 0x30000008] + layout,
-            Refusal.BAD_LAYOUT: SHEET_A,
-            Refusal.UNLAWFUL: SHEET_A + list(Layout(2, 18, (0, 0, 2)).words()),
-        }
-        for refusal, stored in refused.items():
+        for refusal, stored in REFUSED.items():
             with self.subTest(refusal=refusal):
                 self.assert_refused(refusal, strokes, stored)
                 self.assert_refused(refusal, stroke_at, stored, 0)
@@ -92,8 +102,29 @@ class Drawn(unittest.TestCase):
         for place, error in ((-1, OverflowError), (2**64, OverflowError), (0.0, TypeError), ("0", TypeError)):
             self.assertRaises(error, stroke_at, STORED_A, place)
 
+    def test_page_of_a(self):
+        self.assertEqual(page(STORED_A), "".join(PAGE_A))
+        # Both backbones have 8 units.
+        two_sided = [0x18008008] + REST + list(Layout(2, 25, (0, 0, 2)).words())
+        slots = ["  0  0  2        2       14", "  2  1  1        8       11"]
+        expected = [line.ljust(40) + "\n" for line in slots] + PAGE_A[2:5] + [PAGE_A[5].replace("19", "25")]
+        self.assertEqual(page(two_sided), "".join(expected))
+
+    def test_page_with_zeros(self):
+        one = [HEAD, 0x20000000, 0x300000FF, 0x40000000, 0x80200008, 0x90000000]
+        lines = ["  0  0  1        0        8", "  drop   0   0        0", "total    1                8"]
+        self.assertEqual(page(one).splitlines(), [line.ljust(40) for line in lines])
+        self.assertEqual(page([HEAD, 0x80000000]), "total    0                0".ljust(40) + "\n")
+
+    def test_refusals_of_pages(self):
+        for refusal, stored in REFUSED.items():
+            with self.subTest(refusal=refusal):
+                self.assert_refused(refusal, page, stored)
+                self.assert_refused(refusal, page, stored, bytearray())
+        self.assert_refused(Refusal.NO_HEAD, page, [])
+
     def test_charges(self):
-        # Three sites off their backbones, so a charge adds three times itself; strokes stay.
+        # Three sites off their backbones, so a charge adds three times itself; strokes stay, and so do a page's drops.
         for charge in (0, 5, 16383):
             sheet, layout = [HEAD, 5 << 28 | charge] + REST, Layout(2, 19 + 3 * charge, (0, 0, 2))
             stored = sheet + list(layout.words())
@@ -101,6 +132,9 @@ class Drawn(unittest.TestCase):
             self.assertEqual(make(sheet), layout)
             self.assertIsNone(judge(stored))
             self.assertEqual(strokes(stored), BONES_A + DROPS_A)
+            lines = page(stored).splitlines(keepends=True)
+            self.assertEqual([int(line[19:27]) for line in lines[:2]], [12 + 2 * charge, 7 + charge])
+            self.assertEqual((lines[2:5], int(lines[5][19:27])), (PAGE_A[2:5], 19 + 3 * charge))
             two_sided = [0x18008008] + sheet[1:] + list(Layout(2, 25 + 3 * charge, (0, 0, 2)).words())
             self.assertEqual(twin(two_sided), tuple(stored))
         self.assertEqual(judge([HEAD, 0x50000005] + STORED_A[1:]), Rule.TRUE_NUMBERS)

@@ -1,10 +1,10 @@
-"""Random tiny sheets: the maker beside a search over all layouts, the judge beside the rules, twins and strokes."""
+"""Random tiny sheets: the maker beside a search over all layouts, the judge beside the rules, twins, strokes and pages."""
 
 import unittest
 from collections import Counter
 from random import Random
 
-from backbone import Layout, Refusal, Refused, judge, make, strokes, twin
+from backbone import Layout, Refusal, Refused, judge, make, page, strokes, twin
 
 from . import plain_search
 from .plain_search import RULES_BUT_AT_TIPS, UNBOUNDED, Sheet, Site, best, broken_rule, count_and_length
@@ -63,8 +63,9 @@ class Search(unittest.TestCase):
             self.assertLessEqual(expected.length, found[1])
         self.assertGreater(min(met.values()), SHEETS // 50, met)
 
-    def test_strokes(self):
-        random, met = Random(19), Counter()
+    def lawful(self, seed, tool):
+        """Sheets with lawful ties, and their words; those with other ties are refused by the tool."""
+        random, met = Random(seed), Counter()
         for _ in range(STORED):
             sheet = tiny_sheet(random)
             ties = tuple(random.randrange(len(sheet.slots)) for _ in sheet.sites)
@@ -72,18 +73,31 @@ class Search(unittest.TestCase):
             stored = sheet.words() + list(Layout(*numbers, ties).words())
             rule = broken_rule(sheet, ties, numbers)
             met[sheet.two_sided, rule is None] += 1
-            if rule is not None:
-                with self.assertRaises(Refused) as raised:
-                    strokes(stored)
-                self.assertIs(raised.exception.refusal, Refusal.UNLAWFUL)
+            if rule is None:
+                yield sheet, ties, stored
                 continue
+            with self.assertRaises(Refused) as raised:
+                tool(stored)
+            self.assertIs(raised.exception.refusal, Refusal.UNLAWFUL)
+        self.assertGreater(min(met.values()), STORED // 300, met)
+
+    def test_strokes(self):
+        for sheet, ties, stored in self.lawful(19, strokes):
             found = strokes(stored)
             self.assertEqual(found, plain_search.strokes(sheet, ties), sheet)
             lengths = (abs(stroke.x1 - stroke.x0) + abs(stroke.y1 - stroke.y0) for stroke in found)
             drops = sum(stroke.kind == "drop" for stroke in found)
             length = 8 * sum(lengths) + (sheet.charge or 0) * drops
-            self.assertEqual((len(found) - drops, length), numbers, sheet)
-        self.assertGreater(min(met.values()), STORED // 300, met)
+            self.assertEqual((len(found) - drops, length), count_and_length(sheet, ties), sheet)
+
+    def test_page(self):
+        for sheet, ties, stored in self.lawful(20, page):
+            found = page(stored)
+            self.assertEqual(found, plain_search.page(sheet, ties), sheet)
+            count, length = count_and_length(sheet, ties)
+            slots = found.splitlines()[:count]
+            self.assertEqual(sum(int(line[19:27]) for line in slots), length, sheet)
+            self.assertEqual(sum(int(line[7:9]) for line in slots), len(sheet.sites), sheet)
 
     def test_judge(self):
         random, met = Random(17), Counter()

@@ -65,7 +65,8 @@ class Words(unittest.TestCase):
         self.assertEqual(in_rust(Rule), meanings_in_rust("rule.rs"))
 
     def test_every_open_function_is_typed(self):
-        operations = (backbone.read, backbone.make, backbone.judge, backbone.twin, backbone.stroke_at, backbone.strokes)
+        tools = (backbone.twin, backbone.stroke_at, backbone.strokes, backbone.page)
+        operations = (backbone.read, backbone.make, backbone.judge) + tools
         for function in operations + (head, charge, slot, colour, site, Layout.from_words, Layout.words):
             with self.subTest(function=function.__name__):
                 names = [name for name in inspect.signature(function).parameters if name != "self"]
