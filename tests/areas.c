@@ -1,6 +1,6 @@
 /* The areas of the C interface: null pointers, lengths on both sides of what is needed, and every word of the areas
- * afterwards; the strokes of a stored sheet, which they leave as it is; a sheet with a charge; and a tip that is too near a
- * foreign site. Prints what does not hold, and ends with 1 if anything does not. */
+ * afterwards; the strokes of a stored sheet, which they leave as it is, and its page; a sheet with a charge; and a tip that
+ * is too near a foreign site. Prints what does not hold, and ends with 1 if anything does not. */
 #include "backbone.h"
 
 #include <stdio.h>
@@ -34,6 +34,15 @@ static const backbone_stroke strokes[] = {
 };
 enum { STROKES = sizeof strokes / sizeof *strokes };
 
+/* Its page: slot 0 has a backbone of 6 and drops of 2 and 4, slot 2 a backbone of 4 and a drop of 3. */
+static const char page_of_a[] = "  0  0  2        2       12             \n"
+                                "  2  1  1        8        7             \n"
+                                "  drop   0   0       -2                 \n"
+                                "  drop   1   0       -4                 \n"
+                                "  drop   2   2       +3                 \n"
+                                "total    2               19             \n";
+enum { PAGE = sizeof page_of_a - 1 };
+
 static int failures = 0;
 
 static void expect(int holds, const char *what) {
@@ -44,16 +53,20 @@ static void expect(int holds, const char *what) {
 }
 
 /* An area of its own on the heap, so that a tool that looks for accesses past its end finds them. */
-static uint32_t *dirty(size_t words) {
-    uint32_t *area = malloc(words * sizeof *area);
-    if (area == NULL && words > 0) {
+static void *dirty_bytes(size_t bytes) {
+    void *area = malloc(bytes);
+    if (area == NULL && bytes > 0) {
         fputs("no memory\n", stderr);
         exit(3);
     }
-    if (words > 0) {
-        memset(area, DIRT, words * sizeof *area);
+    if (bytes > 0) {
+        memset(area, DIRT, bytes);
     }
     return area;
+}
+
+static uint32_t *dirty(size_t words) {
+    return dirty_bytes(words * sizeof(uint32_t));
 }
 
 static int all_are(const uint32_t *area, size_t from, size_t to, uint32_t word) {
@@ -67,12 +80,20 @@ static int is_dirty(const uint32_t *area, size_t from, size_t to) {
     return all_are(area, from, to, DIRT * 0x01010101u);
 }
 
+static int are_dirty_bytes(const uint8_t *area, size_t from, size_t to) {
+    while (from < to && area[from] == DIRT) {
+        from++;
+    }
+    return from == to;
+}
+
 static void null_lists(void) {
     expect(backbone_read(NULL, 0).refusal == BACKBONE_NO_HEAD, "the reader refuses a null list with 1");
     expect(backbone_judge(NULL, 0).refusal == BACKBONE_NO_HEAD, "the judge refuses a null list with 1");
     expect(backbone_make(NULL, 0, NULL, 0, NULL, 0) == BACKBONE_NO_HEAD, "the maker refuses a null list with 1");
     expect(backbone_twin(NULL, 0, NULL, 0).refusal == BACKBONE_NO_HEAD, "the twin of a null list is refused with 1");
     expect(backbone_stroke_at(NULL, 0, 0).refusal == BACKBONE_NO_HEAD, "a stroke of a null list is refused with 1");
+    expect(backbone_page(NULL, 0, NULL, 0).refusal == BACKBONE_NO_HEAD, "the page of a null list is refused with 1");
 }
 
 /* What malloc gives for no words is null or not; both serve. */
@@ -204,17 +225,26 @@ static int is_refused(backbone_stroke stroke, uint8_t refusal) {
 }
 
 /* Sheet A with its best layout, in an area that ends with it. */
-static void strokes_of_a(void) {
+static uint32_t *stored_a(void) {
     uint32_t *stored = dirty(WORDS + ANSWER);
     memcpy(stored, sheet, sizeof sheet);
     memcpy(stored + WORDS, best, sizeof best);
+    return stored;
+}
+
+static int is_stored_a(const uint32_t *stored) {
+    return memcmp(stored, sheet, sizeof sheet) == 0 && memcmp(stored + WORDS, best, sizeof best) == 0;
+}
+
+static void strokes_of_a(void) {
+    uint32_t *stored = stored_a();
     for (size_t place = 0; place < STROKES; place++) {
         expect(same(backbone_stroke_at(stored, WORDS + ANSWER, place), strokes[place]), "a stroke of sheet A");
     }
     expect(is_refused(backbone_stroke_at(stored, WORDS + ANSWER, STROKES), BACKBONE_PAST_LAST_STROKE), "14");
     expect(is_refused(backbone_stroke_at(stored, WORDS + ANSWER, SIZE_MAX), BACKBONE_PAST_LAST_STROKE), "14 at the last place");
     expect(is_refused(backbone_stroke_at(stored, WORDS, 0), BACKBONE_BAD_LAYOUT), "a sheet without a layout has no strokes: 11");
-    expect(memcmp(stored, sheet, sizeof sheet) == 0 && memcmp(stored + WORDS, best, sizeof best) == 0, "strokes change no word");
+    expect(is_stored_a(stored), "strokes change no word");
     stored[WORDS]--;
     expect(is_refused(backbone_stroke_at(stored, WORDS + ANSWER, SIZE_MAX), BACKBONE_UNLAWFUL), "13 comes before 14");
     free(stored);
@@ -241,6 +271,71 @@ static void strokes_of_charged(void) {
     free(stored);
 }
 
+static void page_with_spare(size_t spare) {
+    uint32_t *stored = stored_a();
+    uint8_t *area = dirty_bytes(PAGE + spare);
+    backbone_written made = backbone_page(stored, WORDS + ANSWER, area, PAGE + spare);
+    expect(made.refusal == BACKBONE_ACCEPTED && made.written == PAGE, "the page has 6 lines of 41 bytes");
+    expect(memcmp(area, page_of_a, PAGE) == 0, "the page of sheet A");
+    expect(are_dirty_bytes(area, PAGE, PAGE + spare), "what is past the page is left");
+    expect(is_stored_a(stored), "the page changes no word");
+    free(stored);
+    free(area);
+}
+
+/* A page may begin at any byte. */
+static void page_at_odd_bytes(void) {
+    uint32_t *stored = stored_a();
+    for (size_t from = 1; from < sizeof(uint32_t); from++) {
+        uint8_t *area = dirty_bytes(from + PAGE);
+        expect(backbone_page(stored, WORDS + ANSWER, area + from, PAGE).written == PAGE, "a page at an odd byte");
+        expect(are_dirty_bytes(area, 0, from) && memcmp(area + from, page_of_a, PAGE) == 0, "a page at an odd byte");
+        free(area);
+    }
+    free(stored);
+}
+
+static int is_not_written(backbone_written made, uint8_t refusal) {
+    return made.refusal == refusal && made.written == 0;
+}
+
+static void refused_pages(void) {
+    uint32_t *stored = stored_a();
+    uint8_t *area = dirty_bytes(PAGE);
+    size_t words = WORDS + ANSWER;
+    expect(is_not_written(backbone_page(stored, WORDS, area, PAGE), BACKBONE_BAD_LAYOUT), "a sheet without a layout has no page: 11");
+    expect(is_not_written(backbone_page(stored, words, area, PAGE - 1), BACKBONE_ANSWER_TOO_SHORT), "9 with an area of a byte less");
+    expect(is_not_written(backbone_page(stored, words, NULL, 0), BACKBONE_ANSWER_TOO_SHORT), "9 with a null area");
+    stored[WORDS]--;
+    expect(is_not_written(backbone_page(stored, words, NULL, 0), BACKBONE_UNLAWFUL), "13 comes before 9");
+    expect(is_not_written(backbone_page(stored, words, area, PAGE), BACKBONE_UNLAWFUL), "13");
+    expect(are_dirty_bytes(area, 0, PAGE), "refusals leave the page's area");
+    free(stored);
+    free(area);
+}
+
+/* Sheet A's page with other lengths, of two digits each: of slot 0, of slot 2, and of both. */
+static int has_page(const uint32_t *stored, size_t words, const char *of_0, const char *of_2, const char *total) {
+    enum { TENS = 25, LINE = BACKBONE_PAGE_LINE_BYTES };
+    uint8_t *area = dirty_bytes(BACKBONE_PAGE_BYTES);
+    char page[sizeof page_of_a];
+    memcpy(page, page_of_a, sizeof page);
+    memcpy(page + TENS, of_0, 2);
+    memcpy(page + LINE + TENS, of_2, 2);
+    memcpy(page + 5 * LINE + TENS, total, 2);
+    backbone_written made = backbone_page(stored, words, area, BACKBONE_PAGE_BYTES);
+    int holds = made.refusal == BACKBONE_ACCEPTED && made.written == PAGE && memcmp(area, page, PAGE) == 0;
+    free(area);
+    return holds;
+}
+
+static void other_pages(void) {
+    uint32_t *stored = charged(sheet, best);
+    expect(has_page(two_sided, WORDS + ANSWER, "14", "11", "25"), "the page of A two-sided: both backbones have 8 units");
+    expect(has_page(stored, CHARGED + ANSWER, "22", "12", "34"), "the page of A with a charge: 5 more for each drop");
+    free(stored);
+}
+
 /* Sheet A with another head and the layout of slots 2, 2 and 0, which has length 19. */
 static uint32_t *with_head(uint32_t head) {
     static const uint32_t other[ANSWER] = {0x80400013, 0x90000002, 0x90000002, 0x90000000};
@@ -258,6 +353,7 @@ static void near_tip(void) {
     expect(backbone_judge(stored, WORDS + ANSWER).rule == 5, "with gap 3 the tip breaks rule 5");
     expect(is_refused(backbone_stroke_at(stored, WORDS + ANSWER, 0), BACKBONE_UNLAWFUL), "a tip too near: no strokes");
     expect(backbone_twin(stored, WORDS + ANSWER, NULL, 0).refusal == BACKBONE_UNLAWFUL, "a tip too near: no twin");
+    expect(backbone_page(stored, WORDS + ANSWER, NULL, 0).refusal == BACKBONE_UNLAWFUL, "a tip too near: no page");
     expect(backbone_make(stored, WORDS, work, WORK, answer, ANSWER) == BACKBONE_NO_LAYOUT, "A with gap 3 has no layout");
     expect(all_are(work, 0, WORK, 0), "the needed work words are zero after 10");
     expect(is_dirty(answer, 0, ANSWER), "10 leaves the answer area");
@@ -284,6 +380,11 @@ int main(void) {
     charged_twin();
     refused_charges();
     strokes_of_charged();
+    page_with_spare(0);
+    page_with_spare(SPARE);
+    page_at_odd_bytes();
+    refused_pages();
+    other_pages();
     near_tip();
     return failures == 0 ? 0 : 1;
 }
