@@ -2,7 +2,7 @@
 //! program. Writes Markdown to standard output.
 //!
 //! Answers are compared as they come: where two differ, the run ends with an error. Sections are left out by naming
-//! those that are wanted: maker, growth, program, judge, twin, strokes.
+//! those that are wanted: maker, growth, program, judge, twin, strokes, page.
 
 mod integer_program;
 mod machine;
@@ -14,7 +14,7 @@ mod word_loops;
 use integer_program::{Outcome, Solver};
 use model::program::WORK_WORDS;
 use model::sheet::Sheet;
-use model::{maker, rules, search, strokes, twin};
+use model::{maker, page, rules, search, strokes, twin};
 use sheets::{Named, NamedStored};
 use std::hint::black_box;
 use std::time::Duration;
@@ -135,48 +135,71 @@ fn print_judges(named: &[Named]) {
     }
 }
 
-fn print_twins() {
-    println!("\n## The twin\n");
-    println!("| stored sheet | n | m | words | library | safe Rust | library / Rust |");
+/// The head of a table of a tool over stored sheets, of which each answer has a size.
+fn print_tool(title: &str, size: &str) {
+    println!("\n## {title}\n");
+    println!("| stored sheet | n | m | {size} | library | safe Rust | library / Rust |");
     println!("|---|---|---|---|---|---|---|");
-    for NamedStored { name, sheet, words } in sheets::two_sided() {
+}
+
+/// A row of such a table.
+fn print_stored(NamedStored { name, sheet, .. }: &NamedStored, size: usize, [library, plain]: [Duration; 2]) {
+    let (sites, slots) = (sheet.sites.len(), sheet.slots.len());
+    let times = format!("{} | {} | {}", show(library), show(plain), ratio(library, plain));
+    println!("| {name} | {sites} | {slots} | {size} | {times} |");
+}
+
+fn print_twins() {
+    print_tool("The twin", "words");
+    for stored in sheets::two_sided() {
+        let words = &stored.words;
         let (mut area, mut plain_area) = (vec![1; words.len()], vec![1; words.len()]);
-        let [library, plain] =
-            race([&mut || assert_eq!(backbone::twin(black_box(&words), &mut area), Ok(words.len())), &mut || {
-                assert_eq!(twin::twin(black_box(&words), &mut plain_area), (0, words.len()))
+        let times =
+            race([&mut || assert_eq!(backbone::twin(black_box(words), &mut area), Ok(words.len())), &mut || {
+                assert_eq!(twin::twin(black_box(words), &mut plain_area), (0, words.len()))
             }]);
-        assert_eq!(area, plain_area, "the library and plain Rust differ: {name}");
-        let (sites, slots, words) = (sheet.sites.len(), sheet.slots.len(), words.len());
-        let times = format!("{} | {} | {}", show(library), show(plain), ratio(library, plain));
-        println!("| {name} | {sites} | {slots} | {words} | {times} |");
+        assert_eq!(area, plain_area, "the library and plain Rust differ: {}", stored.name);
+        print_stored(&stored, words.len(), times);
     }
 }
 
 /// All strokes of a stored sheet, asked for one by one as a viewer does, until there are no more.
 fn print_strokes() {
-    println!("\n## The strokes\n");
-    println!("| stored sheet | n | m | strokes | library | safe Rust | library / Rust |");
-    println!("|---|---|---|---|---|---|---|");
-    for NamedStored { name, sheet, words } in sheets::drawn() {
+    print_tool("The strokes", "strokes");
+    for stored in sheets::drawn() {
+        let words = &stored.words;
         let (mut found, mut plain_found) = (Vec::new(), Vec::new());
-        let [library, plain] = race([
+        let times = race([
             &mut || {
                 found.clear();
-                found.extend((0..).map_while(|place| backbone::stroke_at(black_box(&words), place).ok()))
+                found.extend((0..).map_while(|place| backbone::stroke_at(black_box(words), place).ok()))
             },
             &mut || {
                 plain_found.clear();
-                plain_found.extend((0..).map_while(|place| strokes::stroke_at(black_box(&words), place).ok()))
+                plain_found.extend((0..).map_while(|place| strokes::stroke_at(black_box(words), place).ok()))
             },
         ]);
         let plainly = |stroke: &backbone::Stroke| {
             let ([from, to], is_drop) = (stroke.ends(), matches!(stroke, backbone::Stroke::Drop { .. }));
             strokes::Stroke { is_drop, ends: [from.x, from.y, to.x, to.y] }
         };
-        assert!(found.iter().map(plainly).eq(plain_found), "the library and plain Rust differ: {name}");
-        let (sites, slots, count) = (sheet.sites.len(), sheet.slots.len(), found.len());
-        let times = format!("{} | {} | {}", show(library), show(plain), ratio(library, plain));
-        println!("| {name} | {sites} | {slots} | {count} | {times} |");
+        assert!(found.iter().map(plainly).eq(plain_found), "the library and plain Rust differ: {}", stored.name);
+        print_stored(&stored, found.len(), times);
+    }
+}
+
+fn print_pages() {
+    print_tool("The page", "bytes");
+    for stored in sheets::drawn() {
+        let words = &stored.words;
+        let bytes = page::text(words).map_or(0, |text| text.len());
+        let (mut area, mut plain_area) = (vec![1; bytes], vec![1; bytes]);
+        let times =
+            race([&mut || assert_eq!(backbone::write_page(black_box(words), &mut area), Ok(bytes)), &mut || {
+                assert_eq!(page::page(black_box(words), &mut plain_area), (0, bytes))
+            }]);
+        assert_eq!(area, plain_area, "the library and plain Rust differ: {}", stored.name);
+        print_stored(&stored, bytes, times);
     }
 }
 
@@ -222,5 +245,8 @@ fn main() {
     }
     if is_asked("strokes") {
         print_strokes();
+    }
+    if is_asked("page") {
+        print_pages();
     }
 }

@@ -104,7 +104,7 @@ pub fn two_sided() -> Vec<NamedStored> {
     ]
 }
 
-/// Lawful stored sheets of either side; the last has as many strokes as a sheet can have.
+/// Lawful stored sheets of either side; the last has as many strokes, and as long a page, as a sheet can have.
 pub fn drawn() -> Vec<NamedStored> {
     let Named { sheet, .. } = example("", include_str!("../../../examples/tractor.txt"));
     vec![
@@ -149,6 +149,7 @@ fn stored_sheets_have_lawful_layouts() {
         assert_eq!(model::rules::judge(&words), (0, 0), "{name}");
     }
     assert_eq!(model::strokes::strokes(&most_strokes().words).map(|all| all.len()), Ok(64));
+    assert_eq!(model::page::text(&most_strokes().words).map(|text| text.len()), Ok(backbone::MOST_PAGE_BYTES));
 }
 
 /// All but the largest, which takes long.
