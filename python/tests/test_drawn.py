@@ -1,9 +1,11 @@
 """The format's drawn examples: sheet A, its heads, the judge on its layouts, its strokes and its page."""
 
 import unittest
+from pathlib import Path
 
 from backbone import Layout, Refusal, Refused, Rule, judge, make, page, read, stroke_at, strokes, twin
 
+ROOT = Path(__file__).resolve().parents[2]
 HEAD = 0x10008008
 REST = [0x20000002, 0x20000005, 0x20000008, 0x300000FF, 0x40008004, 0x40018006, 0x300000FF, 0x40010005]
 SHEET_A = [HEAD] + REST
@@ -11,14 +13,7 @@ STORED_A = SHEET_A + list(Layout(2, 19, (0, 0, 2)).words())
 BONES_A = [("bone", 0.25, 0.25, 1, 0.25), ("bone", 0.5, 1, 1, 1)]
 DROPS_A = [("drop", 0.25, 0.5, 0.25, 0.25), ("drop", 0.75, 0.75, 0.75, 0.25), ("drop", 0.5, 0.625, 0.5, 1)]
 # Slot 0 has a backbone of 6 and drops of 2 and 4, slot 2 a backbone of 4 and a drop of 3.
-PAGE_A = [
-    "  0  0  2        2       12             \n",
-    "  2  1  1        8        7             \n",
-    "  drop   0   0       -2                 \n",
-    "  drop   1   0       -4                 \n",
-    "  drop   2   2       +3                 \n",
-    "total    2               19             \n",
-]
+PAGE_A = (ROOT / "examples" / "a.page").read_text(encoding="ascii").splitlines(keepends=True)
 LAYOUT_A = STORED_A[9:]
 # What every tool over stored sheets refuses.
 REFUSED = {

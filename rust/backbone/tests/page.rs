@@ -11,14 +11,7 @@ const SHEETS: usize = 100_000;
 
 /// Sheet A with its best layout: slot 0 has sites 0 and 1, a backbone of 6 and drops of 2 and 4; slot 2 has site 2, a
 /// backbone of 4 and a drop of 3.
-const PAGE_A: &str = concat!(
-    "  0  0  2        2       12             \n",
-    "  2  1  1        8        7             \n",
-    "  drop   0   0       -2                 \n",
-    "  drop   1   0       -4                 \n",
-    "  drop   2   2       +3                 \n",
-    "total    2               19             \n",
-);
+const PAGE_A: &str = include_str!("../../../examples/a.page");
 
 /// The page's lines without the blanks at their ends, each of which has 40 columns.
 fn lines(stored: &[u32]) -> Vec<String> {
@@ -47,25 +40,19 @@ fn sheet_a_by_hand() {
     assert_eq!(lines(&three), expected);
 }
 
-/// Both backbones have 8 units; drops are as before.
+/// Two-sided both backbones have 8 units; with a charge of 5 each drop adds 5 to a length. Neither is in the drops.
 #[test]
-fn sheet_a_two_sided_by_hand() {
-    let stored = stored_a(0x18008008, &[0x80400019, 0x90000000, 0x90000000, 0x90000002]);
-    let found = lines(&stored);
-    assert_eq!(found[..2], ["  0  0  2        2       14", "  2  1  1        8       11"]);
-    assert_eq!(found[2..5], lines(&stored_a(0x10008008, &LAYOUT_A))[2..5]);
-    assert_eq!(found[5..], ["total    2               25"]);
-}
-
-/// A charge of 5 for each of the three drops is in the lengths, and not in the drops.
-#[test]
-fn sheet_a_with_a_charge() {
+fn sheet_a_with_other_lengths() {
+    let two_sided = stored_a(0x18008008, &[0x80400019, 0x90000000, 0x90000000, 0x90000002]);
     let layout = [0x80400013 + 15, 0x90000000, 0x90000000, 0x90000002];
     let charged = [&SHEET_A[..1], &[0x50000005], &SHEET_A[1..], &layout].concat();
-    let found = lines(&charged);
-    assert_eq!(found[..2], ["  0  0  2        2       22", "  2  1  1        8       12"]);
-    assert_eq!(found[2..5], lines(&stored_a(0x10008008, &LAYOUT_A))[2..5]);
-    assert_eq!(found[5..], ["total    2               34"]);
+    for (stored, slot_0, slot_2, total) in [(two_sided, 14, 11, 25), (charged, 22, 12, 34)] {
+        let slots = [format!("  0  0  2        2       {slot_0}"), format!("  2  1  1        8       {slot_2}")];
+        let found = lines(&stored);
+        assert_eq!(found[..2], slots);
+        assert_eq!(found[2..5], lines(&stored_a(0x10008008, &LAYOUT_A))[2..5]);
+        assert_eq!(found[5..], [format!("total    2               {total}")]);
+    }
 }
 
 /// A drop of zero has no sign and no charge; a backbone of no length has a line; the head alone has the total.

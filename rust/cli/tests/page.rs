@@ -12,14 +12,7 @@ use std::ffi::OsStr;
 
 /// Document 01's sheet A with its best layout: slot 0 has a backbone of 6 and drops of 2 and 4, slot 2 a backbone of 4 and
 /// a drop of 3.
-const PAGE_A: &str = concat!(
-    "  0  0  2        2       12             \n",
-    "  2  1  1        8        7             \n",
-    "  drop   0   0       -2                 \n",
-    "  drop   1   0       -4                 \n",
-    "  drop   2   2       +3                 \n",
-    "total    2               19             \n",
-);
+const PAGE_A: &str = include_str!("../../../examples/a.page");
 
 /// A run that printed this and said nothing else.
 fn printed(text: &str) -> Run {

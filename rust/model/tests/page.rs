@@ -16,14 +16,7 @@ fn sheet_a_by_hand() {
         0x10008008, 0x20000002, 0x20000005, 0x20000008, 0x300000FF, 0x40008004, 0x40018006, 0x300000FF, 0x40010005,
         0x80400013, 0x90000000, 0x90000000, 0x90000002,
     ];
-    let expected = concat!(
-        "  0  0  2        2       12             \n",
-        "  2  1  1        8        7             \n",
-        "  drop   0   0       -2                 \n",
-        "  drop   1   0       -4                 \n",
-        "  drop   2   2       +3                 \n",
-        "total    2               19             \n",
-    );
+    let expected = include_str!("../../../examples/a.page");
     assert_eq!(text(&stored).as_deref(), Ok(expected));
 }
 
