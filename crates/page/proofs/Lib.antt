@@ -4,3 +4,4 @@ mod Numbered
 mod Joined
 pub mod Promise
 mod Writing
+mod Examples
