@@ -1,6 +1,6 @@
-// The judge and the strokes on stored sheets made by hand. Each line of the input is a case: a name, a colon, and words in hexadecimal, a
-// blank before each; a line that begins with # is a remark. What must be given is in the file stdout, worked out from documents 01 and 02:
-// the verdict, then each stroke, by its ends in units, up to the place that is refused.
+// The judge, the strokes and the page on stored sheets made by hand. Each line of the input is a case: a name, a colon, and words in
+// hexadecimal, a blank before each; a line that begins with # is a remark. What must be given is in the file stdout, worked out from documents
+// 01 and 02: the verdict, then each stroke, by its ends in units, up to the place that is refused, then the page, if there is one.
 use cases::CASE_WORDS;
 use cases::place_of;
 use cases::print_number;
@@ -9,6 +9,7 @@ use judge::Verdict;
 use judge::judge_layout;
 use libc::STDIN_FILENO;
 use libc::STDOUT_FILENO;
+use page::write_page;
 use points::in_points;
 use points::stroke::End;
 use points::stroke::Stroke;
@@ -16,6 +17,9 @@ use strokes::stroke_at;
 
 // More places than a stored sheet has strokes: at most a backbone and a drop for each of 32 sites.
 const PLACES: usize = 65;
+
+// The bytes of the longest page: 41 for each of 32 labels and 32 sites, and for the last line.
+const PAGE_BYTES: usize = 2665;
 
 // Above the greatest x, y, height or width.
 const NUMBER_TOP: u32 = 16384;
@@ -81,11 +85,25 @@ fn print_strokes(stored: &[u32]) {
     }
 }
 
+// Puts a page into an area and prints it; a refusal prints nothing.
+fn put_page(stored: &[u32], page: &mut [u8]) {
+    let size = write_page(stored, page).written as usize;
+    if size <= page.len() {
+        io::write_all(STDOUT_FILENO, &page[..size]);
+    }
+}
+
+fn print_page(stored: &[u32]) {
+    let mut page = [0u8; PAGE_BYTES];
+    put_page(stored, &mut page);
+}
+
 fn try_line(line: &[u8]) {
     let mut words = [0u32; CASE_WORDS];
     let n = take_case(line, &mut words);
     print_verdict(judge_layout(&words[0..n]));
     print_strokes(&words[0..n]);
+    print_page(&words[0..n]);
 }
 
 fn try_lines(text: &[u8]) {
