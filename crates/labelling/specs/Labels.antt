@@ -35,9 +35,12 @@ shareAt s js i = siteShare s (heightOf s (getD js i 0)) ((siteAt s i) .y)
 abbrev pub labelShares : Sheet → (ties : List ℕ) → (slot : ℕ) → ℕ
 labelShares s js k = sumAt k (shareAt s js) js (length (s .sites))
 
--- a label's own length: its backbone's length plus its sites' shares
+-- a label's own length: its backbone's length, W less the left end, plus its sites' shares
+abbrev pub ownLength : (width left shares : ℕ) → ℕ
+ownLength w e l = (w - e) + l
+
 abbrev pub labelLength : Sheet → (ties : List ℕ) → (slot : ℕ) → ℕ
-labelLength s js k = (s .width - leftEnd s js k) + labelShares s js k
+labelLength s js k = ownLength (s .width) (leftEnd s js k) (labelShares s js k)
 
 -- WHAT IS PROMISED
 -- the sum of a number of each used slot

@@ -12,7 +12,7 @@ use Rattle.sheet.specs.Limits.{mostSites, mostShare, topWord}
 use Rattle.sheet.specs.Sheet.{Sheet}
 use Rattle.labelling.specs.Layout.{shareBy, siteAt, leftEnd, tiesIn, layoutBody, layoutTies}
 use Rattle.labelling.specs.Counted.{sumBefore}
-use Rattle.labelling.specs.Labels.{sumAt, colourBefore, shareAt}
+use Rattle.labelling.specs.Labels.{sumAt, colourBefore, shareAt, ownLength}
 use Rattle.labelling.proofs.Counted.{sum-le}
 use Rattle.labelling.proofs.Distances.{share-le}
 use Rattle.words.specs.declared.tied.Head.{Head}
@@ -21,7 +21,6 @@ use Rattle.decoding.specs.declared.Numbers.{Numbers}
 use Rattle.layouts.specs.Model.{Low}
 use Rattle.layouts.proofs.Fitting.{fits-read, low-read}
 use Rattle.layouts.proofs.Read.{decoded-read, sites-long, body-long, sites-few}
-use Rattle.page_lines.specs.Lines.{ownLength}
 use Rattle.page_lines.specs.declared.lines.Label.{Label}
 use Rattle.page.specs.declared.labels.Sums.{Sums}
 use Rattle.page.specs.Labels.{SitesFit, withSite, sumsOn, sumsAt, labelAt}

@@ -9,34 +9,42 @@ use Rattle.labelling.specs.Layout.{isUsed, usedFrom}
 use Rattle.text.proofs.Written.{Put, put-more}
 use Rattle.page.specs.Page.{numbersFrom, joined}
 
--- A LINE MORE of the slots, of the sites
+-- THE LINES of the used slots among m, from slot k on; of n sites, from site i on
+abbrev pub slotsFrom : (line : ℕ → List ℕ) → (ties : List ℕ) → (m k : ℕ) → List ℕ
+slotsFrom f js m k = joined (map f (usedFrom k (m - k) js))
+
+abbrev pub sitesFrom : (line : ℕ → List ℕ) → (n i : ℕ) → List ℕ
+sitesFrom f n i = joined (map f (numbersFrom i (n - i)))
+
 module _ (f : ℕ → List ℕ) (js : List ℕ) (m k : ℕ) where
-  pub slots-more : k < m → joined (map f (usedFrom k (m - k) js)) ≡ cond (isUsed k js) (f k) [] ++ joined (map f (usedFrom (k + 1) (m - (k + 1)) js))
+  pub slots-all : {l : ℕ} → m ≡ l → slotsFrom f js m 0 ≡ joined (map f (usedFrom 0 l js))
+  slots-all e = let z : m - 0 ≡ m = omega arith in ap (λ (n : ℕ). joined (map f (usedFrom 0 n js))) (z ∙ e)
+
+  pub slots-more : k < m → slotsFrom f js m k ≡ cond (isUsed k js) (f k) [] ++ slotsFrom f js m (k + 1)
   unfolding joined usedFrom
   slots-more l =
       let e : m - k ≡ suc (m - (k + 1)) = omega arith in
       let a : k + 1 ≡ suc k = omega arith in
       rw (e, a) (by-test (isUsed k js) (λ q. rw q refl) (λ q. rw q refl))
 
-  pub slots-none : m ≤ k → joined (map f (usedFrom k (m - k) js)) ≡ []
+  pub slots-none : m ≤ k → slotsFrom f js m k ≡ []
   unfolding joined usedFrom
   slots-none l = let e : m - k ≡ 0 = omega arith in rw e refl
 
 module _ (f : ℕ → List ℕ) (n i : ℕ) where
-  pub sites-more : i < n → joined (map f (numbersFrom i (n - i))) ≡ f i ++ joined (map f (numbersFrom (i + 1) (n - (i + 1))))
+  pub sites-all : {l : ℕ} → n ≡ l → sitesFrom f n 0 ≡ joined (map f (numbersFrom 0 l))
+  sites-all e = let z : n - 0 ≡ n = omega arith in ap (λ (k : ℕ). joined (map f (numbersFrom 0 k))) (z ∙ e)
+
+  pub sites-more : i < n → sitesFrom f n i ≡ f i ++ sitesFrom f n (i + 1)
   unfolding joined numbersFrom
   sites-more l =
       let e : n - i ≡ suc (n - (i + 1)) = omega arith in
       let a : i + 1 ≡ suc i = omega arith in
       rw (e, a) refl
 
-  pub sites-none : n ≤ i → joined (map f (numbersFrom i (n - i))) ≡ []
+  pub sites-none : n ≤ i → sitesFrom f n i ≡ []
   unfolding joined numbersFrom
   sites-none l = let e : n - i ≡ 0 = omega arith in rw e refl
-
--- at a loop's start none is done
-pub none-from : (P : ℕ → Type 0) (n : ℕ) → P n → P (n - 0)
-none-from P n p = let e : n ≡ n - 0 = omega arith in subst P e p
 
 -- LINES, joined
 pub joined-more : (ks bs : List (List ℕ)) → joined (ks ++ bs) ≡ joined ks ++ joined bs

@@ -1,5 +1,5 @@
 -- A label's numbers, as a loop that has passed the sites before one has them, on a sheet's decoded numbers and the ties.
--- Assumes nothing: these are definitions. proofs/Labels shows that they are the label's own numbers.
+-- Assumes nothing: these are definitions. proofs/Counting shows that they are the label's own numbers.
 use mathlib.Core.Bool.{Bool, cond}
 use mathlib.Core.List.{List}
 use Prim.Native.Nat.{ℕ, _+_, _≤_}

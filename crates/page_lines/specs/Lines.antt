@@ -1,7 +1,7 @@
 -- The lines of a page, from their numbers: document 02, "A page for the print room". Assumes nothing: these are definitions.
 use mathlib.Core.Bool.{cond}
 use mathlib.Core.List.{List, [], _∷_, _++_}
-use Prim.Native.Nat.{ℕ, _+_, _*_, _-_}
+use Prim.Native.Nat.{ℕ, _+_, _*_}
 use lib.Dec.{ltb}
 use Rattle.labelling.specs.Layout.{apart}
 use Rattle.text.specs.Text.{ascii, decimal}
@@ -47,7 +47,3 @@ linesFor c n = c + n + 1
 
 abbrev pub bytesFor : (labels sites : ℕ) → ℕ
 bytesFor c n = lineBytes * linesFor c n
-
--- a label's own length: its backbone's, from its left end to W, and its sites' shares
-abbrev pub ownLength : (width left shares : ℕ) → ℕ
-ownLength w e l = (w - e) + l

@@ -2,11 +2,13 @@
 ghost use mathlib.Core.Path.{_≡_};
 ghost use Prim.Native.Nat.{_+_, _<_};
 ghost use Rattle.sheet.specs.Limits.{topWord};
-ghost use Rattle.page_lines.specs.Lines.{bytesFor, ownLength};
+ghost use Rattle.labelling.specs.Labels.{ownLength};
+ghost use Rattle.page_lines.specs.Lines.{bytesFor};
+use crate::columns::LINE_COLUMNS;
 use words::monus;
 
-// A line has 40 columns and a line feed.
-const LINE_BYTES: usize = 41;
+// A line's columns and its line feed.
+const LINE_BYTES: usize = LINE_COLUMNS + 1;
 
 // A page has a line for each label and each site, and the last.
 pub fn bytes_for(labels: usize, sites: usize) -> usize

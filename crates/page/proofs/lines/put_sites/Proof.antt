@@ -1,26 +1,25 @@
 use mathlib.Core.Path.{subst}
-use mathlib.Core.List.{map}
+use mathlib.Core.List.{List}
 use Rattle.labelling.specs.Layout.{layoutTies}
 use Rattle.decoding.specs.Decoding.{sheetBy}
 use Rattle.layouts.proofs.Read.{sites-long, sites-few}
 use Rattle.text.proofs.Written.{Put, Left, left-all, left-more, left-none}
-use Rattle.page.specs.Page.{siteLineOf, numbersFrom, joined}
-use Rattle.page.proofs.Texts.{sites-more, sites-none, none-from}
+use Rattle.page.specs.Page.{siteLineOf}
+use Rattle.page.proofs.Texts.{sitesFrom, sites-all, sites-more, sites-none}
 use Prim.Native.Nat.{ℕ, _-_}
 use native.Mathlib.Omega.{arith}
 use Rattle.page.proofs.lines.put_sites.Statement.{statement}
 use Rattle.page.proofs.lines.put_sites.Tie as tie
 
 abbrev Inv-loop : tie.InvT-loop
-Inv-loop page₀ at numbers layout past₀ i₀ page past i = Left page₀ at (joined (map (siteLineOf (sheetBy numbers) (layoutTies layout)) (numbersFrom 0 (numbers .sites)))) page past (joined (map (siteLineOf (sheetBy numbers) (layoutTies layout)) (numbersFrom i (numbers .sites - i))))
+Inv-loop page₀ at numbers layout past₀ i₀ page past i =
+    Left page₀ at (sitesFrom (siteLineOf (sheetBy numbers) (layoutTies layout)) (numbers .sites) 0) page past (sitesFrom (siteLineOf (sheetBy numbers) (layoutTies layout)) (numbers .sites) i)
 
 abbrev μ-loop : tie.MeasureT-loop
 μ-loop page₀ at numbers layout past₀ i₀ page past i = numbers .sites - i
 
 loop-holds : tie.Need-loop-holds Inv-loop μ-loop
-loop-holds c =
-    let a = c .before .before .args in
-    none-from (λ (n : ℕ). Left (a .page .now) (a .at) (joined (map (siteLineOf (sheetBy (a .numbers)) (layoutTies (a .layout .now))) (numbersFrom 0 (a .numbers .sites)))) (a .page .now) (a .at) (joined (map (siteLineOf (sheetBy (a .numbers)) (layoutTies (a .layout .now))) (numbersFrom 0 n)))) (a .numbers .sites) (left-all _ _ _)
+loop-holds c = left-all _ _ _
 
 put-site-requires : tie.Need-put-site-requires Inv-loop μ-loop
 put-site-requires c κs =
@@ -50,7 +49,7 @@ returns c =
     let a = c .before .before .before .before .before .args in
     let l = c .before .before .loop in
     let f = siteLineOf (sheetBy (a .numbers)) (layoutTies (a .layout .now)) in
-    subst (λ (n : ℕ). Put (a .page .now) (l .page) (a .at) (l .past) (joined (map f (numbersFrom 0 n)))) (sites-long (c .before .before .before .before .before .pre))
+    subst (λ (t : List ℕ). Put (a .page .now) (l .page) (a .at) (l .past) t) (sites-all f (a .numbers .sites) 0 (sites-long (c .before .before .before .before .before .pre)))
     (left-none (l .inv) (sites-none f (a .numbers .sites) (l .i) (c .if1 .left)))
 
 pub put-sites-spec : {M : Type 1} → statement M

@@ -1,13 +1,13 @@
 use mathlib.Core.Path.{subst}
+use mathlib.Core.List.{List}
 use mathlib.Core.Bool.{cond}
-use mathlib.Core.List.{map}
-use Rattle.labelling.specs.Layout.{isUsed, usedFrom, layoutTies}
+use Rattle.labelling.specs.Layout.{isUsed, layoutTies}
 use Rattle.decoding.specs.Decoding.{sheetBy}
 use Rattle.decoding.proofs.Fronts.{few}
 use Rattle.layouts.proofs.Read.{slots-long}
 use Rattle.text.proofs.Written.{Put, Left, left-all, left-more, left-none}
-use Rattle.page.specs.Page.{slotLineOf, joined}
-use Rattle.page.proofs.Texts.{slots-more, slots-none, none-from}
+use Rattle.page.specs.Page.{slotLineOf}
+use Rattle.page.proofs.Texts.{slotsFrom, slots-all, slots-more, slots-none}
 use mathlib.Core.List.{[]}
 use Prim.Native.Nat.{ℕ, _-_}
 use native.Mathlib.Omega.{arith}
@@ -16,15 +16,14 @@ use Rattle.page.proofs.lines.put_slots.Statement.{statement}
 use Rattle.page.proofs.lines.put_slots.Tie as tie
 
 abbrev Inv-loop : tie.InvT-loop
-Inv-loop page₀ at numbers layout past₀ slot₀ page past slot = Left page₀ at (joined (map (slotLineOf (sheetBy numbers) (layoutTies layout)) (usedFrom 0 (numbers .slots) (layoutTies layout)))) page past (joined (map (slotLineOf (sheetBy numbers) (layoutTies layout)) (usedFrom slot (numbers .slots - slot) (layoutTies layout))))
+Inv-loop page₀ at numbers layout past₀ slot₀ page past slot =
+    Left page₀ at (slotsFrom (slotLineOf (sheetBy numbers) (layoutTies layout)) (layoutTies layout) (numbers .slots) 0) page past (slotsFrom (slotLineOf (sheetBy numbers) (layoutTies layout)) (layoutTies layout) (numbers .slots) slot)
 
 abbrev μ-loop : tie.MeasureT-loop
 μ-loop page₀ at numbers layout past₀ slot₀ page past slot = numbers .slots - slot
 
 loop-holds : tie.Need-loop-holds Inv-loop μ-loop
-loop-holds c =
-    let a = c .before .before .args in
-    none-from (λ (n : ℕ). Left (a .page .now) (a .at) (joined (map (slotLineOf (sheetBy (a .numbers)) (layoutTies (a .layout .now))) (usedFrom 0 (a .numbers .slots) (layoutTies (a .layout .now))))) (a .page .now) (a .at) (joined (map (slotLineOf (sheetBy (a .numbers)) (layoutTies (a .layout .now))) (usedFrom 0 n (layoutTies (a .layout .now)))))) (a .numbers .slots) (left-all _ _ _)
+loop-holds c = left-all _ _ _
 
 cast-put-slot : tie.Need-cast-put-slot Inv-loop μ-loop
 cast-put-slot c =
@@ -58,7 +57,7 @@ returns c =
     let l = c .before .before .loop in
     let js = layoutTies (a .layout .now) in
     let f = slotLineOf (sheetBy (a .numbers)) js in
-    subst (λ (n : ℕ). Put (a .page .now) (l .page) (a .at) (l .past) (joined (map f (usedFrom 0 n js)))) (slots-long (c .before .before .before .before .before .pre))
+    subst (λ (t : List ℕ). Put (a .page .now) (l .page) (a .at) (l .past) t) (slots-all f js (a .numbers .slots) 0 (slots-long (c .before .before .before .before .before .pre)))
     (left-none (l .inv) (slots-none f js (a .numbers .slots) (l .slot) (c .if1 .left)))
 
 pub put-slots-spec : {M : Type 1} → statement M
