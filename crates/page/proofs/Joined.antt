@@ -7,7 +7,7 @@ use native.Mathlib.Omega.{arith}
 use lib.ListN.{length, getD, length-append}
 use lib.Seq.{take-at, drop-append-add}
 use Rattle.labelling.specs.Layout.{isUsed, usedFrom}
-use Rattle.page_lines.specs.Columns.{lineBytes}
+use Rattle.sizes.specs.Pages.{lineBytes}
 use Rattle.page_lines.specs.Reading.{IsLine}
 use Rattle.page.specs.Page.{numbersFrom, joined}
 use Rattle.page.specs.Promise.{lineAt}

@@ -17,7 +17,8 @@ use Rattle.layouts.specs.Model.{amongBy}
 use Rattle.layouts.specs.declared.labels.Among.the-variants.{All}
 use Rattle.layouts.proofs.Fitting.{fits-read}
 use Rattle.layouts.proofs.Read.{decoded-read, sites-long, ties-long, body-sites, sites-few}
-use Rattle.page_lines.specs.Lines.{siteLine, totalLine, bytesFor}
+use Rattle.sizes.specs.Pages.{bytesFor}
+use Rattle.page_lines.specs.Lines.{siteLine, totalLine}
 use Rattle.page.specs.Page.{siteLineOf, lastLineOf}
 
 module _ {d : Numbers} {ls : List ℕ} (p : LayoutRead d ls) where

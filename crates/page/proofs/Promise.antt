@@ -16,8 +16,8 @@ use Rattle.labelling.proofs.Members.{used-at, used-from}
 use Rattle.labelling.proofs.Labels.{label-low, labels-add-up}
 use Rattle.labelling.proofs.Stored.{stored-accepted, stored-lawful, stored-ties}
 use Rattle.labelling.proofs.Words.{height-low, y-low, count-low, length-low}
-use Rattle.page_lines.specs.Columns.{lineBytes}
-use Rattle.page_lines.specs.Lines.{siteStart, linesFor, bytesFor}
+use Rattle.sizes.specs.Pages.{lineBytes, linesFor, bytesFor}
+use Rattle.page_lines.specs.Lines.{siteStart}
 use Rattle.page_lines.specs.Reading.{numberIn, IsLine}
 use Rattle.page_lines.proofs.EachLine.{SlotRead, slot-read, SiteRead, site-read, LastRead, last-read}
 use Rattle.page.specs.Page.{slotLineOf, siteLineOf, lastLineOf, numbersFrom, pageLines, pageOf, pageIn, pageSize}

@@ -17,7 +17,7 @@ use Rattle.judge.specs.declared.opened.Opened.{Opened}
 use Rattle.judge.specs.Opened.{storedOpened}
 use Rattle.judge.proofs.opened.Opening.{stored-numbers, stored-read}
 use Rattle.text.proofs.Written.{Put, written-front}
-use Rattle.page_lines.specs.Lines.{bytesFor}
+use Rattle.sizes.specs.Pages.{bytesFor}
 use Rattle.page.specs.Page.{pageOf, pageIn, pageSize, pageFault}
 use Rattle.page.proofs.Promise.{size-of, stored-long}
 

@@ -9,7 +9,7 @@ use Rattle.labelling.specs.Labels.{labelColour, labelSites, labelLength}
 use Rattle.labelling.specs.Tools.{toolFault, toolArea}
 use Rattle.faults.specs.declared.written.Written.{Written}
 use Rattle.faults.specs.Results.{writtenPost}
-use Rattle.page_lines.specs.Columns.{lineBytes}
+use Rattle.sizes.specs.Pages.{lineBytes}
 use Rattle.page_lines.specs.Lines.{slotLine, siteLine, totalLine}
 
 -- THE LINES

@@ -8,8 +8,8 @@ use Rattle.sheet.specs.Sheet.{sheetIn}
 use Rattle.labelling.specs.Layout.{siteAt, statedCount, statedLength, layoutTies, sheetPart, layoutPart, storedFault}
 use Rattle.labelling.specs.Counted.{sumBefore}
 use Rattle.labelling.specs.Labels.{labelColour}
-use Rattle.page_lines.specs.Columns.{lineBytes}
-use Rattle.page_lines.specs.Lines.{siteStart, linesFor, bytesFor}
+use Rattle.sizes.specs.Pages.{lineBytes, linesFor, bytesFor}
+use Rattle.page_lines.specs.Lines.{siteStart}
 use Rattle.page_lines.specs.Reading.{numberIn, IsLine}
 use Rattle.page.specs.Page.{pageIn}
 

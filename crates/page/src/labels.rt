@@ -11,7 +11,7 @@ use decoding::Numbers;
 use layouts::rule_6::left_end;
 use layouts::ties::slot_at;
 use page_lines::lines::Label;
-use page_lines::sizes::own_length;
+use rules::rule_6::own_length;
 use rules::rule_6::site_share;
 use words::TIES_AT;
 use words::get;

@@ -7,14 +7,14 @@ ghost use lib.ListN.{length};
 ghost use Rattle.labelling.specs.Layout.{countOf, layoutTies};
 ghost use Rattle.labelling.specs.Lawful.{RuleSix};
 ghost use Rattle.decoding.specs.Decoding.{sheetBy, LayoutRead};
-ghost use Rattle.page_lines.specs.Lines.{bytesFor};
+ghost use Rattle.sizes.specs.Pages.{bytesFor};
 ghost use Rattle.page.specs.Page.{pageArea, pagePost};
 use crate::lines::put_page;
 use decoding::Numbers;
 use faults::written::Written;
 use faults::written::written_fault;
 use judge::opened::open_stored;
-use page_lines::sizes::bytes_for;
+use sizes::page::bytes_for;
 use words::count_field;
 
 // How many bytes the page has. The labels are as many as the layout states, which is true.

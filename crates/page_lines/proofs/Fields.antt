@@ -3,9 +3,10 @@ use mathlib.Core.Path.{sym, subst}
 use mathlib.Core.List.{List, [], _∷_, _++_, append-assoc}
 use Prim.Native.Nat.{ℕ, _-_}
 use lib.ListN.{replicate}
+use Rattle.sizes.specs.Pages.{lineColumns}
 use Rattle.text.specs.Text.{blank, lineFeed}
 use Rattle.text.proofs.Written.{Put, put-more}
-use Rattle.page_lines.specs.Columns.{lineColumns, Field, fieldAfter, columnsAfter}
+use Rattle.page_lines.specs.Columns.{Field, fieldAfter, columnsAfter}
 
 -- a line's columns after so many, and its line feed
 abbrev pub Rest : (done : ℕ) → List Field → List ℕ

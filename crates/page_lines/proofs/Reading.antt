@@ -11,9 +11,10 @@ use lib.Seq.{take-at, drop-at, getD-at, drop-append-add}
 use borrow.Author.Tests.{ltb-true, ltb-false, eqb-false, le-leb, lt-ltb, ne-eqb}
 use Rattle.lists.proofs.Tests.{by-test, and-l, and-r, and-i, not-f}
 use Rattle.sheet.specs.Sheet.{all}
+use Rattle.sizes.specs.Pages.{lineColumns}
 use Rattle.text.specs.Text.{blank, lineFeed, zeroDigit, digitsBy, decimal, rightIn}
 use Rattle.text.proofs.Right.{right-long}
-use Rattle.page_lines.specs.Columns.{lineColumns, Field, startOf, widthOf, fieldAfter, columnsAfter, lineOf}
+use Rattle.page_lines.specs.Columns.{Field, startOf, widthOf, fieldAfter, columnsAfter, lineOf}
 use Rattle.page_lines.specs.Reading.{isDigit, valueFrom, columnsIn, numberIn, IsLine}
 
 -- THE FIELDS FIT: they rise, each has columns, and its text is no wider

@@ -2,14 +2,8 @@
 use mathlib.Core.List.{List, [], _∷_, _++_}
 use Prim.Native.Nat.{ℕ, _+_, _-_}
 use lib.ListN.{replicate}
+use Rattle.sizes.specs.Pages.{lineColumns}
 use Rattle.text.specs.Text.{blank, lineFeed, rightIn}
-
--- every line is 40 columns and a line feed
-abbrev pub lineColumns : ℕ
-lineColumns = 40
-
-abbrev pub lineBytes : ℕ
-lineBytes = lineColumns + 1
 
 -- a field: the columns from one to another, and the text that stands at their right
 pub record Field : Type 0 where

@@ -5,7 +5,7 @@ use Prim.Native.Nat.{ℕ, _+_, _*_}
 use lib.Dec.{ltb}
 use Rattle.labelling.specs.Layout.{apart}
 use Rattle.text.specs.Text.{ascii, decimal}
-use Rattle.page_lines.specs.Columns.{lineBytes, Field, field, lineOf}
+use Rattle.page_lines.specs.Columns.{Field, field, lineOf}
 
 -- A USED SLOT's line: slot in columns 1 to 3, colour in 5 and 6, its number of sites in 8 and 9, height in 11 to 18, the label's own length in
 -- 20 to 27
@@ -40,10 +40,3 @@ totalFields c l = field 1 5 (ascii "total") ∷ field 8 10 (decimal c) ∷ field
 
 abbrev pub totalLine : (count size : ℕ) → List ℕ
 totalLine c l = lineOf (totalFields c l)
-
--- THE PAGE'S SIZE in bytes: 41 for each line, one a used slot, one a site, and the last
-abbrev pub linesFor : (labels sites : ℕ) → ℕ
-linesFor c n = c + n + 1
-
-abbrev pub bytesFor : (labels sites : ℕ) → ℕ
-bytesFor c n = lineBytes * linesFor c n

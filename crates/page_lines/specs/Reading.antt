@@ -6,7 +6,7 @@ use Prim.Native.Nat.{ℕ, _+_, _*_, _-_, _<_}
 use lib.Dec.{leb, ltb}
 use lib.ListN.{length, getD, take, drop}
 use Rattle.text.specs.Text.{zeroDigit, lineFeed}
-use Rattle.page_lines.specs.Columns.{lineColumns, lineBytes}
+use Rattle.sizes.specs.Pages.{lineColumns, lineBytes}
 
 -- the columns of a line from one to another
 abbrev pub columnsIn : (from to : ℕ) → (line : List ℕ) → List ℕ

@@ -3,15 +3,14 @@ ghost use mathlib.Core.Path.{_≡_};
 ghost use mathlib.Core.List.{[], _∷_, _++_};
 ghost use Prim.Native.Nat.{_-_};
 ghost use lib.ListN.{replicate};
+ghost use Rattle.sizes.specs.Pages.{lineColumns};
 ghost use Rattle.text.specs.Text.{blank, lineFeed, decimal, written, pastOf};
-ghost use Rattle.page_lines.specs.Columns.{lineColumns, field, fieldAfter};
+ghost use Rattle.page_lines.specs.Columns.{field, fieldAfter};
+use sizes::page::LINE_COLUMNS;
 use text::monus;
 use text::put_blanks;
 use text::put_byte;
 use text::put_number;
-
-// Every line is so many columns and a line feed.
-pub const LINE_COLUMNS: usize = 40;
 
 // The columns from one to another, after so many that are written.
 pub struct Columns {

@@ -1,4 +1,6 @@
-// Sizes of an accepted sheet, each from numbers alone: whether a bound can bind, P, the work words.
+// Sizes, each from numbers alone: whether a bound can bind, P, the work words; the bytes of a page (page).
+pub mod page;
+
 ghost use mathlib.Core.Path.{_≡_};
 ghost use Prim.Native.Nat.{ℕ, _<_, _≤_};
 ghost use lib.ListN.{length, getD};
