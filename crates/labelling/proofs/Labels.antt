@@ -78,7 +78,7 @@ unfolding colourBefore
 colour-le f js k m zero h = omega arith
 colour-le f js k m (suc n) h = by-test (eqb (getD js n 0) k) (λ e. rw e (h n (omega arith))) λ e. rw e (colour-le f js k m n λ i l. h i (omega arith))
 
-sum-at-le : (f : ℕ → ℕ) (js : List ℕ) (k m : ℕ) → ((i : ℕ) → f i ≤ m) → (n : ℕ) → sumAt k f js n ≤ n * m
+pub sum-at-le : (f : ℕ → ℕ) (js : List ℕ) (k m : ℕ) → ((i : ℕ) → f i ≤ m) → (n : ℕ) → sumAt k f js n ≤ n * m
 sum-at-le f js k m h n =
     sum-le (λ i. cond (eqb (getD js i 0) k) (f i) 0) m (λ i. by-test (eqb (getD js i 0) k) (λ e. rw e (h i)) (λ e. rw e (omega arith))) n
 

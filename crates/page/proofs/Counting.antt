@@ -1,6 +1,6 @@
 -- A label's numbers, counted site by site, are its own. Assumes nothing.
 use mathlib.Core.Path.{_≡_, refl, _∙_, ap, ap₂, fun-ext, sym}
-use mathlib.Core.Bool.{Bool, cond}
+use mathlib.Core.Bool.{Bool}
 use mathlib.Core.List.{List}
 use Prim.Native.Nat.{ℕ, suc, _+_, _*_, _-_, _≤_, _<_}
 use native.Mathlib.Numerals.{add-one}
@@ -13,8 +13,8 @@ use Rattle.sheet.specs.Sheet.{Sheet}
 use Rattle.labelling.specs.Layout.{shareBy, siteAt, leftEnd, tiesIn, layoutBody, layoutTies}
 use Rattle.labelling.specs.Counted.{sumBefore}
 use Rattle.labelling.specs.Labels.{sumAt, colourBefore, shareAt, ownLength}
-use Rattle.labelling.proofs.Counted.{sum-le}
 use Rattle.labelling.proofs.Distances.{share-le}
+use Rattle.labelling.proofs.Labels.{sum-at-le}
 use Rattle.words.specs.declared.tied.Head.{Head}
 use Rattle.decoding.specs.Decoding.{sheetBy, LayoutRead}
 use Rattle.decoding.specs.declared.Numbers.{Numbers}
@@ -58,11 +58,8 @@ module _ (h : Head) (k : ℕ) (hs ys cs js : List ℕ) where
     share-low : (i : ℕ) → share i ≤ mostShare
     share-low i = share-le (h .charge) (getD hs (getD js i 0) 0) (getD ys i 0) (low .charge) (low .heights (getD js i 0)) (low .ys i)
 
-    at-low : (f : ℕ → ℕ) (m : ℕ) → ((i : ℕ) → f i ≤ m) → (n : ℕ) → sumAt k f js n ≤ n * m
-    at-low f m g n = sum-le (λ i. cond (eqb (getD js i 0) k) (f i) 0) m (λ i. by-test (eqb (getD js i 0) k) (λ e. rw e (g i)) (λ e. rw e (omega arith))) n
-
     pub sums-low : (n : ℕ) → n ≤ mostSites → (sumsOn h k hs ys cs js n .sites ≤ mostSites) × (sumsOn h k hs ys cs js n .shares ≤ mostSites * mostShare)
-    sums-low n l = (omega (arith, at-low (λ i. 1) 1 (λ i. omega arith) n), omega (arith, at-low share mostShare share-low n))
+    sums-low n l = (omega (arith, sum-at-le (λ i. 1) js k 1 (λ i. omega arith) n), omega (arith, sum-at-le share js k mostShare share-low n))
 
     -- with one more site they fit a word
     pub room : (i : ℕ) {t : Sums} {slot height l : ℕ} → i < mostSites → t ≡ sumsOn h k hs ys cs js i → slot ≡ getD js i 0 → height ≡ getD hs slot 0 → l ≡ shareBy (h .charge) height (getD ys i 0) →
