@@ -1,6 +1,6 @@
 -- THE PAGE'S PROMISE, KEPT. Assumes nothing.
 use mathlib.Core.Path.{_≡_, sym, _∙_, ap, subst, subst⁻¹}
-use mathlib.Core.List.{List, [], _∷_, _++_, map}
+use mathlib.Core.List.{List, [], _∷_, _++_}
 use Prim.Native.Nat.{ℕ, _+_, _*_, _≤_, _<_}
 use native.Mathlib.Omega.{arith}
 use lib.ListN.{length, getD, take, length-append, length-map, List·getD-append}
@@ -20,16 +20,16 @@ use Rattle.sizes.specs.Pages.{lineBytes, linesFor, bytesFor}
 use Rattle.page_lines.specs.Lines.{siteStart}
 use Rattle.page_lines.specs.Reading.{numberIn, IsLine}
 use Rattle.page_lines.proofs.EachLine.{SlotRead, slot-read, SiteRead, site-read, LastRead, last-read}
-use Rattle.page.specs.Page.{slotLineOf, siteLineOf, lastLineOf, numbersFrom, pageLines, pageOf, pageIn, pageSize}
+use Rattle.page.specs.Page.{slotLineOf, siteLineOf, slotLines, siteLines, lastLineOf, numbersFrom, pageLines, pageOf, pageIn, pageSize}
 use Rattle.page.specs.Promise.{lineAt, PageTrue, PagesAddUp, ColoursShared}
 use Rattle.page.proofs.Joined.{Each, each-more, each-one, each-used, each-number, each-at, joined-long, joined-at, numbers-long, numbers-at, map-at}
 
 module _ (s : Sheet) (js : List ℕ) where
   abbrev slots : List (List ℕ)
-  slots = map (slotLineOf s js) (usedOf s js)
+  slots = slotLines s js
 
   abbrev sites : List (List ℕ)
-  sites = map (siteLineOf s js) (numbersFrom 0 (length (s .sites)))
+  sites = siteLines s js
 
   -- as many lines as labels and sites, and the last
   slots-long : length slots ≡ countOf s js

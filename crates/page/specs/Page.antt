@@ -30,9 +30,16 @@ unfoldable pub numbersFrom : (from count : ℕ) → List ℕ
 numbersFrom a zero = []
 numbersFrom a (suc n) = a ∷ numbersFrom (suc a) n
 
--- a page's lines: one a used slot, rising; one a site, in sheet order; the last
+-- one a used slot, rising; one a site, in sheet order
+abbrev pub slotLines : Sheet → (ties : List ℕ) → List (List ℕ)
+slotLines s js = map (slotLineOf s js) (usedOf s js)
+
+abbrev pub siteLines : Sheet → (ties : List ℕ) → List (List ℕ)
+siteLines s js = map (siteLineOf s js) (numbersFrom 0 (length (s .sites)))
+
+-- a page's lines: these, and the last
 abbrev pub pageLines : Sheet → (ties : List ℕ) → List (List ℕ)
-pageLines s js = map (slotLineOf s js) (usedOf s js) ++ (map (siteLineOf s js) (numbersFrom 0 (length (s .sites))) ++ (lastLineOf s js ∷ []))
+pageLines s js = slotLines s js ++ (siteLines s js ++ (lastLineOf s js ∷ []))
 
 -- lines, one after the other
 unfoldable pub joined : (lines : List (List ℕ)) → List ℕ

@@ -1,14 +1,13 @@
 // The lines of a page, from a sheet's numbers and a layout of it.
 ghost use mathlib.Core.Path.{_≡_};
 ghost use mathlib.Core.Bool.{cond};
-ghost use mathlib.Core.List.{[], map};
+ghost use mathlib.Core.List.{[]};
 ghost use Prim.Native.Nat.{_<_};
-ghost use lib.ListN.{length};
-ghost use Rattle.labelling.specs.Layout.{isUsed, usedOf, layoutTies};
+ghost use Rattle.labelling.specs.Layout.{isUsed, layoutTies};
 ghost use Rattle.labelling.specs.Lawful.{RuleSix};
 ghost use Rattle.decoding.specs.Decoding.{sheetBy, LayoutRead};
 ghost use Rattle.text.specs.Text.{written, pastOf};
-ghost use Rattle.page.specs.Page.{slotLineOf, siteLineOf, numbersFrom, joined, pageOf};
+ghost use Rattle.page.specs.Page.{slotLineOf, siteLineOf, slotLines, siteLines, joined, pageOf};
 use crate::labels::label_at;
 use decoding::Numbers;
 use layouts::labels::Among;
@@ -52,8 +51,8 @@ fn put_slot(page: &mut [u8], at: usize, numbers: Numbers, layout: &[u32], slot: 
 // The lines of all used slots, rising.
 fn put_slots(page: &mut [u8], at: usize, numbers: Numbers, layout: &[u32]) -> usize
     requires { ⌜ LayoutRead numbers (now layout) ⌝ }
-    ensures { λ r. ⌜ r ≡ pastOf (now (page .entry)) at (joined (map (slotLineOf (sheetBy numbers) (layoutTies (now (layout .entry)))) (usedOf (sheetBy numbers) (layoutTies (now (layout .entry)))))) ⌝ }
-    ensures { λ r. ⌜ now (page .exit) ≡ written (now (page .entry)) at (joined (map (slotLineOf (sheetBy numbers) (layoutTies (now (layout .entry)))) (usedOf (sheetBy numbers) (layoutTies (now (layout .entry)))))) ⌝ }
+    ensures { λ r. ⌜ r ≡ pastOf (now (page .entry)) at (joined (slotLines (sheetBy numbers) (layoutTies (now (layout .entry))))) ⌝ }
+    ensures { λ r. ⌜ now (page .exit) ≡ written (now (page .entry)) at (joined (slotLines (sheetBy numbers) (layoutTies (now (layout .entry))))) ⌝ }
 {
     let mut past = at;
     let mut slot: usize = 0;
@@ -80,8 +79,8 @@ fn put_site(page: &mut [u8], at: usize, numbers: Numbers, layout: &[u32], i: usi
 // The lines of all sites, in sheet order.
 fn put_sites(page: &mut [u8], at: usize, numbers: Numbers, layout: &[u32]) -> usize
     requires { ⌜ LayoutRead numbers (now layout) ⌝ }
-    ensures { λ r. ⌜ r ≡ pastOf (now (page .entry)) at (joined (map (siteLineOf (sheetBy numbers) (layoutTies (now (layout .entry)))) (numbersFrom 0 (length (sheetBy numbers .sites))))) ⌝ }
-    ensures { λ r. ⌜ now (page .exit) ≡ written (now (page .entry)) at (joined (map (siteLineOf (sheetBy numbers) (layoutTies (now (layout .entry)))) (numbersFrom 0 (length (sheetBy numbers .sites))))) ⌝ }
+    ensures { λ r. ⌜ r ≡ pastOf (now (page .entry)) at (joined (siteLines (sheetBy numbers) (layoutTies (now (layout .entry))))) ⌝ }
+    ensures { λ r. ⌜ now (page .exit) ≡ written (now (page .entry)) at (joined (siteLines (sheetBy numbers) (layoutTies (now (layout .entry))))) ⌝ }
 {
     let mut past = at;
     let mut i: usize = 0;

@@ -1,12 +1,10 @@
-use mathlib.Core.List.{map}
-use Rattle.labelling.specs.Layout.{usedOf, layoutTies}
+use Rattle.labelling.specs.Layout.{layoutTies}
 use Rattle.decoding.specs.Decoding.{sheetBy}
 use Rattle.layouts.proofs.Fitting.{some-read}
-use Rattle.page.specs.Page.{slotLineOf, siteLineOf, lastLineOf, numbersFrom}
+use Rattle.page.specs.Page.{slotLines, siteLines, lastLineOf}
 use Rattle.page.proofs.Numbered.{last-line-is}
 use Rattle.page.proofs.Texts.{parts-put}
 use Prim.Native.Nat.{_-_}
-use lib.ListN.{length}
 use borrow.Author.Needs.{needs}
 use Rattle.page.proofs.lines.put_page.Statement.{statement}
 use Rattle.page.proofs.lines.put_page.Tie as tie
@@ -39,7 +37,7 @@ returns c =
     let p = c .before .before .before .before .before .before .before .before .before .before .before .before .before .before .before .before .before .pre in
     let s = sheetBy (a .numbers) in
     let js = layoutTies (a .layout .now) in
-    parts-put (a .page .now) 0 (map (slotLineOf s js) (usedOf s js)) (map (siteLineOf s js) (numbersFrom 0 (length (s .sites)))) (lastLineOf s js) _
+    parts-put (a .page .now) 0 (slotLines s js) (siteLines s js) (lastLineOf s js) _
     (last-line-is (p .0) _ _ (p .1) (c .before .before .before .before .count-field .ensures) (c .before .before .before .length-field .ensures)) (c .before .before .before .before .before .before .before .before .before .before .before .before .before .put-slots .ensures) (c .before .before .before .before .before .before .before .before .before .put-sites .ensures) (c .before .before .put-total-line .ensures)
 
 pub put-page-spec : {M : Type 1} → statement M
