@@ -14,7 +14,7 @@ use Rattle.sheet.specs.Sheet.{all}
 use Rattle.sizes.specs.Pages.{lineColumns}
 use Rattle.text.specs.Text.{blank, lineFeed, zeroDigit, digitsBy, decimal, rightIn}
 use Rattle.text.proofs.Right.{right-long}
-use Rattle.page_lines.specs.Columns.{Field, startOf, widthOf, fieldAfter, columnsAfter, lineOf}
+use Rattle.page_lines.specs.Columns.{Field, field, startOf, widthOf, fieldAfter, columnsAfter, lineOf}
 use Rattle.page_lines.specs.Reading.{isDigit, valueFrom, columnsIn, numberIn, IsLine}
 
 -- THE FIELDS FIT: they rise, each has columns, and its text is no wider
@@ -27,7 +27,7 @@ unfolding FieldsFit
 fit-done c [] h = h
 fit-done c (f ∷ fs) h = omega (arith, h .0, h .1, fit-done (f .to) fs (h .3))
 
--- a field is as long as what it ends after what is done
+-- a field fills the columns from what is done up to its last
 field-long : (c : ℕ) (f : Field) → c < f .from → f .from ≤ f .to → length (f .text) ≤ widthOf f → length (fieldAfter c f) ≡ f .to - c
 field-long c f a b h =
     omega (arith, length-append (replicate (startOf f - c) blank) (rightIn (widthOf f) (f .text)), length-replicate (startOf f - c) blank, right-long (widthOf f) (f .text) h)
@@ -92,9 +92,9 @@ unfolding rightIn decimal
 value-right w n = rw (value-more 0 (replicate (w - length (digitsBy n n)) blank) (digitsBy n n), value-blanks 0 (w - length (digitsBy n n))) (value-digits n n (omega arith))
 
 -- the number of a field
-pub line-number : (fs : List Field) (a b n : ℕ) (gs : List Field) → FieldsFit 0 (fs ++ (record { from = a; to = b; text = decimal n } ∷ gs)) →
-    numberIn a b (lineOf (fs ++ (record { from = a; to = b; text = decimal n } ∷ gs))) ≡ n
-line-number fs a b n gs h = ap (valueFrom 0) (line-columns fs (record { from = a; to = b; text = decimal n }) gs h) ∙ value-right (b - (a - 1)) n
+pub line-number : (fs : List Field) (a b n : ℕ) (gs : List Field) → FieldsFit 0 (fs ++ (field a b (decimal n) ∷ gs)) →
+    numberIn a b (lineOf (fs ++ (field a b (decimal n) ∷ gs))) ≡ n
+line-number fs a b n gs h = ap (valueFrom 0) (line-columns fs (field a b (decimal n)) gs h) ∙ value-right (b - (a - 1)) n
 
 -- NO LINE FEED before the last byte
 abbrev pub isPlain : (byte : ℕ) → Bool
