@@ -10,14 +10,14 @@ use Prim.Native.Nat.{ℕ}
 use native.Mathlib.Omega.{arith}
 use lib.Dec.{ltb}
 use lib.ListN.{length}
-use borrow.Author.Tests.{ltb-true, lt-ltb}
+use borrow.Author.Tests.{lt-ltb}
 use Rattle.sheet.specs.Sheet.{Sheet, sheetIn}
 use Rattle.labelling.specs.Layout.{isBetter, best}
 use Rattle.labelling.specs.Lawful.{Ties, Rules, IsAnswer}
 use Rattle.labelling.specs.Promise.{OneAnswer}
 use Rattle.lists.proofs.Tests.{clash, is-false}
-use Rattle.labelling.proofs.Members.{all-at, at-all}
-use Rattle.labelling.proofs.Best.{Obeys, IsBest, best-is, best-some, best-none, better-total}
+use Rattle.labelling.proofs.Members.{at-all}
+use Rattle.labelling.proofs.Best.{Obeys, low-at, IsBest, best-is, best-some, best-none, better-total}
 use Rattle.labelling.proofs.ByRank.{byRank-same}
 use Rattle.labelling.proofs.Earlier.{better-e, better-i}
 use Rattle.labelling.proofs.Rules.{obeys-rules, rules-obey}
@@ -60,7 +60,7 @@ ties-obey s js t r =
     rules-obey s js (t .long) (at-all (λ j. ltb j (length (s .slots))) 0 js λ i l. lt-ltb _ _ (t .low i (omega (arith, t .long)))) r
 
 obey-ties : (s : Sheet) (js : List ℕ) → Obeys s js → Ties s js
-obey-ties s js o = record { long = o .long; low = λ i l. ltb-true _ _ (all-at (λ j. ltb j (length (s .slots))) 0 js (o .low) i (omega (arith, o .long))) }
+obey-ties s js o = record { long = o .long; low = λ i l. low-at (length (s .slots)) js (o .low) i (omega (arith, o .long)) }
 
 first-answer : (s : Sheet) → Sound s → (js : List ℕ) → (First s js) ↔ (IsAnswer s js)
 first-answer s o js = (

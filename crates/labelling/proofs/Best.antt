@@ -8,11 +8,12 @@ use mathlib.Core.Option.{Option, none, some}
 use Prim.Native.Nat.{ℕ, zero, suc, _+_, _≤_, _<_}
 use native.Mathlib.Omega.{arith}
 use lib.Dec.{ltb, eqb}
-use lib.ListN.{length}
+use lib.ListN.{length, getD}
 use borrow.Author.Tests.{ltb-true, eqb-true, eqb-false, lt-ltb}
 use Rattle.sheet.specs.Sheet.{all, Sheet}
 use Rattle.labelling.specs.Layout.{Tied, tied, byRank, slotsByRank, firstNumber, secondNumber, isBetter, brokenIn, betterOf, bestOver, bestFrom, best}
 use Rattle.lists.proofs.Tests.{clash, by-test, and-l, and-r, and-i, is-false, tests}
+use Rattle.labelling.proofs.Members.{all-at}
 use Rattle.labelling.proofs.Order.{before-trans, before-asym, before-total}
 
 -- isBetter as an order
@@ -103,6 +104,9 @@ best-over f s Q k (suc c) js h =
 -- TIES that obey rules 1 to 5
 abbrev pub lowTies : (count : ℕ) → List ℕ → Bool
 lowTies m = all (λ j. ltb j m)
+
+pub low-at : (m : ℕ) (js : List ℕ) → lowTies m js ≡ true → (i : ℕ) → i < length js → getD js i 0 < m
+low-at m js h i l = ltb-true (getD js i 0) m (all-at (λ j. ltb j m) 0 js h i l)
 
 pub record Obeys (s : Sheet) (js : List ℕ) : Type 0 where
   pub long : length js ≡ length (s .sites)

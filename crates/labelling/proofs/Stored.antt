@@ -4,17 +4,15 @@ use mathlib.Core.Bool.{true}
 use mathlib.Core.List.{List}
 use Prim.Native.Nat.{ℕ, _<_}
 use native.Mathlib.Omega.{arith}
-use lib.Dec.{ltb}
-use lib.ListN.{length, getD, length-append}
-use borrow.Author.Tests.{eq-eqb, ne-eqb, ltb-true}
+use lib.ListN.{length, length-append}
+use borrow.Author.Tests.{eq-eqb, ne-eqb}
 use Rattle.lists.proofs.Tests.{by-equal}
-use Rattle.sheet.specs.Sheet.{Sheet, sheetIn, sheetFault}
-use Rattle.labelling.specs.Layout.{layoutBody, layoutTies, isLayout, sheetPart, layoutPart, judgeFault, judged, storedFault}
+use Rattle.sheet.specs.Sheet.{sheetIn, sheetFault}
+use Rattle.labelling.specs.Layout.{layoutTies, isLayout, sheetPart, layoutPart, judgeFault, judged, storedFault}
 use Rattle.labelling.specs.Lawful.{Ties, Lawful}
 use Rattle.labelling.proofs.Refusals.{stored-chain}
 use Rattle.labelling.proofs.Judge.{judged-so}
-use Rattle.labelling.proofs.Members.{all-at}
-use Rattle.labelling.proofs.Words.{formed, formed-long, ties-low}
+use Rattle.labelling.proofs.Words.{formed, formed-ties}
 
 module _ (ws : List ℕ) where
   -- THE REFUSAL
@@ -53,15 +51,7 @@ module _ (ws : List ℕ) where
 
     -- one tie a site, to a slot below m
     pub stored-ties : Ties (sheetIn (sheetPart ws)) (layoutTies (layoutPart ws))
-    stored-ties =
-        let s : Sheet = sheetIn (sheetPart ws) in
-        let js : List ℕ = layoutTies (layoutPart ws) in
-        let f = formed s (layoutPart ws) stored-layout in
-        let n = formed-long s (layoutPart ws) f in
-        record {
-          long = n;
-          low = λ i l. ltb-true (getD js i 0) (length (s .slots)) (all-at (λ j. ltb j (length (s .slots))) 0 js (ties-low s (layoutBody (layoutPart ws)) (f .ties)) i (omega (arith, n)));
-        }
+    stored-ties = formed-ties (sheetIn (sheetPart ws)) (layoutPart ws) (formed (sheetIn (sheetPart ws)) (layoutPart ws) stored-layout)
 
     -- the layout begins within
     pub stored-within : length (sheetPart ws) < length ws

@@ -11,11 +11,12 @@ use borrow.Author.Tests.{ltb-true, eqb-true, eqb-false, lt-ltb, eq-eqb}
 use Rattle.sheet.specs.Limits.{mostSlots, mostSites, wordTop, numberTop, mostNumber, mostShare, byteTop, lengthTop, countTop}
 use Rattle.sheet.specs.Sheet.{all, kindOf, bits, Site, Sheet}
 use Rattle.labelling.specs.Layout.{noSite, tiedOf, tied, heightOf, isUsed, usedFrom, usedOf, leftEnd, countOf, backbones, drops, lengthOf, brokenIn, tieWord, tieWords, firstWord, layoutWords, statedCount, statedLength, tiesIn, isTie, isLayout, brokenBy, isLawful, answerOf, layoutBody, layoutTies, wordsFor}
+use Rattle.labelling.specs.Lawful.{Ties}
 use Rattle.labelling.specs.Promise.{areWords, same}
 use Rattle.lists.proofs.Tests.{by-test, and-l, and-r, and-i, eqb-self}
 use Rattle.sheet.proofs.Accepted.{Sound, lowY, lowN}
 use Rattle.labelling.proofs.Distances.{share-le}
-use Rattle.labelling.proofs.Best.{Obeys, lowTies}
+use Rattle.labelling.proofs.Best.{Obeys, lowTies, low-at}
 
 -- SIZES
 pub count-used : (k n : ℕ) (js : List ℕ) → length (usedFrom k n js) ≤ n
@@ -176,13 +177,18 @@ formed s b h =
 pub form : (s : Sheet) (b : List ℕ) → Formed s b → isLayout s b ≡ true
 form s b f = and-i (and-i (eq-eqb (length b) (wordsFor s) (f .long)) (eq-eqb (kindOf (getD b 0 0)) 8 (f .kind))) (f .ties)
 
--- its ties are one a site
+-- its ties are one a site, to slots below m
 pub formed-long : (s : Sheet) (b : List ℕ) → Formed s b → length (layoutTies b) ≡ length (s .sites)
 formed-long s [] f = absurd (omega (arith, f .long))
 formed-long s (w ∷ ws) f = length-tiesIn ws ∙ less (length ws) (length (s .sites)) (f .long)
   where
     less : (a b : ℕ) → suc a ≡ b + 1 → a ≡ b
     less a b e = omega arith
+
+pub formed-ties : (s : Sheet) (b : List ℕ) → Formed s b → Ties s (layoutTies b)
+formed-ties s b f =
+    let n = formed-long s b f in
+    record { long = n; low = λ i l. low-at (length (s .slots)) (layoutTies b) (ties-low s (layoutBody b) (f .ties)) i (omega (arith, n)) }
 
 -- LAWFUL WORDS and ties that obey
 pub record Written (s : Sheet) (b : List ℕ) : Type 0 where

@@ -14,15 +14,15 @@ use Prim.Native.Nat.{ℕ, suc, _+_, _≤_, _<_}
 use native.Mathlib.Omega.{arith}
 use lib.Dec.{eqb, ltb}
 use lib.ListN.{length, getD, set, replicate, length-replicate}
-use borrow.Author.Tests.{ltb-true, lt-ltb, eqb-true, eqb-false}
+use borrow.Author.Tests.{lt-ltb, eqb-true, eqb-false}
 use Rattle.lists.proofs.Tests.{by-test, by-either, clash, or-e, is-false}
 use Rattle.search.specs.Walk.{Before, Cheapest, costOf}
 use Rattle.sheet.specs.Limits.{unbounded}
 use Rattle.sheet.specs.Sheet.{sheetIn, sheetFault, Sheet}
 use Rattle.sheet.proofs.Accepted.{Sound, sound}
 use Rattle.labelling.specs.Layout.{noColour, isUsed, isBetter, best}
-use Rattle.labelling.proofs.Members.{noSite, all-at, at-all, used-head, used-tail}
-use Rattle.labelling.proofs.Best.{Obeys, lowTies}
+use Rattle.labelling.proofs.Members.{noSite, at-all, used-head, used-tail}
+use Rattle.labelling.proofs.Best.{Obeys, lowTies, low-at}
 use Rattle.labelling.proofs.Rules.{Rules, Bounded, obeys-rules, rules-obey}
 use Rattle.labelling.proofs.Earlier.{Earlier, better-e}
 use Rattle.labelling.proofs.Maker.{First, best-some-iff, best-none-iff}
@@ -88,7 +88,7 @@ module _ (s : Sheet) (o : Sound s) (one : s .isTwoSided ≡ false) where
         p = rules-are-pairs s (o .inside) js long .0 r .0
 
         low : (i : ℕ) → isUsed i (order s) ≡ true → getD js i 0 < length (s .slots)
-        low i u = ltb-true _ _ (all-at (λ j. ltb j (length (s .slots))) 0 js (b .low) i (omega (arith, ordered s o .low i u .0)))
+        low i u = low-at (length (s .slots)) js (b .low) i (omega (arith, ordered s o .low i u .0))
 
         steps : Steps (instanceOf s) (replicate (length (s .slots)) 0) (pointsAt s (order s)) (gather js (order s))
         steps =
