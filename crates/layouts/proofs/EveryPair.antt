@@ -1,16 +1,13 @@
 -- Where no pair has a flaw, every two tied sites pass every test. Assumes nothing.
 use mathlib.Core.Path.{_≡_, sym, ap₂, _∙_, subst}
 use mathlib.Core.Bool.{Bool, true, false, _&&_, _||_, not, cond}
-use mathlib.Core.List.{List}
 use Prim.Native.Nat.{ℕ, zero, suc, _+_, _<_, _≤_}
 use native.Mathlib.Omega.{arith}
-use lib.ListN.{length, getD, set}
-use lib.Seq.{getD-set-same, getD-set-other}
 use Rattle.lists.proofs.Tests.{by-test, by-order, by-equal, and-both, eqb-self, eqb-sym, same-test}
 use Rattle.labelling.specs.Counted.{sumBefore}
 use Rattle.labelling.specs.Layout.{farBy}
 use Rattle.labelling.proofs.Distances.{far-sym}
-use Rattle.labelling.proofs.Counted.{all-before, before-all}
+use Rattle.labelling.proofs.Counted.{before-all}
 use Rattle.layouts.specs.Flaws.{passesBoth, passesOne, flawOf}
 use Rattle.rules.specs.Rules.{coloursPass, gapsPass, missesPass, clearsPass}
 use Rattle.words.specs.declared.tied.TiedSite.{TiedSite}
@@ -18,17 +15,7 @@ use Rattle.words.specs.declared.tied.Head.{Head}
 use Rattle.layouts.specs.declared.pairs.Test.{Test}
 use Rattle.layouts.specs.declared.pairs.Test.the-variants.{Colours, Gaps, Misses, Clears}
 use Rattle.layouts.specs.Pairs.{passes}
-use Rattle.layouts.specs.Model.{LevelsOf, tiedAt, tiedOn, flawsAt, pairsPass}
-
--- LEVELS, one more
-pub levels-more : (hs js vs : List ℕ) (i v : ℕ) → i < length vs → v ≡ getD hs (getD js i 0) 0 → LevelsOf hs js i vs → LevelsOf hs js (i + 1) (set vs i v)
-levels-more hs js vs i v l e h j u =
-    by-equal j i
-    (λ q. subst (λ (z : ℕ). getD (set vs i v) z 0 ≡ getD hs (getD js z 0) 0) (sym q) (getD-set-same vs i v 0 l ∙ e))
-    (λ q. getD-set-other vs i j v 0 q ∙ h j (omega arith))
-
-pub on-at : (hs xs ys cs js vs : List ℕ) (n i : ℕ) → LevelsOf hs js n vs → i < n → tiedOn vs xs ys cs js i ≡ tiedAt hs xs ys cs js i
-on-at hs xs ys cs js vs n i h l = λ p. record { x = getD xs i 0; y = getD ys i 0; colour = getD cs i 0; slot = getD js i 0; height = h i l p }
+use Rattle.layouts.specs.Model.{flawsAt, pairsPass}
 
 -- A PAIR
 turned : (h : Head) (t u : TiedSite) → passesBoth h t u ≡ passesBoth h u t
@@ -91,11 +78,3 @@ every-pair h ts n f k =
   where
     at : (i j : ℕ) → i < n → j < i → ((k : Test) → passes k h (ts i) (ts j) ≡ true) × ((k : Test) → passes k h (ts j) (ts i) ≡ true)
     at i j l o = flawless h (ts i) (ts j) (zero-at (λ j. flawOf h (ts i) (ts j)) i (f i l) j o)
-
--- the same of sites by their levels
-pub every-level : (h : Head) (hs xs ys cs js vs : List ℕ) (n : ℕ) → LevelsOf hs js n vs → ((i : ℕ) → i < n → flawsAt h (tiedOn vs xs ys cs js) i ≡ 0) → (k : Test) → pairsPass k h (tiedAt hs xs ys cs js) n ≡ true
-every-level h hs xs ys cs js vs n v f k =
-    before-all _ n λ i l. before-all _ n λ j m.
-    subst (λ (t : TiedSite). passes k h t (tiedAt hs xs ys cs js j) ≡ true) (on-at hs xs ys cs js vs n i v l)
-    (subst (λ (u : TiedSite). passes k h (tiedOn vs xs ys cs js i) u ≡ true) (on-at hs xs ys cs js vs n j v m)
-    (all-before _ n (all-before _ n (every-pair h (tiedOn vs xs ys cs js) n f k) i l) j m))

@@ -1,19 +1,17 @@
 -- The decoded numbers of an accepted sheet and the ties of a layout of it fit what the loops ask. Assumes nothing.
 use mathlib.Core.Path.{_≡_, ap}
 use mathlib.Core.Bool.{true}
-use mathlib.Core.List.{List, [], _∷_}
-use Prim.Native.Nat.{ℕ, zero, suc, _<_}
+use mathlib.Core.List.{List}
+use Prim.Native.Nat.{ℕ, _<_}
 use native.Mathlib.Omega.{arith}
 use lib.ListN.{length, getD, length-drop}
-use borrow.Author.Tests.{ltb-true}
 use Rattle.lists.specs.Arrays.{padded}
-use Rattle.lists.proofs.Tests.{and-l, and-r}
 use Rattle.lists.proofs.Arrays.{padded-at, padded-long}
-use Rattle.sheet.specs.Limits.{mostSlots, mostSites, numberTop}
-use Rattle.sheet.specs.Sheet.{all, Site, Sheet, sheetIn, sheetFault}
-use Rattle.sheet.proofs.Accepted.{sound, lowY}
-use Rattle.labelling.specs.Layout.{noSite, tiesAt, layoutBody, isLayout}
-use Rattle.labelling.proofs.Words.{height-low, y-low, formed}
+use Rattle.sheet.specs.Limits.{mostSlots, mostSites}
+use Rattle.sheet.specs.Sheet.{Sheet, sheetIn, sheetFault}
+use Rattle.sheet.proofs.Accepted.{sound}
+use Rattle.labelling.specs.Layout.{tiesAt, layoutBody, layoutTies, isLayout}
+use Rattle.labelling.proofs.Words.{height-low, y-low, formed, formed-ties}
 use Rattle.decoding.specs.Decoding.{headBy, xsOf, ysOf, coloursOf, LayoutRead}
 use Rattle.decoding.specs.declared.Numbers.{Numbers}
 use Rattle.decoding.proofs.Fields.{xs-long, ys-long, colours-long}
@@ -32,13 +30,18 @@ module _ (ss ls : List ℕ) (ok : sheetFault ss ≡ 0) (form : isLayout (sheetIn
   pub some : 0 < length ls
   some = omega (arith, formed s ls form .long)
 
-  pub fits : (xs ys cs ws : List ℕ) → xs ≡ padded mostSites (xsOf (s .sites)) → ys ≡ padded mostSites (ysOf (s .sites)) → cs ≡ padded mostSites (coloursOf (s .sites)) → ws ≡ layoutBody ls → Fits xs ys cs ws
-  fits xs ys cs ws ex ey ec ew =
-      rw (ex, ey, ec, ew)
+  -- the height of each tie's slot is in the array
+  tie-low : (i : ℕ) → i < length (layoutBody ls) → getD (layoutTies ls) i 0 < length (s .slots)
+  tie-low i l = formed-ties s ls (formed s ls form) .low i (omega (arith, long))
+
+  pub fits : (hs xs ys cs ws : List ℕ) → hs ≡ padded mostSlots (s .slots) → xs ≡ padded mostSites (xsOf (s .sites)) → ys ≡ padded mostSites (ysOf (s .sites)) → cs ≡ padded mostSites (coloursOf (s .sites)) → ws ≡ layoutBody ls → Fits hs xs ys cs ws
+  fits hs xs ys cs ws eh ex ey ec ew =
+      rw (eh, ex, ey, ec, ew)
       (record {
         xs-long = omega (arith, long, xs-long (s .sites), padded-long mostSites (xsOf (s .sites)));
         ys-long = omega (arith, long, ys-long (s .sites), padded-long mostSites (ysOf (s .sites)));
         colours-long = omega (arith, long, colours-long (s .sites), padded-long mostSites (coloursOf (s .sites)));
+        slots-low = λ i l. omega (arith, tie-low i l, padded-long mostSlots (s .slots));
         few = omega (arith, long, sound ss ok .few-sites);
       })
 
@@ -60,9 +63,9 @@ module _ {d : Numbers} {ls : List ℕ} (r : LayoutRead d ls) where
   pub some-read : 0 < length ls
   some-read = some ws ls (r .read .accepted) (r .form)
 
-  pub fits-read : (ts : List ℕ) → ts ≡ layoutBody ls → Fits (d .xs) (d .ys) (d .colours) ts
+  pub fits-read : (ts : List ℕ) → ts ≡ layoutBody ls → Fits (d .heights) (d .xs) (d .ys) (d .colours) ts
   fits-read ts e =
-      fits ws ls (r .read .accepted) (r .form) _ _ _ _ (ap (λ (z : Numbers). z .xs) (r .read .numbers)) (ap (λ (z : Numbers). z .ys) (r .read .numbers)) (ap (λ (z : Numbers). z .colours) (r .read .numbers)) e
+      fits ws ls (r .read .accepted) (r .form) _ _ _ _ _ (ap (λ (z : Numbers). z .heights) (r .read .numbers)) (ap (λ (z : Numbers). z .xs) (r .read .numbers)) (ap (λ (z : Numbers). z .ys) (r .read .numbers)) (ap (λ (z : Numbers). z .colours) (r .read .numbers)) e
 
   pub low-read : Low (d .head) (d .heights) (d .ys)
   low-read =

@@ -9,7 +9,7 @@ use lib.ListN.{length, getD}
 use Rattle.sheet.specs.Limits.{mostSites, numberTop}
 use Rattle.rules.specs.Rules.{boundKept, isStated}
 use Rattle.labelling.specs.Counted.{allBefore, sumBefore, isFirst}
-use Rattle.labelling.specs.Layout.{shareBy}
+use Rattle.labelling.specs.Layout.{tiesIn, shareBy}
 use Rattle.words.specs.declared.tied.TiedSite.{TiedSite}
 use Rattle.words.specs.declared.tied.Head.{Head}
 use Rattle.layouts.specs.declared.pairs.Test.{Test}
@@ -22,11 +22,12 @@ use Rattle.layouts.specs.Flaws.{flawOf}
 abbrev pub oneIf : Bool → ℕ
 oneIf b = cond b 1 0
 
--- WHAT THE LOOPS ASK: each site has its numbers; the numbers are so low, and so few, that lengths fit
-pub record Fits (xs ys colours ties : List ℕ) : Type 0 where
+-- WHAT THE LOOPS ASK: each site has its numbers, and its slot a height; the numbers are so low, and so few, that lengths fit. ties: their words
+pub record Fits (heights xs ys colours ties : List ℕ) : Type 0 where
   pub xs-long : length ties ≤ length xs
   pub ys-long : length ties ≤ length ys
   pub colours-long : length ties ≤ length colours
+  pub slots-low : (i : ℕ) → i < length ties → getD (tiesIn ties) i 0 < length heights
   pub few : length ties ≤ mostSites
 
 pub record Low (h : Head) (hs bs : List ℕ) : Type 0 where
@@ -43,13 +44,6 @@ mostAdded = 49149
 abbrev pub tiedAt : (heights xs ys colours ties : List ℕ) → ℕ → TiedSite
 tiedAt hs xs ys cs js i =
     record { x = getD xs i 0; y = getD ys i 0; colour = getD cs i 0; slot = getD js i 0; height = getD hs (getD js i 0) 0 }
-
--- the same by the height of each site's slot, which LevelsOf says of the first n sites
-abbrev pub tiedOn : (levels xs ys colours ties : List ℕ) → ℕ → TiedSite
-tiedOn vs xs ys cs js i = record { x = getD xs i 0; y = getD ys i 0; colour = getD cs i 0; slot = getD js i 0; height = getD vs i 0 }
-
-abbrev pub LevelsOf : (heights ties : List ℕ) → (n : ℕ) → (levels : List ℕ) → Type 0
-LevelsOf hs js n vs = (j : ℕ) → j < n → getD vs j 0 ≡ getD hs (getD js j 0) 0
 
 -- how many of the sites before i fail a test with site i
 abbrev pub flawsAt : Head → (sites : ℕ → TiedSite) → (i : ℕ) → ℕ

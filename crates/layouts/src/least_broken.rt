@@ -22,7 +22,7 @@ fn all_pairs_pass(
     colours: &[u32],
     ties: &[u32],
 ) -> bool
-    requires { ⌜ Fits (now xs) (now ys) (now colours) (now ties) ⌝ }
+    requires { ⌜ Fits (now heights) (now xs) (now ys) (now colours) (now ties) ⌝ }
     requires { ⌜ (known ≡ true → pairsPass test h (tiedAt (now heights) (now xs) (now ys) (now colours) (tiesIn (now ties))) (length (now ties)) ≡ true) ⌝ }
     ensures { λ r. ⌜ r ≡ pairsPass test h (tiedAt (now (heights .entry)) (now (xs .entry)) (now (ys .entry)) (now (colours .entry)) (tiesIn (now (ties .entry)))) (length (now (ties .entry))) ⌝ }
 {
@@ -45,7 +45,7 @@ pub fn broken_by<'a>(
     colours: &'a [u32],
     ties: &'a [u32],
 ) -> u8
-    requires { ⌜ Fits (now xs) (now ys) (now colours) (now ties) ⌝ }
+    requires { ⌜ Fits (now heights) (now xs) (now ys) (now colours) (now ties) ⌝ }
     requires { ⌜ Low h (now heights) (now ys) ⌝ }
     ensures { λ r. ⌜ r ≡ brokenOn h stated (now (heights .entry)) (now (bounds .entry)) (now (xs .entry)) (now (ys .entry)) (now (colours .entry)) (tiesIn (now (ties .entry))) (length (now (ties .entry))) ⌝ }
 {

@@ -43,7 +43,7 @@ fn all_pass(
     colours: &[u32],
     ties: &[u32],
 ) -> bool
-    requires { ⌜ Fits (now xs) (now ys) (now colours) (now ties) ⌝ }
+    requires { ⌜ Fits (now heights) (now xs) (now ys) (now colours) (now ties) ⌝ }
     ensures { λ r. ⌜ r ≡ passesAll test h (tiedAt (now (heights .entry)) (now (xs .entry)) (now (ys .entry)) (now (colours .entry)) (tiesIn (now (ties .entry)))) (length (now (ties .entry))) t ⌝ }
 {
     let mut j: usize = 0;
@@ -66,7 +66,7 @@ pub fn pairs_pass(
     colours: &[u32],
     ties: &[u32],
 ) -> bool
-    requires { ⌜ Fits (now xs) (now ys) (now colours) (now ties) ⌝ }
+    requires { ⌜ Fits (now heights) (now xs) (now ys) (now colours) (now ties) ⌝ }
     ensures { λ r. ⌜ r ≡ pairsPass test h (tiedAt (now (heights .entry)) (now (xs .entry)) (now (ys .entry)) (now (colours .entry)) (tiesIn (now (ties .entry)))) (length (now (ties .entry))) ⌝ }
 {
     let mut i: usize = 0;

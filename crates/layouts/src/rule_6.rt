@@ -73,7 +73,7 @@ pub fn totals_of(
     colours: &[u32],
     ties: &[u32],
 ) -> Totals
-    requires { ⌜ Fits (now xs) (now ys) (now colours) (now ties) ⌝ }
+    requires { ⌜ Fits (now heights) (now xs) (now ys) (now colours) (now ties) ⌝ }
     requires { ⌜ Low h (now heights) (now ys) ⌝ }
     ensures { λ r. ⌜ r .count ≡ countOn Among.All (now (colours .entry)) (tiesIn (now (ties .entry))) (length (now (ties .entry))) ⌝ }
     ensures { λ r. ⌜ r .length ≡ lengthOn h (now (heights .entry)) (now (xs .entry)) (now (ys .entry)) (now (colours .entry)) (tiesIn (now (ties .entry))) (length (now (ties .entry))) ⌝ }
@@ -103,7 +103,7 @@ pub fn totals_stated(
     colours: &[u32],
     ties: &[u32],
 ) -> bool
-    requires { ⌜ Fits (now xs) (now ys) (now colours) (now ties) ⌝ }
+    requires { ⌜ Fits (now heights) (now xs) (now ys) (now colours) (now ties) ⌝ }
     requires { ⌜ Low h (now heights) (now ys) ⌝ }
     ensures { λ r. ⌜ r ≡ statedOn h stated (now (heights .entry)) (now (xs .entry)) (now (ys .entry)) (now (colours .entry)) (tiesIn (now (ties .entry))) (length (now (ties .entry))) ⌝ }
 {

@@ -5,7 +5,6 @@ ghost use lib.ListN.{length, getD};
 ghost use Rattle.labelling.specs.Layout.{tiesIn};
 ghost use Rattle.layouts.specs.Model.{Fits, tiedAt};
 use words::byte_field;
-use words::get;
 use words::tied::TiedSite;
 
 // The slot of a site, from its tie's word.
@@ -25,17 +24,17 @@ pub fn tied_at(
     ties: &[u32],
     i: usize,
 ) -> TiedSite
-    requires { ⌜ Fits (now xs) (now ys) (now colours) (now ties) ⌝ }
+    requires { ⌜ Fits (now heights) (now xs) (now ys) (now colours) (now ties) ⌝ }
     requires { ⌜ i < length (now ties) ⌝ }
     ensures { λ r. ⌜ r ≡ tiedAt (now (heights .entry)) (now (xs .entry)) (now (ys .entry)) (now (colours .entry)) (tiesIn (now (ties .entry))) i ⌝ }
 {
     let slot = slot_at(ties, i);
-    let height = get(heights, slot);
+    let k = slot as usize;
     TiedSite {
         x: xs[i],
         y: ys[i],
         colour: colours[i],
         slot: slot,
-        height: height,
+        height: heights[k],
     }
 }

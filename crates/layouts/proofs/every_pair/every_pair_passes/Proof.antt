@@ -1,9 +1,8 @@
 use mathlib.Core.Bool.{false≢true}
 use Rattle.labelling.specs.Layout.{tiesIn}
-use Rattle.layouts.specs.Model.{tiedOn, flawsAt}
-use Rattle.layouts.proofs.EveryPair.{none-more, every-level}
+use Rattle.layouts.specs.Model.{tiedAt, flawsAt}
+use Rattle.layouts.proofs.EveryPair.{none-more, every-pair}
 use mathlib.Core.Path.{_≡_}
-use mathlib.Core.List.{[], _∷_}
 use Prim.Native.Nat.{ℕ, _-_, _<_, _≤_}
 use native.Mathlib.Omega.{arith}
 use lib.ListN.{length}
@@ -12,19 +11,13 @@ use Rattle.layouts.proofs.every_pair.every_pair_passes.Statement.{state
 use Rattle.layouts.proofs.every_pair.every_pair_passes.Tie as tie
 
 abbrev Inv-loop : tie.InvT-loop
-Inv-loop h heights xs ys colours ties levels i₀ i = (i ≤ length ties) × ((j : ℕ) → j < i → flawsAt h (tiedOn levels xs ys colours (tiesIn ties)) j ≡ 0)
+Inv-loop h heights xs ys colours ties i₀ i = (i ≤ length ties) × ((j : ℕ) → j < i → flawsAt h (tiedAt heights xs ys colours (tiesIn ties)) j ≡ 0)
 
 abbrev μ-loop : tie.MeasureT-loop
-μ-loop h heights xs ys colours ties levels i₀ i = length ties - i
-
-levels-of-requires : tie.Need-levels-of-requires Inv-loop μ-loop
-levels-of-requires c κs = search needs
+μ-loop h heights xs ys colours ties i₀ i = length ties - i
 
 loop-holds : tie.Need-loop-holds Inv-loop μ-loop
 loop-holds c = (omega arith, λ j l. absurd (omega arith))
-
-slice-aggregate-flaws-at : tie.Need-slice-aggregate-flaws-at Inv-loop μ-loop
-slice-aggregate-flaws-at c = search needs
 
 flaws-at-requires : tie.Need-flaws-at-requires Inv-loop μ-loop
 flaws-at-requires c κs = search needs
@@ -40,15 +33,12 @@ loop-less c = search needs
 
 loop-again : tie.Need-loop-again Inv-loop μ-loop
 loop-again c =
-    let l = c .before .before .before .before .loop in
-    (omega (arith, c .before .before .before .loop-test .taken), none-more _ (l .i) (c .before .flaws-at .ensures) (omega (arith, c .if1 .left)) (l .inv .1))
+    let l = c .before .before .before .loop in
+    (omega (arith, c .before .before .loop-test .taken), none-more _ (l .i) (c .before .flaws-at .ensures) (omega (arith, c .if1 .left)) (l .inv .1))
 
 returns-2 : tie.Need-returns-2 Inv-loop μ-loop
 returns-2 c =
-    let a = c .before .before .before .before .before .before .before .before .args in
-    let n = length (a .ties .now) in
-    λ e. every-level (a .h) (a .heights .now) (a .xs .now) (a .ys .now) (a .colours .now) (tiesIn (a .ties .now)) (c .before .before .levels-of .result) n (c .before .before .levels-of .ensures)
-    (λ i l. c .before .loop .inv .1 i (omega (arith, c .loop-test .left)))
+    λ e. every-pair _ _ _ (λ i l. c .before .loop .inv .1 i (omega (arith, c .loop-test .left)))
 
 pub every-pair-passes-spec : {M : Type 1} → statement M
 every-pair-passes-spec =
@@ -56,9 +46,7 @@ every-pair-passes-spec =
     (tie.spec
     Inv-loop
     μ-loop
-    levels-of-requires
     loop-holds
-    slice-aggregate-flaws-at
     flaws-at-requires
     returns
     add-i

@@ -2,7 +2,7 @@ use mathlib.Core.Path.{ap₂}
 use Rattle.labelling.specs.Layout.{tiesIn}
 use Rattle.labelling.specs.Counted.{sumBefore}
 use Rattle.layouts.specs.Flaws.{flawOf}
-use Rattle.layouts.specs.Model.{tiedOn}
+use Rattle.layouts.specs.Model.{tiedAt}
 use Rattle.layouts.proofs.Loops.{sum-none, sum-more, sum-end}
 use Rattle.layouts.proofs.EveryPair.{flaw-low}
 use mathlib.Core.Path.{_≡_, _∙_}
@@ -13,19 +13,19 @@ use Rattle.layouts.proofs.every_pair.flaws_at.Statement.{statement}
 use Rattle.layouts.proofs.every_pair.flaws_at.Tie as tie
 
 abbrev Inv-loop : tie.InvT-loop
-Inv-loop h levels xs ys colours ties i t n₀ j₀ n j = (j ≤ i) × (n ≤ j) × (n ≡ sumBefore (λ k. flawOf h (tiedOn levels xs ys colours (tiesIn ties) i) (tiedOn levels xs ys colours (tiesIn ties) k)) j)
+Inv-loop h heights xs ys colours ties i t n₀ j₀ n j = (j ≤ i) × (n ≤ j) × (n ≡ sumBefore (λ k. flawOf h (tiedAt heights xs ys colours (tiesIn ties) i) (tiedAt heights xs ys colours (tiesIn ties) k)) j)
 
 abbrev μ-loop : tie.MeasureT-loop
-μ-loop h levels xs ys colours ties i t n₀ j₀ n j = i - j
+μ-loop h heights xs ys colours ties i t n₀ j₀ n j = i - j
 
-tied-on-requires : tie.Need-tied-on-requires Inv-loop μ-loop
-tied-on-requires c κs = search needs
+tied-at-requires : tie.Need-tied-at-requires Inv-loop μ-loop
+tied-at-requires c κs = search needs
 
 loop-holds : tie.Need-loop-holds Inv-loop μ-loop
 loop-holds c = (omega arith, omega arith, sum-none _)
 
-tied-on-requires-2 : tie.Need-tied-on-requires-2 Inv-loop μ-loop
-tied-on-requires-2 c κs = search needs
+tied-at-requires-2 : tie.Need-tied-at-requires-2 Inv-loop μ-loop
+tied-at-requires-2 c κs = search needs
 
 flaw-requires : tie.Need-flaw-requires Inv-loop μ-loop
 flaw-requires c κs = search needs
@@ -46,7 +46,7 @@ loop-again c =
     let a = c .before .before .before .before .before .before .before .before .before .before .args in (
       omega (arith, c .before .before .loop-test .taken),
       omega (arith, l .inv .1, flaw-low _ _ _ (c .flaw .ensures)),
-      sum-more _ (l .j) (l .n) _ (l .inv .2) (c .flaw .ensures ∙ ap₂ (flawOf (a .h)) (c .before .before .before .before .tied-on .ensures) (c .before .tied-on2 .ensures)),
+      sum-more _ (l .j) (l .n) _ (l .inv .2) (c .flaw .ensures ∙ ap₂ (flawOf (a .h)) (c .before .before .before .before .tied-at .ensures) (c .before .tied-at2 .ensures)),
     )
 
 returns : tie.Need-returns Inv-loop μ-loop
@@ -60,9 +60,9 @@ flaws-at-spec =
     (tie.spec
     Inv-loop
     μ-loop
-    tied-on-requires
+    tied-at-requires
     loop-holds
-    tied-on-requires-2
+    tied-at-requires-2
     flaw-requires
     add-n
     add-j

@@ -16,7 +16,7 @@ begin p = p .before .before .before .before .before .before .before
 
 -- what a test asks: the numbers are a layout's, and what is known is true
 asked : (e : tie.After-every-pair-passes) (k : Test) → (let a = begin e .args in
-    Fits (a .xs .now) (a .ys .now) (a .colours .now) (a .ties .now) × (e .every-pair-passes .result ≡ true → pairsPass k (a .h) (tiedAt (a .heights .now) (a .xs .now) (a .ys .now) (a .colours .now) (tiesIn (a .ties .now))) (length (a .ties .now)) ≡ true))
+    Fits (a .heights .now) (a .xs .now) (a .ys .now) (a .colours .now) (a .ties .now) × (e .every-pair-passes .result ≡ true → pairsPass k (a .h) (tiedAt (a .heights .now) (a .xs .now) (a .ys .now) (a .colours .now) (tiesIn (a .ties .now))) (length (a .ties .now)) ≡ true))
 asked e k = (begin e .pre .0, λ t. e .every-pair-passes .ensures t k)
 
 every-pair-passes-requires : tie.Need-every-pair-passes-requires
