@@ -4,3 +4,4 @@ pub mod Demands
 pub mod Twin
 pub mod Page
 pub mod Strokes
+pub mod Counts

@@ -1,5 +1,5 @@
 -- THE THREE DEMANDS, each as one statement about any call that meets the contract of the reader, the layout maker or the judge; and
--- beside them what is promised of the twin tool's, of a page's and of a stroke's.
+-- beside them what is promised of the judge's count, and of a call of the twin tool, of the page and of a stroke.
 -- What a demand concludes of one call is a record; the contracts of the C interface (crate cabi) state these records of their calls.
 -- ws: the sheet's words (the stored sheet's, for the judge, the twin, the page and a stroke), ws' after the call; k, o: work and answer area
 -- (o: the page's bytes), k', o' after it; i: a stroke's place; r: what it returns.
@@ -12,13 +12,15 @@ use Prim.Native.Nat.{ℕ, _≤_, _<_}
 use lib.ListN.{length, getD, take, drop}
 use Rattle.sheet.specs.Sheet.{Sheet, sheetIn, sheetFault, productOf, workFor}
 use Rattle.labelling.specs.Layout.{wordsFor, isLawful, sheetPart, layoutPart, layoutTies, judgeFault}
-use Rattle.labelling.specs.Lawful.{Ties, Rules, LayoutOf, Lawful, LeastBroken, Better}
+use Rattle.labelling.specs.Lawful.{Ties, RuleOne, Rules, LayoutOf, Lawful, LeastBroken, Better}
 use Rattle.labelling.specs.Entry.{Serves, cleared, makeFault, makeAnswer, makeWork}
 use Rattle.labelling.specs.Promise.{areWords, same, isBeaten, PartsFound}
+use Rattle.labelling.specs.Slots.{OverBound}
 use Rattle.labelling.specs.Twin.{twinArea, TwinOf, TwinOfTwin, BestNotWorse}
 use Rattle.labelling.specs.Strokes.{strokesIn, noStroke, StrokesAddUp}
 use Rattle.reader.specs.declared.Sizes.{Sizes}
 use Rattle.reader.specs.Read.{readPost, refusedOf, eightOf}
+use Rattle.layouts.specs.Counts.{SlotsCounted}
 use Rattle.judge.specs.declared.Verdict.{Verdict}
 use Rattle.judge.specs.Judge.{judgePost}
 use Rattle.faults.specs.declared.written.Written.{Written}
@@ -151,6 +153,15 @@ DemandThreeByTests =
     (r ≡ 0) × (isLawful (sheetIn ws) (layoutIn ws o') ≡ true) ×
     ((b : List ℕ) → areWords b ≡ true → isLawful (sheetIn ws) b ≡ true → same b (layoutIn ws o') ≡ false →
     isBeaten (sheetIn ws) (layoutIn ws o') b ≡ true))
+
+-- THE JUDGE'S COUNT (document 02, (e)): what it compares with a colour's bound is the number of different slots that the colour's sites have; so
+-- it says 2 exactly when rule 1 holds and some colour with a bound has more different slots; and on the same words every call that meets the
+-- judge's contract gives the same, however it counts
+pub record CountPromised : Type 0 where
+  pub counted : SlotsCounted
+  pub said : (ws : List ℕ) (r : Verdict) (ws' : List ℕ) → WasJudged ws r ws' → r .refusal ≡ 0 →
+      (r .rule ≡ 2) ↔ (RuleOne (storedSheet ws) (layoutTies (layoutPart ws)) × OverBound (storedSheet ws) (layoutTies (layoutPart ws)))
+  pub kept : (ws : List ℕ) (r : Verdict) (ws' : List ℕ) (q : Verdict) (ws'' : List ℕ) → WasJudged ws r ws' → WasJudged ws q ws'' → r ≡ q
 
 -- A TOOL that writes so many places into an area, over a stored sheet, of one call, by its outcome: 1 to 7 or 11 as the judge; 13, the layout
 -- isn't lawful; 9, the area has fewer places; each leaves the area. Or what it writes stands in front, and Q holds of it, and what lies past

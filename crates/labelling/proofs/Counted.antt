@@ -2,19 +2,19 @@
 -- their numbers.
 -- Assumes nothing but that each site has one tie and that its slot is one of the sheet's.
 use mathlib.Core.Path.{_≡_, refl, sym, _∙_, ap, ap₂, subst, fun-ext}
-use mathlib.Core.Bool.{Bool, true, false, _&&_, _||_, false≢true, cond}
+use mathlib.Core.Bool.{Bool, true, false, _&&_, _||_, true≢false, false≢true, cond}
 use mathlib.Core.List.{List, [], _∷_}
 use Prim.Native.Nat.{ℕ, zero, suc, _+_, _*_, _-_, _≤_, _<_}
 use native.Mathlib.Omega.{arith}
-use lib.Dec.{ltb, eqb}
+use lib.Dec.{eqb}
 use lib.ListN.{length, getD}
-use borrow.Author.Tests.{ltb-true, eqb-true, eq-eqb, ne-eqb}
+use borrow.Author.Tests.{eqb-true, eq-eqb, ne-eqb}
 use Rattle.sheet.specs.Sheet.{all, Site, Sheet}
 use Rattle.labelling.specs.Layout.{noSite, siteAt, Tied, tieAt, tiedOf, tied, heightOf, isUsed, usedFrom, usedOf, leftEnd, slotsOf, countOf, backbones, siteShare, drops}
 use Rattle.labelling.specs.Counted.{allBefore, sumBefore, isTaken, isFirst, sumFirsts, anySite, ofColour, labelsCounted, coloursCounted, backbonesCounted, sharesCounted}
 use Rattle.lists.proofs.Tests.{same-test, clash, by-test, by-equal, by-either, and-l, and-r, and-i, or-e}
 use Rattle.labelling.proofs.Members.{noTied, all-at, at-all, used-at, at-used, used-tail, tied-at, length-tied}
-use Rattle.labelling.proofs.Best.{lowTies}
+use Rattle.labelling.proofs.Best.{lowTies, low-at}
 
 -- ALL, by numbers
 pub all-before : (f : ℕ → Bool) (n : ℕ) → allBefore f n ≡ true → (i : ℕ) → i < n → f i ≡ true
@@ -27,6 +27,19 @@ pub before-all : (f : ℕ → Bool) (n : ℕ) → ((i : ℕ) → i < n → f i �
 unfolding allBefore
 before-all f zero h = refl
 before-all f (suc n) h = and-i (before-all f n λ i l. h i (omega arith)) (h n (omega arith))
+
+-- where not all do, one does not
+pub one-fails : (f : ℕ → Bool) (n : ℕ) → allBefore f n ≡ false → (i : ℕ) × (i < n) × (f i ≡ false)
+unfolding allBefore
+one-fails f zero h = absurd (true≢false h)
+one-fails f (suc n) h =
+    by-test (f n)
+    (λ t. let (i, l, e) = one-fails f n (sym (and-true (allBefore f n) (f n) t) ∙ h) in (i, omega arith, e))
+    λ t. (n, omega arith, t)
+  where
+    and-true : (a b : Bool) → b ≡ true → (a && b) ≡ a
+    and-true true b e = e
+    and-true false b e = refl
 
 pub all-is : {A : Type 0} (f : A → Bool) (d : A) (xs : List A) → all f xs ≡ allBefore (λ i. f (getD xs i d)) (length xs)
 all-is f d xs =
@@ -242,7 +255,7 @@ module _ (s : Sheet) (js : List ℕ) (long : length js ≡ length (s .sites)) wh
 
   module _ (low : lowTies (length (s .slots)) js ≡ true) where
     in-range : (i : ℕ) → i < length (s .sites) → getD js i 0 < length (s .slots)
-    in-range i l = ltb-true (getD js i 0) (length (s .slots)) (all-at (λ j. ltb j (length (s .slots))) 0 js low i (omega arith))
+    in-range i l = low-at (length (s .slots)) js low i (omega arith)
 
     firsts-is : (p : ℕ → Bool) (f : ℕ → ℕ) (ks : List ℕ) → ((k : ℕ) → isUsed k ks ≡ isTaken p js k (length (s .sites))) → sumOver f (usedOf s ks) ≡ sumFirsts p f js (length (s .sites))
     firsts-is p f ks h =

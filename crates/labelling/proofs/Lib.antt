@@ -22,3 +22,4 @@ pub mod Tools
 pub mod Twin
 pub mod Strokes
 pub mod Labels
+pub mod Slots

@@ -8,3 +8,4 @@ pub mod Tools
 pub mod Twin
 pub mod Strokes
 pub mod Labels
+pub mod Slots

@@ -11,7 +11,7 @@ use Rattle.lists.proofs.Tests.{by-test}
 use Rattle.sheet.specs.Sheet.{all, insideBy, Site, Sheet, Colour}
 use Rattle.labelling.specs.Layout.{noSite, siteAt, Tied, tieAt, tiedOf, tied, heightOf, usedOf, leastX, leftEnd, colourKept, coloursKept, slotsOf, boundsKept, gapKept, gapsKept, missesAll, clearsAll, countOf, lengthOf, statedCount, statedLength, brokenBy, layoutTies, shareBy}
 use Rattle.labelling.specs.Pairs.{missesPair, clearsPair}
-use Rattle.labelling.specs.Counted.{allBefore, sumBefore, isFirst, anySite}
+use Rattle.labelling.specs.Counted.{allBefore, sumBefore, isFirst, anySite, coloursCounted}
 use Rattle.labelling.proofs.Counted.{tied-is, sum-plus, count-counted, colour-counted, backbones-counted, drops-counted}
 use Rattle.labelling.proofs.Pairs.{rule-four-pairs, rule-five-pairs}
 use Rattle.labelling.proofs.Best.{lowTies}
@@ -88,6 +88,11 @@ abbrev seenAt : Sheet → (ties : List ℕ) → ℕ → TiedSite
 seenAt s js i =
     record { x = (siteAt s i) .x; y = (siteAt s i) .y; colour = (siteAt s i) .colour; slot = getD js i 0; height = heightOf s (getD js i 0) }
 
+-- A COLOUR'S COUNT, by the sheet
+pub colour-count : (s : Sheet) (hs xs ys cs : List ℕ) → Decoded s hs xs ys cs → (js : List ℕ) (c : ℕ) → countOn (Of c) cs js (length (s .sites)) ≡ coloursCounted s js c
+colour-count s hs xs ys cs d js c =
+    ap (λ (p : ℕ → Bool). sumBefore (λ i. cond (isFirst p js i) 1 0) (length (s .sites))) (fun-ext λ i. ap (λ (z : ℕ). eqb z c) (d .colours i))
+
 module _ (s : Sheet) (hs xs ys cs : List ℕ) (d : Decoded s hs xs ys cs) (js : List ℕ) (long : length js ≡ length (s .sites)) where
   abbrev n : ℕ
   n = length (s .sites)
@@ -119,9 +124,7 @@ module _ (s : Sheet) (hs xs ys cs : List ℕ) (d : Decoded s hs xs ys cs) (js : 
 
   module _ (low : lowTies (length (s .slots)) js ≡ true) where
     colour-labels : (c : ℕ) → countOn (Of c) cs js n ≡ length (usedOf s (slotsOf c (tied s js)))
-    colour-labels c =
-        ap (λ (p : ℕ → Bool). sumBefore (λ i. cond (isFirst p js i) 1 0) n) (fun-ext λ i. ap (λ (z : ℕ). eqb z c) (d .colours i)) ∙
-        sym (colour-counted s js long low c)
+    colour-labels c = colour-count s hs xs ys cs d js c ∙ sym (colour-counted s js long low c)
 
     rule-two : boundsOn (boundsOf (s .colours)) cs js n ≡ boundsKept s js 0 (s .colours)
     rule-two =

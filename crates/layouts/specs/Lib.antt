@@ -1,3 +1,4 @@
 pub mod Flaws
 pub mod Pairs
 pub mod Model
+pub mod Counts

@@ -3,3 +3,4 @@ pub mod Places
 pub mod Grown
 pub mod Arrays
 pub mod Signed
+pub mod Number
