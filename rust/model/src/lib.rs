@@ -12,6 +12,8 @@
 //! - [`page`]: the page of a stored sheet for the print room;
 //! - [`program`]: what the program prints;
 //! - [`random`]: random sheets, and damage to them;
+//! - [`crowded`]: random stored sheets up to the limits of the counts;
+//! - [`verdicts`]: how often each verdict was met;
 //! - [`nested`]: random sheets that are aimed at a depth;
 //! - [`depth`]: how many cuts are nested in a layout;
 //! - [`rounding`]: a rival that rounds at each cut.
@@ -19,6 +21,7 @@
 mod areas;
 mod budgets;
 mod costs;
+pub mod crowded;
 pub mod depth;
 pub mod maker;
 pub mod nested;
@@ -34,3 +37,4 @@ pub mod search;
 pub mod sheet;
 pub mod strokes;
 pub mod twin;
+pub mod verdicts;

@@ -3,6 +3,7 @@
 use crate::rules::{self, layout_words};
 use crate::search::{find, find_by};
 use crate::sheet::{Sheet, Site, MOST_BUDGETS, MOST_CHARGE, UNBOUNDED};
+use crate::verdicts::Verdicts;
 
 /// Splitmix64: one 64-bit state, good enough to spread over small sheets.
 pub struct Random(u64);
@@ -66,7 +67,7 @@ impl Random {
         numbers
     }
 
-    fn shuffle<T>(&mut self, items: &mut [T]) {
+    pub fn shuffle<T>(&mut self, items: &mut [T]) {
         for last in (1..items.len()).rev() {
             items.swap(last, self.below(last as u32 + 1) as usize);
         }
@@ -291,20 +292,17 @@ pub fn any_stored(random: &mut Random) -> Vec<u32> {
 /// is met.
 pub fn hold_judge(judge: impl Fn(&[u32]) -> (u8, u8), sheets: usize, seed: u64) {
     let mut random = Random::new(seed);
-    let (mut rules_met, mut refusals_met, mut near_tips) = ([0; 7], [0; 12], 0);
+    let (mut met, mut near_tips) = (Verdicts::default(), 0);
     for _ in 0..sheets {
         let stored = stored_sheet(&mut random);
-        let (refusal, rule) = rules::judge(&stored);
-        assert_eq!(judge(&stored), (refusal, rule), "{stored:x?}");
-        if refusal == 0 {
-            rules_met[usize::from(rule)] += 1;
-            near_tips += usize::from(rules::breaks_at_tips_alone(&stored));
-        }
-        refusals_met[usize::from(refusal)] += 1;
+        let verdict = rules::judge(&stored);
+        assert_eq!(judge(&stored), verdict, "{stored:x?}");
+        met.count(verdict);
+        near_tips += usize::from(rules::breaks_at_tips_alone(&stored));
     }
-    assert!(rules_met.iter().chain([&near_tips]).all(|times| *times > sheets / 1000), "{rules_met:?} {near_tips}");
+    assert!(met.rules.iter().chain([&near_tips]).all(|times| *times > sheets / 1000), "{met}, near tips {near_tips}");
     for refusal in [1, 2, 4, 5, 6, 7, 11] {
-        assert!(refusals_met[refusal] > sheets / 2000, "{refusals_met:?}");
+        assert!(met.refusals[refusal] > sheets / 2000, "{met}");
     }
 }
 
