@@ -2,8 +2,10 @@
 //! program. Writes Markdown to standard output.
 //!
 //! Answers are compared as they come: where two differ, the run ends with an error. Sections are left out by naming
-//! those that are wanted: maker, growth, program, judge, twin, strokes, page.
+//! those that are wanted: maker, growth, program, judge, twin, strokes, page. A further one, before, is taken only if it is
+//! named: it times the judge beside the library of before a change, which `BACKBONE_BEFORE` names (see `before`).
 
+mod before_change;
 mod integer_program;
 mod machine;
 mod process;
@@ -11,14 +13,16 @@ mod sheets;
 mod timing;
 mod word_loops;
 
+use before::Library;
 use integer_program::{Outcome, Solver};
 use model::program::WORK_WORDS;
 use model::sheet::Sheet;
 use model::{maker, page, rules, search, strokes, twin};
 use sheets::{Named, NamedStored};
 use std::hint::black_box;
+use std::process::ExitCode;
 use std::time::Duration;
-use timing::{race, show, timed};
+use timing::{quotient, race, show, timed};
 
 /// A search over more layouts is not begun.
 const MOST_LAYOUTS: f64 = 2e7;
@@ -55,12 +59,12 @@ fn race_makers_in(sheet: &Sheet, work_words: usize) -> (Vec<u32>, Duration, Dura
 }
 
 fn ratio(time: Duration, other: Duration) -> String {
-    format!("{:.2}", time.as_secs_f64() / other.as_secs_f64())
+    format!("{:.2}", quotient(time, other))
 }
 
 /// Times beside the library's, as "time (times as long)".
 fn beside(time: Duration, library: Duration) -> String {
-    format!("{} ({:.0}x)", show(time), time.as_secs_f64() / library.as_secs_f64())
+    format!("{} ({:.0}x)", show(time), quotient(time, library))
 }
 
 fn search_cell(sheet: &Sheet, answer: &[u32], library: Duration) -> String {
@@ -122,8 +126,7 @@ fn print_judges(named: &[Named]) {
     println!("\n## The judge\n");
     println!("| stored sheet | n | m | library | loops over words in Rust | library / loops over words | decoding judge | library / decoding |");
     println!("|---|---|---|---|---|---|---|---|");
-    for Named { name, sheet } in named.iter().filter(|named| named.sheet.work_words() < 100_000_000) {
-        let stored = sheets::with_best(sheet);
+    for NamedStored { name, sheet, words: stored } in sheets::judged(named) {
         let [library, loops, decoding] = race([
             &mut || assert_eq!(backbone::judge(black_box(&stored)), Ok(None)),
             &mut || assert_eq!(word_loops::judge(black_box(&stored)), (0, 0)),
@@ -219,17 +222,10 @@ fn print_program() {
     }
 }
 
-fn main() {
-    println!("{}\n", machine::heading());
-    println!(
-        "Each time is the least of several runs, library and Rust by turns; runs of a second or more are made once."
-    );
-    println!("The integer programs give the cost alone, not the first of the equals; their times have the solver's start in them.\n");
-    let asked: Vec<String> = std::env::args().skip(1).collect();
-    let is_asked = |section: &str| asked.is_empty() || asked.iter().any(|name| name == section);
-    let named = sheets::by_size();
+/// The sections that need nothing but this repository.
+fn print_sections(is_asked: impl Fn(&str) -> bool, named: &[Named]) {
     if is_asked("maker") {
-        print_makers(&named, &Solver::installed());
+        print_makers(named, &Solver::installed());
     }
     if is_asked("growth") {
         print_growth();
@@ -238,7 +234,7 @@ fn main() {
         print_program();
     }
     if is_asked("judge") {
-        print_judges(&named);
+        print_judges(named);
     }
     if is_asked("twin") {
         print_twins();
@@ -249,4 +245,28 @@ fn main() {
     if is_asked("page") {
         print_pages();
     }
+}
+
+fn main() -> ExitCode {
+    let asked: Vec<String> = std::env::args().skip(1).collect();
+    let is_named = |section: &str| asked.iter().any(|name| name == section);
+    // Loaded before anything is timed, so that a run does not end for want of it.
+    let before = match is_named("before").then(Library::before).transpose() {
+        Ok(before) => before,
+        Err(why) => {
+            eprintln!("{why}");
+            return ExitCode::from(2);
+        }
+    };
+    println!("{}\n", machine::heading());
+    println!(
+        "Each time is the least of several runs, library and Rust by turns; runs of a second or more are made once."
+    );
+    println!("The integer programs give the cost alone, not the first of the equals; their times have the solver's start in them.\n");
+    let named = sheets::by_size();
+    print_sections(|section| asked.is_empty() || is_named(section), &named);
+    if let Some(before) = before {
+        before_change::print(&named, &before);
+    }
+    ExitCode::SUCCESS
 }

@@ -77,22 +77,39 @@ pub fn largest_of_program() -> Vec<Named> {
 
 /// A stored sheet.
 pub struct NamedStored {
-    pub name: &'static str,
+    pub name: String,
     pub sheet: Sheet,
     pub words: Vec<u32>,
 }
 
-fn stored(name: &'static str, text: &str) -> NamedStored {
+fn stored(name: &str, text: &str) -> NamedStored {
     let words = sheet::encode(text).expect("an example is a stored sheet's text");
     let (sheet, ..) = split(&words).expect("an example is a stored sheet");
-    NamedStored { name, sheet, words }
+    NamedStored { name: name.to_string(), sheet, words }
+}
+
+/// A sheet whose sites are tied to these slots, with the count and the length that are then true.
+fn tied(name: &str, sheet: Sheet, slot_of: &[usize]) -> NamedStored {
+    let words = [sheet.words(), layout_words(&sheet, slot_of)].concat();
+    NamedStored { name: name.to_string(), sheet, words }
 }
 
 /// A one-sided sheet followed by its best layout.
-pub fn with_best(sheet: &Sheet) -> Vec<u32> {
+fn with_best(sheet: &Sheet) -> Vec<u32> {
     let (mut work, mut answer) = (vec![0; sheet.work_words() as usize], vec![0; sheet.sites.len() + 1]);
     assert_eq!(make(&sheet.words(), &mut work, &mut answer), 0, "a sheet that is timed has a layout: {sheet:?}");
     [sheet.words(), answer].concat()
+}
+
+/// The sheets with their best layouts, without those whose work area is large.
+pub fn judged(named: &[Named]) -> Vec<NamedStored> {
+    let small = named.iter().filter(|named| named.sheet.work_words() < 100_000_000);
+    let stored = |Named { name, sheet }: &Named| NamedStored {
+        name: name.clone(),
+        sheet: sheet.clone(),
+        words: with_best(sheet),
+    };
+    small.map(stored).collect()
 }
 
 /// Lawful two-sided sheets with their layouts, the largest last.
@@ -110,7 +127,7 @@ pub fn drawn() -> Vec<NamedStored> {
     vec![
         stored("A", include_str!("../../../examples/a_two_sided_twin.txt")),
         stored("gearbox", include_str!("../../../examples/gearbox_twin.txt")),
-        NamedStored { name: "tractor", words: with_best(&sheet), sheet },
+        NamedStored { name: "tractor".to_string(), words: with_best(&sheet), sheet },
         wide_bars(),
         most_strokes(),
     ]
@@ -121,12 +138,28 @@ pub fn wide_bars() -> NamedStored {
 }
 
 /// No two sites share a label, and none lies on its backbone: 32 backbones and 32 drops.
-fn most_strokes() -> NamedStored {
+pub fn most_strokes() -> NamedStored {
     bars("most strokes", false, |site| 1 + site % 2)
 }
 
+/// The sheet with the most strokes, changed at its last label, with the least rule that it then breaks.
+pub fn unlawful() -> [(u8, NamedStored); 3] {
+    [
+        (3, changed("most strokes, rule 3 broken", |sheet| sheet.slots[31] = sheet.slots[30] + 1)),
+        (4, changed("most strokes, rule 4 broken", |sheet| sheet.sites[31].y = sheet.slots[30] - 1)),
+        (5, changed("most strokes, rule 5 broken", |sheet| sheet.sites[31].y = sheet.slots[30] + 1)),
+    ]
+}
+
+/// The sheet with the most strokes, changed in a number, with the ties as they were.
+fn changed(name: &str, change: fn(&mut Sheet)) -> NamedStored {
+    let (mut sheet, slot_of, _) = split(&most_strokes().words).expect("it is a stored sheet");
+    change(&mut sheet);
+    tied(name, sheet, &slot_of)
+}
+
 /// 32 sites below 32 of 48 slots, each by less than the gap: near its own and no other, so the layout is lawful.
-fn bars(name: &'static str, two_sided: bool, below: fn(u32) -> u32) -> NamedStored {
+fn bars(name: &str, two_sided: bool, below: fn(u32) -> u32) -> NamedStored {
     const APART: u32 = 10;
     let colours = [1, 1, 1, 1, 1, 1, FREE, FREE];
     let slots: Vec<u32> = (0..48).map(|slot| APART * slot + 5).collect();
@@ -139,8 +172,7 @@ fn bars(name: &'static str, two_sided: bool, below: fn(u32) -> u32) -> NamedStor
     let sites = sites.into_iter().map(|(_, site)| site).collect();
     let (bounds, width) = (colours.to_vec(), 600);
     let sheet = Sheet { two_sided, shortest: true, gap: 3, width, charge: None, slots, bounds, sites };
-    let words = [sheet.words(), layout_words(&sheet, &slot_of)].concat();
-    NamedStored { name, sheet, words }
+    tied(name, sheet, &slot_of)
 }
 
 #[test]
@@ -150,6 +182,14 @@ fn stored_sheets_have_lawful_layouts() {
     }
     assert_eq!(model::strokes::strokes(&most_strokes().words).map(|all| all.len()), Ok(64));
     assert_eq!(model::page::text(&most_strokes().words).map(|text| text.len()), Ok(backbone::MOST_PAGE_BYTES));
+}
+
+#[test]
+fn unlawful_sheets_break_their_rule() {
+    for (rule, NamedStored { name, words, sheet }) in unlawful() {
+        assert_eq!(model::rules::judge(&words), (0, rule), "{name}");
+        assert_eq!([sheet.sites.len(), sheet.slots.len(), sheet.bounds.len()], [32, 48, 8], "{name}");
+    }
 }
 
 /// All but the largest, which takes long.

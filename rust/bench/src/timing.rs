@@ -42,6 +42,11 @@ fn one_of_many(act: &mut dyn FnMut(), once: Duration) -> Duration {
     timed(|| (0..calls).for_each(|_| act())).1 / calls
 }
 
+/// How many times as long.
+pub fn quotient(time: Duration, other: Duration) -> f64 {
+    time.as_secs_f64() / other.as_secs_f64()
+}
+
 /// A time with three digits that count.
 pub fn show(time: Duration) -> String {
     let seconds = time.as_secs_f64();
