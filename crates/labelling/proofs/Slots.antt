@@ -103,7 +103,7 @@ module _ (s : Sheet) (js : List ℕ) (long : length js ≡ length (s .sites)) (l
         bounded = λ e. clash (eq-eqb (bound c) unbounded e) (or-l (eqb (bound c) unbounded) (leb (labels c) (bound c)) h);
         number = labels c;
         different = colour-number s js c (labels c) .0 (colour-counted s js long low c);
-        over = by-order (labels c) (bound c) (λ o. clash (le-leb (labels c) (bound c) o) (or-r (eqb (bound c) unbounded) (leb (labels c) (bound c)) h)) (λ o. o);
+        over = by-order (labels c) (bound c) (λ o. clash (le-leb (labels c) (bound c) o) (or-r (eqb (bound c) unbounded) (leb (labels c) (bound c)) h)) (λ o. omega arith);
       }
 
   pub over-bound : (RuleTwo s js → ⊥) ↔ OverBound s js
