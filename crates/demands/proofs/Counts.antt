@@ -4,16 +4,15 @@ use mathlib.Core.Logic.{_↔_}
 use mathlib.Core.List.{List}
 use Prim.Native.Nat.{ℕ, zero, suc, _<_}
 use native.Mathlib.Omega.{arith}
-use Rattle.sheet.specs.Sheet.{Sheet, sheetIn}
-use Rattle.labelling.specs.Layout.{layoutBody, layoutTies, sheetPart, layoutPart, judgeFault}
+use Rattle.sheet.specs.Sheet.{Sheet}
+use Rattle.labelling.specs.Layout.{layoutBody, layoutTies, layoutPart}
 use Rattle.labelling.specs.Lawful.{RuleOne, Rule, LeastBroken}
 use Rattle.labelling.specs.Slots.{OverBound}
-use Rattle.labelling.proofs.Judge.{judged-so}
 use Rattle.labelling.proofs.Words.{Formed, formed, formed-long, ties-low}
 use Rattle.labelling.proofs.Slots.{over-bound}
 use Rattle.layouts.proofs.Counts.{slots-counted}
 use Rattle.judge.specs.declared.Verdict.{Verdict}
-use Rattle.demands.specs.Demands.{WasJudged, storedSheet, TrueVerdict, CountPromised}
+use Rattle.demands.specs.Demands.{WasJudged, storedSheet, CountPromised}
 use Rattle.demands.proofs.Demands.{demand-two}
 use Rattle.demands.proofs.Layouts.{of-layout}
 

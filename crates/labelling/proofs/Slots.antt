@@ -48,7 +48,7 @@ module _ (p : ℕ → Bool) (js : List ℕ) (n : ℕ) where
       (number-more k (λ t. clash t f) a)
 
 -- THE COUNT at first sites is the number of different slots
-pub slots-taken : (p : ℕ → Bool) (js : List ℕ) (n : ℕ) → NumberOf (Taken p js n) (sumFirsts p (λ k. 1) js n)
+slots-taken : (p : ℕ → Bool) (js : List ℕ) (n : ℕ) → NumberOf (Taken p js n) (sumFirsts p (λ k. 1) js n)
 unfolding sumBefore
 slots-taken p js zero = number-none (λ k h. let (i, l, q, e) = taken-at p js k 0 h in absurd (omega arith))
 slots-taken p js (suc n) =

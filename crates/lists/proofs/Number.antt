@@ -15,7 +15,7 @@ number-none e = record { at = λ i. 0; holds = λ i l. absurd (omega arith); onc
 pub number-same : {P Q : ℕ → Type 0} {n : ℕ} → ((k : ℕ) → P k → Q k) → ((k : ℕ) → Q k → P k) → NumberOf P n → NumberOf Q n
 number-same f g a = record { at = a .at; holds = λ i l. f (a .at i) (a .holds i l); once = a .once; every = λ k q. a .every k (g k q) }
 
--- a place told off anew
+-- one place with another number
 abbrev put : (at : ℕ → ℕ) → (place number : ℕ) → ℕ → ℕ
 put f i k j = cond (eqb j i) k (f j)
 
@@ -77,7 +77,7 @@ number-less {P} {n} k p a = record { at = f; holds = holds; once = once; every =
     there : (i : ℕ) → (i ≡ z → ⊥) → f i ≡ a .at i
     there i e = put-other (a .at) z (a .at n) i e
 
-    -- a place of the old telling whose number is k is z
+    -- a place whose number was k is z
     only : (i : ℕ) → i < suc n → a .at i ≡ k → i ≡ z
     only i l e = a .once i z l zl (e ∙ sym ze)
 

@@ -2,7 +2,7 @@
 use mathlib.Core.Path.{_≡_}
 use Prim.Native.Nat.{ℕ, _<_}
 
--- n IS THE NUMBER of those k of which P holds: they can be told off by the places below n, each at one place
+-- n IS THE NUMBER of those k of which P holds: the places below n hold all of them, each once
 pub record NumberOf (P : ℕ → Type 0) (n : ℕ) : Type 0 where
   pub at : (place : ℕ) → ℕ
   pub holds : (i : ℕ) → i < n → P (at i)
