@@ -15,7 +15,7 @@ pub fn slot_at(ties: &[u32], i: usize) -> u32
     byte_field(ties[i])
 }
 
-// A site with its tie.
+// A site with its tie. Its slot has a height (refusal 11), so the place is not tested: loops over sites are then made for several at a time.
 pub fn tied_at(
     heights: &[u32],
     xs: &[u32],
