@@ -63,7 +63,7 @@ module _ (P : Instance) where
           let miss : Miss (height j) s.y (height k) = inl (by_equal (height i) s.y (λ q. absurd (G.clear-off i s.y cl q)) (λ q. omega arith), omega arith) in
           by_equal j i
           (λ q. rw (q, e) (fr, cl, rw (← q) miss))
-          (λ q. (G.far-trans j (get_or L j 0) i d k (suc s.c) (omega arith) ik km (rw e at (apart j i (omega arith) li nj (omega arith))) fr, G.Clear-above j i s.y (omega arith) li hy cl, miss))
+          (λ q. (G.far-trans j (get_or L j 0) i d k (suc s.c) (omega arith) ik km (rw e at (apart j i (omega arith) li nj (omega arith))) fr, G.clear_above j i s.y (omega arith) li hy cl, miss))
 
       under-rel : (i d j : ℕ) → j < m → get_or L i 0 ≡ d → 0 < d → s.y < height i → clear i s.y ≡ true → far i d k (suc s.c) ≡ true → k < i
           → i ≤ j → 0 < get_or L j 0 → Rel j (get_or L j 0) s k
@@ -169,7 +169,7 @@ module _ (P : Instance) where
                     let hj : height j ≤ height b = rise-le slots G.rising j b (omega arith) lb in
                     let cb : clear b s.y ≡ true = clear-e slots b s.y lb (rw r at cl) in (
                       rw z at (apart j k (omega arith) km nj (omega (arith, z))),
-                      by_equal j b (λ t. rw t cb) (λ t. G.Clear-above j b s.y (omega arith) lb hb cb),
+                      by_equal j b (λ t. rw t cb) (λ t. G.clear_above j b s.y (omega arith) lb hb cb),
                       inl (by_equal (height b) s.y (λ t. absurd (G.clear-off b s.y cb t)) (λ t. omega arith), omega (arith, hk)),
                     )
 
