@@ -145,9 +145,11 @@ module _ (P : Instance) (C R : ℕ) where
         two : (q ≡ upper) ⊎ ((q ≡ lower) ⊎ ⊥) → InRange q
         two (inl z) = subst InRange (sym z) (record { ra = r.ra; rca = r.rca; rb = omega arith; rcb = omega arith; rd = turn_low s k })
         two (inr (inl z)) = subst InRange (sym z) (record { ra = omega arith; rca = omega arith; rb = r.rb; rcb = r.rcb; rd = omega (arith, turn_low s k) })
+        two (inr (inr z)) = elim z [ ]
 
         one : (q ≡ same) ⊎ ⊥ → InRange q
         one (inl z) = subst InRange (sym z) (record { ra = r.ra; rca = r.rca; rb = r.rb; rcb = r.rcb; rd = turn_low s k })
+        one (inr z) = elim z [ ]
 
     -- a level from the one below it
     pub level-cons : (low high : List ℕ) (s : Point) (ss : List Point) → s.c < C → Level low ss → ((i : ℕ) → i < cells P C R → get_or high i 0 ≡ entry_of P C R low s i) → Level high (s ∷ ss)

@@ -114,6 +114,7 @@ module _ (P : Instance) where
       where
         one : (q ≡ record { a = 0; ca = 0; b = suc (m + 0); cb = 0; d = 0 }) ⊎ ⊥ → q ≡ whole_sheet P
         one (inl e) = e ∙ ap (λ (b : ℕ). record { a = 0; ca = 0; b = suc b; cb = 0; d = 0 }) (omega arith)
+        one (inr z) = elim z [ ]
 
     pub reached-next : (ss : List Point) (j : ℕ) (x : State P) (k : ℕ) → Fit P rising x → k < m → price P x (get_or ss j no_point) k < top
         → ((q : Strip) → In q (strips P x.0 x.2) → Reached P ss j q)
