@@ -5,7 +5,7 @@ ghost use Rattle.words.specs.Starts.{start_of};
 use crate::choose;
 
 // A site with its colour, its slot and the slot's height.
-#[derive(Drop)]
+#[derive(Clone, Copy)]
 pub struct TiedSite {
     pub x: u32,
     pub y: u32,
@@ -15,7 +15,7 @@ pub struct TiedSite {
 }
 
 // What stands before the slots: side, aim, gap and width, and the charge.
-#[derive(Drop)]
+#[derive(Clone, Copy)]
 pub struct Head {
     pub twosided: bool,
     pub shortest: bool,
