@@ -1,4 +1,6 @@
 // Sizes, each from numbers alone: whether a bound can bind, P, the work words; the bytes of a page (page).
+#![tactic(auto)]
+
 pub mod page;
 
 ghost use Rattle.std.specs.Prelude.{◌≡◌, ℕ, ◌<◌, ◌≤◌, length, get_or};

@@ -1,0 +1,9 @@
+use mathlib.Core.Path.{refl}
+use borrow.Author.Tests.{le-leb, lt-leb}
+use Rattle.sizes.proofs.binding_bound.Goals as goal
+
+pub returns-then-bound-sites : goal.returns-then-bound-sites
+returns-then-bound-sites c = let a = c.args in rw (lt-leb a.sites a.bound c.if-bound-sites.true) refl
+
+pub returns : goal.returns
+returns c = let a = c.args in rw (le-leb a.sites a.bound c.if-bound-sites.false) refl
