@@ -1,4 +1,6 @@
 // Text put into a lent byte area. Each function answers the place past what it put; what would lie past the area's end is left out.
+#![tactic(auto)]
+
 ghost use Rattle.std.specs.Prelude.{◌≡◌, [], ◌∷◌, ◌++◌, ◌+◌, ◌-◌, ◌%◌, replicate};
 ghost use Rattle.text.specs.Text.{blank, zero_digit, decimal, right_in, written, past_of};
 
