@@ -1,5 +1,7 @@
 // The numbers of an accepted sheet in arrays: all that works on a sheet after its refusals works on these. Its functions are internal
 // to those that have refused first: each asks for an accepted sheet, or for an array that is long enough.
+#![tactic(auto)]
+
 ghost use Rattle.std.specs.Prelude.{◌≡◌, cond, ◌++◌, eqb, ◌+◌, ◌<◌, ◌≤◌, length, drop};
 ghost use Rattle.sheet.specs.Limits.{most_slots, most_colours, most_sites, top_word};
 ghost use Rattle.sheet.specs.Sheet.{slots_in, colours_in, sites_in, sheet_in, sheet_fault};
