@@ -13,7 +13,7 @@ use lib.ListN.{length, take, drop, replicate, length-replicate}
 use lib.Seq.{length_front, length-take-le, take_at, drop_at}
 use borrow.Author.Tests.{eq-eqb}
 use Rattle.sheet.specs.Sheet.{Sheet, sheet_in, work_for}
-use Rattle.labelling.specs.Layout.{slots_by_rank, is_better, best, answer, answer_of, is_lawful, layout_ties, words_for}
+use Rattle.labelling.specs.Layout.{slots_by_rank, is_better, best, answer_of, is_lawful, layout_ties, words_for}
 use Rattle.labelling.specs.Entry.{make_fault, make_answer, make_work}
 use Rattle.labelling.specs.Promise.{same, is_beaten, begun, NoneLawful, BeatsAll, BestOfAll, AreasKept, ContentsUnread, RefusedUnchanged}
 use Rattle.lists.proofs.Tests.{clash, is_false, is_true}

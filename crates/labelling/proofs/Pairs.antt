@@ -10,7 +10,7 @@ use lib.Dec.{eqb, leb}
 use lib.ListN.{length, get_or}
 use borrow.Author.Tests.{leb-true, le-leb}
 use Rattle.sheet.specs.Sheet.{all, Sheet, inside_by}
-use Rattle.labelling.specs.Layout.{site_at, Tied, tied, height_of, is_used, used_of, left_end, is_far, vertical_has, misses_from, misses, misses_all, counts, is_clear, clears_from, clears_all}
+use Rattle.labelling.specs.Layout.{site_at, Tied, tied, height_of, is_used, used_of, left_end, is_far, vertical_has, misses_from, misses_all, counts, is_clear, clears_from, clears_all}
 use Rattle.labelling.specs.Pairs.{start_of, misses_pairs, clears_pairs}
 use Rattle.lists.proofs.Tests.{by-test, same_test}
 use Rattle.labelling.proofs.Members.{each, every, all-used, used_all, used-at}

@@ -10,7 +10,7 @@ use borrow.Author.Tests.{leb-true, lt-ltb, le-ltb, eq-eqb, ne_eqb}
 use Rattle.lists.proofs.Tests.{by-test, by_equal}
 use Rattle.sheet.specs.Sheet.{Sheet, sheet_in, inside_by}
 use Rattle.sheet.proofs.Accepted.{Sound, sound}
-use Rattle.labelling.specs.Layout.{no_site, site_at, tie_at, height_of, is_used, least_x, left_end, tied, used_of, count_of, drops, length_of, site_share, layout_ties, sheet_part, layout_part, stored_fault}
+use Rattle.labelling.specs.Layout.{no_site, site_at, tie_at, height_of, is_used, least_x, left_end, tied, used_of, count_of, length_of, site_share, layout_ties, sheet_part, layout_part, stored_fault}
 use Rattle.labelling.specs.Counted.{sum_before}
 use Rattle.labelling.specs.Lawful.{RuleSix}
 use Rattle.labelling.specs.Strokes.{Stroke, bone_of, drop_of, is_off, listed, bones_of, drops_of, strokes_of, strokes_in, no_stroke, stroke_fault, sum_of, one_bone, one_drop, units_of, sites_off, charges_off, EndsInside, StrokesAddUp}

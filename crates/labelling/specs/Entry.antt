@@ -1,6 +1,6 @@
 -- What the layout maker answers and leaves: document 01, "Layout maker". Assumes nothing: these are definitions, each for every
 -- sheet, work area and answer area, as lists of words.
-use Rattle.std.specs.Prelude.{◌≡◌, Bool, true, false, ◌||◌, not, cond, List, [], ◌∷◌, ◌++◌, ℕ, ◌-◌, ◌≤◌, ltb, eqb, leb, length, take, drop, replicate}
+use Rattle.std.specs.Prelude.{◌≡◌, Bool, true, false, ◌||◌, not, cond, List, [], ◌∷◌, ◌++◌, ℕ, ◌-◌, ◌≤◌, eqb, leb, length, take, drop, replicate}
 use Rattle.std.proofs.Math.Option.{Option, none, some}
 use Rattle.sheet.specs.Refusals.{Refusal, unless, given}
 use Rattle.sheet.specs.Sheet.{sheet_in, sheet_refusals, sheet_fault, work_for}

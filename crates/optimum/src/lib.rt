@@ -1,2 +1,4 @@
+#![tactic(auto)]
+
 pub mod examples;
 pub mod optimality;
