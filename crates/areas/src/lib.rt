@@ -1,4 +1,6 @@
 // What is written into an area: a tie's word in the answer, and a part zeroed.
+#![tactic(auto)]
+
 pub mod ties;
 
 ghost use Rattle.std.specs.Prelude.{◌≡◌, ◌≤◌, length};
