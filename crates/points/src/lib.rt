@@ -1,5 +1,7 @@
 // Whole numbers of units as 32-bit floats in points: one point is eight units, and nothing is lost. A stroke in points, and as C has it.
 // What has a `requires` here is internal to strokes: it asks for numbers as small as those of an accepted sheet, and of a wall chart.
+#![tactic(auto)]
+
 pub mod flat;
 pub mod stroke;
 
