@@ -10,7 +10,7 @@ use arrays::Measures;
 use rows::{Site, Strip};
 
 // What is left for the sites that are not tied yet: the budget, and what they are to cost.
-#[derive(Drop)]
+#[derive(Clone, Copy)]
 pub struct Left {
     pub budget: u32,
     pub cost: u32,

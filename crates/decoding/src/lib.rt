@@ -158,7 +158,7 @@ fn colours_of(body: &[u32]) -> [u32; MOST_SITES]
 // ---- all of them
 
 // An accepted sheet's numbers, by value: what its head and its charge say, how many slots (m), colours (C) and sites (n) it has, and their arrays.
-#[derive(Drop)]
+#[derive(Clone, Copy)]
 pub struct Numbers {
     pub head: Head,
     pub slots: usize,

@@ -10,7 +10,7 @@ use faults::stored::{layout_fault, rule_fault};
 use reader::opened::open_sheet;
 
 // refusal: 1 to 7, 11 or 13, 0 for none. at: where the layout begins. numbers: the sheet's, all zeros beside a refusal.
-#[derive(Drop)]
+#[derive(Clone, Copy)]
 pub struct Opened {
     pub refusal: u8,
     pub at: usize,

@@ -8,7 +8,7 @@ use crate::ties::slot_at;
 use words::{is_not, same};
 
 // The sites that are counted: all, or a colour's.
-#[derive(Drop)]
+#[derive(Clone, Copy)]
 pub enum Among {
     All,
     Of(usize),

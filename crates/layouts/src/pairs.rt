@@ -12,7 +12,7 @@ use rules::rule_5::clears_pass;
 use words::tied::{Head, TiedSite};
 
 // A test of a tied site beside another.
-#[derive(Drop)]
+#[derive(Clone, Copy)]
 pub enum Test {
     Colours,
     Gaps,

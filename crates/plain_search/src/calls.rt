@@ -29,7 +29,7 @@ pub fn fill(area: &mut [u32], seed: u32) {
 }
 
 // What a call writes in front of an area: so many words, the first, and the others with a slot each; the seed of the words before it.
-#[derive(Drop)]
+#[derive(Clone, Copy)]
 struct Written {
     words: u32,
     first: u32,
@@ -100,7 +100,7 @@ fn fault_for(two_sided: bool, work: u32, needed: u32, out: u32, answer: u32, siz
 }
 
 // How many words are lent of the sheet, for work and for the answer; what the call should answer; the words that it needs.
-#[derive(Drop)]
+#[derive(Clone, Copy)]
 pub struct Expected {
     pub words: u32,
     pub work: u32,

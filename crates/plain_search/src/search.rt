@@ -5,7 +5,7 @@ use crate::small_sheet::{FACTOR_TOP, NUMBER_TOP, Sheet, at, last_of, product, su
 // More than any layout's size.
 pub const NONE: u32 = 16777215;
 
-#[derive(Drop)]
+#[derive(Clone, Copy)]
 pub struct Found {
     // of the best layout: its count of labels and its length as in an answer's first word
     pub size: u32,

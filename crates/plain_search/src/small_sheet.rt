@@ -25,7 +25,7 @@ pub const WORD_TOP: u64 = 4294967296;
 // A set has so many numbers.
 pub const SET: u32 = 32;
 
-#[derive(Drop)]
+#[derive(Clone, Copy)]
 pub struct Sheet {
     // the last number drawn, from which the next is
     pub seed: u32,

@@ -20,7 +20,7 @@ use sizes::{product_of, work_for};
 use words::MOST_COLOURS;
 
 #[repr(C)]
-#[derive(Drop)]
+#[derive(Clone, Copy)]
 pub struct ColourSize {
     pub bound: u8,
     pub sites: u8,

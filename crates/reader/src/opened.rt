@@ -6,7 +6,7 @@ use crate::faults::sheet_fault;
 use decoding::{Numbers, no_numbers, numbers_of};
 
 // refusal: 1 to 7, 0 for none. numbers: the sheet's, all zeros beside a refusal.
-#[derive(Drop)]
+#[derive(Clone, Copy)]
 pub struct OpenedSheet {
     pub refusal: u8,
     pub numbers: Numbers,

@@ -19,7 +19,7 @@ pub const LAST_MARK: u32 = 0;
 
 // A strip: the labels above and below it (0: the top edge, k + 1: slot k, m + 1: the bottom edge) and their colours (0: none, c + 1: colour c);
 // d is the mark that the last site tied in it left.
-#[derive(Drop)]
+#[derive(Clone, Copy)]
 pub struct Strip {
     pub a: u32,
     pub ca: u32,
@@ -29,7 +29,7 @@ pub struct Strip {
 }
 
 // A site: x, y, its colour, and the set of slots (bit k: slot k) at which it may open no label.
-#[derive(Drop)]
+#[derive(Clone, Copy)]
 pub struct Site {
     pub x: u32,
     pub y: u32,
@@ -38,7 +38,7 @@ pub struct Site {
 }
 
 // An end of a strip: an edge or a label, by its slot (0 the top edge, k + 1 slot k, m + 1 the bottom edge) and its colour (0 none, c + 1 colour c).
-#[derive(Drop)]
+#[derive(Clone, Copy)]
 pub struct End {
     pub slot: u32,
     pub colour: u32,

@@ -11,7 +11,7 @@ use points::stroke::is_off;
 use words::{TIES_AT, get};
 
 // What is listed: the backbones of used slots, or the drops of sites off their backbone.
-#[derive(Drop)]
+#[derive(Clone, Copy)]
 pub enum Listed {
     Bones,
     Drops,
