@@ -1,4 +1,6 @@
 // The program's text, from the bytes of its input; and its run, which reads, calls and writes.
+#![tactic(auto)]
+
 ghost use Rattle.std.specs.Prelude.{◌≡◌, cond, ◌++◌, ◌≤◌, eqb, length, drop};
 ghost use Rattle.sheet.specs.Sheet.{sheet_in, sheet_fault};
 ghost use Rattle.text.specs.Text.{written, past_of};
@@ -6,11 +8,12 @@ ghost use Rattle.report.specs.Lines.{refused_line, layout_text};
 ghost use Rattle.report.specs.Report.{program_sheet_text, program_text, text_bound};
 
 use decoding::numbers_of;
-use libc::{STDIN_FILENO, STDOUT_FILENO};
 use maker::make_layout;
 use refusals::refusal_12::{MOST_BYTES, WORD_BYTES, is_unfit};
 use report::input::put_words;
 use report::lines::{put_layout, put_refused};
+use std::io;
+use stream::read_full;
 use words::MOST_SITES;
 
 // The program's areas: an input's bytes and one more, which tells that it is too long; its words; work and answer.
@@ -74,10 +77,10 @@ fn report(input: &[u8], text: &mut [u8]) -> usize
 }
 
 // Reads an input and writes the text for it.
-fn main() {
+fn main(rt: HostRuntime) -> io::Result<()> {
     let mut input = [0u8; INPUT_BYTES];
     let mut text = [0u8; TEXT_BOUND];
-    let got = io::read_full(STDIN_FILENO, &mut input);
+    let got = read_full(&mut rt.stdin(), &mut input)?;
     let size = report(&input[..got], &mut text);
-    io::write_all(STDOUT_FILENO, &text[..size]);
+    rt.write_all(&text[..size])
 }

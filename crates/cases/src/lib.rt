@@ -1,14 +1,17 @@
 // Cases of a test as lines of text: a name, a colon, and words in hexadecimal, a blank before each; and a line for what is given.
-ghost use Rattle.std.specs.Prelude.{◌≤◌, length};
+#![tactic(auto)]
 
-use libc::STDOUT_FILENO;
+ghost use Rattle.std.specs.Prelude.{◌≤◌, length, IfOk};
+
+use std::io;
+
+// Bytes enough for the input of a test.
+pub const TEXT_BYTES: usize = 65536;
 
 // Words enough for each case of a test.
 pub const CASE_WORDS: usize = 128;
 
 // A word has eight hexadecimal digits; one more moves the first out, so that 2^28 is what the other seven are below.
-const DIGITS: usize = 8;
-
 const DIGIT_TOP: u32 = 16;
 
 const SEVEN_DIGITS_TOP: u32 = 268435456;
@@ -49,10 +52,8 @@ pub fn take_words(text: &[u8], words: &mut [u32], before: usize) -> usize
     ensures { result ≤ length words.old }
 {
     let mut begun = before;
-    let mut i: usize = 0;
-    while i < text.len() {
-        begun = take_byte(words, begun, text[i]);
-        i += 1;
+    for b in text {
+        begun = take_byte(words, begun, *b);
     }
     begun
 }
@@ -62,61 +63,55 @@ pub fn place_of(text: &[u8], from: usize, b: u8) -> usize
     requires { from ≤ length text.now }
     ensures { (from ≤ result) × (result ≤ length text.now) }
 {
-    let mut i = from;
-    while i < text.len() {
+    for i in from..text.len() {
         if text[i] == b {
             return i;
         }
-        i += 1;
     }
-    i
+    text.len()
 }
 
 // Writes a line's name, and takes its words.
-pub fn take_case(line: &[u8], words: &mut [u32]) -> usize
-    ensures { result ≤ length words.old }
+pub fn take_case(rt: &impl Print, line: &[u8], words: &mut [u32]) -> io::Result<usize>
+    ensures { IfOk result (λ n. n ≤ length words.old) }
 {
     let name = place_of(line, 0, b':');
-    io::write_all(STDOUT_FILENO, &line[0..name]);
-    take_words(&line[name..], words, 0)
+    rt.write_all(&line[0..name])?;
+    Ok(take_words(&line[name..], words, 0))
 }
 
 // Ends a line with a number.
-pub fn print_number(before: &[u8], number: u32) {
-    io::write_all(STDOUT_FILENO, before);
-    io::print_decimal(STDOUT_FILENO, number as u64);
-    io::write_all(STDOUT_FILENO, b"\n");
+pub fn print_number(rt: &impl Print, before: &[u8], number: u32) -> io::Result<()> {
+    rt.write_all(before)?;
+    println!(rt; "{number}")
 }
 
-fn print_word(word: u32) {
-    io::write_all(STDOUT_FILENO, b" ");
-    io::print_hex(STDOUT_FILENO, word as u64, DIGITS);
+fn print_word(rt: &impl Print, word: u32) -> io::Result<()> {
+    print!(rt; " {word:08x}")
 }
 
 // Ends a line with what the layout maker gives.
-pub fn print_answer(fault: u8, answer: &[u32]) {
+pub fn print_answer(rt: &impl Print, fault: u8, answer: &[u32]) -> io::Result<()> {
     if fault != 0 {
-        print_number(b": refused ", fault as u32);
-        return;
+        return print_number(rt, b": refused ", fault as u32);
     }
-    io::write_all(STDOUT_FILENO, b":");
-    let mut i: usize = 0;
-    while i < answer.len() {
-        print_word(answer[i]);
-        i += 1;
+    print!(rt; ":")?;
+    for word in answer {
+        print_word(rt, *word)?;
     }
-    io::write_all(STDOUT_FILENO, b"\n");
+    println!(rt)
 }
 
 // Each count with its name: a line of a text, after the byte >.
-pub fn print_counts(text: &[u8], counts: [u32; COUNTS]) {
+pub fn print_counts(rt: &impl Print, text: &[u8], counts: [u32; COUNTS]) -> io::Result<()> {
     let mut i: usize = 0;
     let mut from = place_of(text, 0, b'>');
     while from < text.len() {
         let start = from + 1;
         from = place_of(text, start, b'>');
-        io::print_decimal(STDOUT_FILENO, counts[i] as u64);
-        io::write_all(STDOUT_FILENO, &text[start..from]);
+        rt.print(counts[i])?;
+        rt.write_all(&text[start..from])?;
         i = (i + 1) % COUNTS;
     }
+    Ok(())
 }

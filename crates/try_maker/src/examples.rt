@@ -2,31 +2,32 @@
 // begins with # is a remark, one that begins with > has the name of a count.
 use cases::{place_of, print_answer, take_case};
 use maker::make_layout;
+use std::io;
 
-fn lay_out(sheet: &[u32], work: &mut [u32], answer: &mut [u32]) {
+fn lay_out(rt: &impl Print, sheet: &[u32], work: &mut [u32], answer: &mut [u32]) -> io::Result<()> {
     let fault = make_layout(sheet, work, answer);
-    print_answer(fault, answer);
+    print_answer(rt, fault, answer)
 }
 
 // Both areas are dirty before the call.
-fn lay_out_words(words: &[u32]) {
+fn lay_out_words(rt: &impl Print, words: &[u32]) -> io::Result<()> {
     if words.len() < 2 {
-        return;
+        return Ok(());
     }
     let k = (words[0] % 16385) as usize;
     let a = (words[1] % 34) as usize;
     let mut work = [4294967295u32; 16384];
     let mut answer = [4294967295u32; 33];
-    lay_out(&words[2..], &mut work[0..k], &mut answer[0..a]);
+    lay_out(rt, &words[2..], &mut work[0..k], &mut answer[0..a])
 }
 
-fn lay_out_line(line: &[u8]) {
+fn lay_out_line(rt: &impl Print, line: &[u8]) -> io::Result<()> {
     let mut words = [0u32; 128];
-    let n = take_case(line, &mut words);
-    lay_out_words(&words[0..n]);
+    let n = take_case(rt, line, &mut words)?;
+    lay_out_words(rt, &words[0..n])
 }
 
-pub fn lay_out_lines(text: &[u8]) {
+pub fn lay_out_lines(rt: &impl Print, text: &[u8]) -> io::Result<()> {
     let mut from: usize = 0;
     while from < text.len() {
         let start = from;
@@ -35,6 +36,7 @@ pub fn lay_out_lines(text: &[u8]) {
         if text[start] < b'A' {
             continue;
         }
-        lay_out_line(&text[start..end]);
+        lay_out_line(rt, &text[start..end])?;
     }
+    Ok(())
 }

@@ -1,16 +1,19 @@
 // The layout maker on the drawn examples of document 01, and on small sheets beside a plain search.
 // The file stdout is worked out from documents 01 and 02, the counts by rust/model/tests/recipe.
+#![tactic(auto)]
+
 mod compare;
 mod examples;
 
-use cases::print_counts;
+use cases::{TEXT_BYTES, print_counts};
 use compare::count_sheets;
 use examples::lay_out_lines;
-use libc::STDIN_FILENO;
+use std::io;
+use stream::read_full;
 
-fn main() {
-    let mut text = io::large_buffer();
-    let got = io::read_full(STDIN_FILENO, &mut text);
-    lay_out_lines(&text[0..got]);
-    print_counts(&text[0..got], count_sheets());
+fn main(rt: HostRuntime) -> io::Result<()> {
+    let mut text = [0u8; TEXT_BYTES];
+    let got = read_full(&mut rt.stdin(), &mut text)?;
+    lay_out_lines(&rt, &text[0..got])?;
+    print_counts(&rt, &text[0..got], count_sheets())
 }

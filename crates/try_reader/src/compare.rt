@@ -1,6 +1,6 @@
 // What the reader gives, compared with what documents 01 and 02 say; cases and differences are counted.
-use libc::STDOUT_FILENO;
 use reader::{ColourSize, Sizes, read_sheet};
+use std::io;
 use words::{MOST_COLOURS, wide};
 
 // A tally of cases is one number: so much for each case, and 1 for each that differs.
@@ -67,12 +67,8 @@ pub fn compare(words: &[u32]) -> u32 {
 }
 
 // A line for a group of cases.
-pub fn say(group: &[u8], t: u32) -> u32 {
-    io::write_all(STDOUT_FILENO, group);
-    io::write_all(STDOUT_FILENO, b": ");
-    io::print_decimal(STDOUT_FILENO, (t / CASE) as u64);
-    io::write_all(STDOUT_FILENO, b" cases, ");
-    io::print_decimal(STDOUT_FILENO, (t % CASE) as u64);
-    io::write_all(STDOUT_FILENO, b" differ\n");
-    t
+pub fn say(rt: &impl Print, group: &[u8], t: u32) -> io::Result<u32> {
+    rt.write_all(group)?;
+    println!(rt; ": {} cases, {} differ", t / CASE, t % CASE)?;
+    Ok(t)
 }

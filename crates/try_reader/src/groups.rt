@@ -2,6 +2,7 @@
 use crate::compare::{compare, say};
 use crate::faults::read_sets;
 use cases::{CASE_WORDS, place_of, take_words};
+use std::io;
 use std::num::wrapping_add_u32;
 
 // One case.
@@ -30,21 +31,21 @@ fn read_cases(mark: u8, text: &[u8]) -> u32 {
     t
 }
 
-fn read_group(text: &[u8]) -> u32 {
+fn read_group(rt: &impl Print, text: &[u8]) -> io::Result<u32> {
     let end = place_of(text, 0, b'\n');
     if end == 0 {
-        return 0;
+        return Ok(0);
     }
-    say(&text[1..end], read_cases(text[0], &text[end..]))
+    say(rt, &text[1..end], read_cases(text[0], &text[end..]))
 }
 
-pub fn read_groups(text: &[u8]) -> u32 {
+pub fn read_groups(rt: &impl Print, text: &[u8]) -> io::Result<u32> {
     let mut t: u32 = 0;
     let mut from = place_of(text, 0, b'>');
     while from < text.len() {
         let start = from + 1;
         from = place_of(text, start, b'>');
-        t = wrapping_add_u32(t, read_group(&text[start..from]));
+        t = wrapping_add_u32(t, read_group(rt, &text[start..from])?);
     }
-    t
+    Ok(t)
 }

@@ -1,14 +1,20 @@
 // Runs the reader on document 01's examples, on the edges of each refusal and on sets of faults; a line for each group, with its cases and differences.
+#![tactic(auto)]
+
 mod compare;
 mod faults;
 mod groups;
 
+use cases::TEXT_BYTES;
 use compare::say;
 use groups::read_groups;
-use libc::STDIN_FILENO;
+use std::io;
+use stream::read_full;
 
-fn main() {
-    let mut text = io::large_buffer();
-    let got = io::read_full(STDIN_FILENO, &mut text);
-    say(b"all", read_groups(&text[0..got]));
+fn main(rt: HostRuntime) -> io::Result<()> {
+    let mut text = [0u8; TEXT_BYTES];
+    let got = read_full(&mut rt.stdin(), &mut text)?;
+    let t = read_groups(&rt, &text[0..got])?;
+    say(&rt, b"all", t)?;
+    Ok(())
 }

@@ -1,12 +1,15 @@
 // The judge, the strokes and the page on stored sheets made by hand. Each line of the input is a case: a name, a colon, and words in
 // hexadecimal, a blank before each; a line that begins with # is a remark. What must be given is in the file stdout, worked out from documents
 // 01 and 02: the verdict, then each stroke, by its ends in units, up to the place that is refused, then the page, if there is one.
-use cases::{CASE_WORDS, place_of, print_number, take_case};
+#![tactic(auto)]
+
+use cases::{CASE_WORDS, TEXT_BYTES, place_of, print_number, take_case};
 use judge::{Verdict, judge_layout};
-use libc::{STDIN_FILENO, STDOUT_FILENO};
 use page::write_page;
 use points::in_points;
 use points::stroke::{End, Stroke};
+use std::io;
+use stream::read_full;
 use strokes::stroke_at;
 
 // More places than a stored sheet has strokes: at most a backbone and a drop for each of 32 sites.
@@ -18,12 +21,11 @@ const PAGE_BYTES: usize = 2665;
 // Above the greatest x, y, height or width.
 const NUMBER_TOP: u32 = 16384;
 
-fn print_verdict(v: Verdict) {
+fn print_verdict(rt: &impl Print, v: Verdict) -> io::Result<()> {
     if v.refusal != 0 {
-        print_number(b": refused ", v.refusal as u32);
-        return;
+        return print_number(rt, b": refused ", v.refusal as u32);
     }
-    print_number(b": rule ", v.rule as u32);
+    print_number(rt, b": rule ", v.rule as u32)
 }
 
 // The whole number whose eighth this is.
@@ -38,69 +40,68 @@ fn units_of(x: f32) -> u32 {
     n
 }
 
-fn print_units(x: f32) {
-    io::write_all(STDOUT_FILENO, b" ");
-    io::print_decimal(STDOUT_FILENO, units_of(x) as u64);
+fn print_units(rt: &impl Print, x: f32) -> io::Result<()> {
+    print!(rt; " {}", units_of(x))
 }
 
-fn print_ends(name: &[u8], first: End, second: End) {
-    io::write_all(STDOUT_FILENO, name);
-    print_units(first.x);
-    print_units(first.y);
-    print_units(second.x);
-    print_number(b" ", units_of(second.y));
+fn print_ends(rt: &impl Print, name: &[u8], first: End, second: End) -> io::Result<()> {
+    rt.write_all(name)?;
+    print_units(rt, first.x)?;
+    print_units(rt, first.y)?;
+    print_units(rt, second.x)?;
+    print_number(rt, b" ", units_of(second.y))
 }
 
 // Prints a stroke, or a refusal; whether it is a stroke.
-fn print_stroke(stroke: Stroke) -> bool {
+fn print_stroke(rt: &impl Print, stroke: Stroke) -> io::Result<bool> {
     match stroke {
         Stroke::Bone(first, second) => {
-            print_ends(b"  bone", first, second);
-            true
+            print_ends(rt, b"  bone", first, second)?;
+            Ok(true)
         }
         Stroke::Drop(first, second) => {
-            print_ends(b"  drop", first, second);
-            true
+            print_ends(rt, b"  drop", first, second)?;
+            Ok(true)
         }
         Stroke::Refused(refusal) => {
-            print_number(b"  refused ", refusal as u32);
-            false
+            print_number(rt, b"  refused ", refusal as u32)?;
+            Ok(false)
         }
     }
 }
 
-fn print_strokes(stored: &[u32]) {
-    let mut place: usize = 0;
-    while place < PLACES {
-        if !print_stroke(stroke_at(stored, place)) {
-            return;
+fn print_strokes(rt: &impl Print, stored: &[u32]) -> io::Result<()> {
+    for place in 0..PLACES {
+        if !print_stroke(rt, stroke_at(stored, place))? {
+            return Ok(());
         }
-        place += 1;
     }
+    Ok(())
 }
 
 // Puts a page into an area and prints it; a refusal prints nothing.
-fn put_page(stored: &[u32], page: &mut [u8]) {
+fn put_page(rt: &impl Print, stored: &[u32], page: &mut [u8]) -> io::Result<()> {
     let size = write_page(stored, page).written as usize;
     if size <= page.len() {
-        io::write_all(STDOUT_FILENO, &page[..size]);
+        rt.write_all(&page[..size])?;
     }
+    Ok(())
 }
 
-fn print_page(stored: &[u32]) {
+fn print_page(rt: &impl Print, stored: &[u32]) -> io::Result<()> {
     let mut page = [0u8; PAGE_BYTES];
-    put_page(stored, &mut page);
+    put_page(rt, stored, &mut page)
 }
 
-fn try_line(line: &[u8]) {
+fn try_line(rt: &impl Print, line: &[u8]) -> io::Result<()> {
     let mut words = [0u32; CASE_WORDS];
-    let n = take_case(line, &mut words);
-    print_verdict(judge_layout(&words[0..n]));
-    print_strokes(&words[0..n]);
-    print_page(&words[0..n]);
+    let n = take_case(rt, line, &mut words)?;
+    print_verdict(rt, judge_layout(&words[0..n]))?;
+    print_strokes(rt, &words[0..n])?;
+    print_page(rt, &words[0..n])
 }
 
-fn try_lines(text: &[u8]) {
+fn try_lines(rt: &impl Print, text: &[u8]) -> io::Result<()> {
     let mut from: usize = 0;
     while from < text.len() {
         let start = from;
@@ -109,12 +110,13 @@ fn try_lines(text: &[u8]) {
         if text[start] == b'#' {
             continue;
         }
-        try_line(&text[start..end]);
+        try_line(rt, &text[start..end])?;
     }
+    Ok(())
 }
 
-fn main() {
-    let mut text = io::large_buffer();
-    let got = io::read_full(STDIN_FILENO, &mut text);
-    try_lines(&text[0..got]);
+fn main(rt: HostRuntime) -> io::Result<()> {
+    let mut text = [0u8; TEXT_BYTES];
+    let got = read_full(&mut rt.stdin(), &mut text)?;
+    try_lines(&rt, &text[0..got])
 }
