@@ -1,0 +1,16 @@
+-- `reader::colour_sizes` meets its contract.
+use Prim.Native.Nat.{◌-◌}
+use native.Mathlib.Omega.{arith}
+use lib.ListN.{length, replicate}
+use borrow.Author.Rules.{rules}
+use Rattle.lists.proofs.Grown.{Grown, grown-none, grown-more}
+use Rattle.sheet.specs.Limits.{most_colours}
+use Rattle.reader.specs.Read.{absent}
+use Rattle.reader.proofs.Eight.{sizes_from, sizes-at, eight_are}
+use Rattle.reader.proofs.colour_sizes.Given as goal
+
+abbrev pub invariant-loop-c : goal.invariant-loop-c
+invariant-loop-c l = Grown (replicate most_colours absent) l.colours (sizes_from l.bounds l.counts 0) (sizes_from l.bounds l.counts l.c) l.c
+
+abbrev pub decreases-loop-c : goal.decreases-loop-c
+decreases-loop-c l = length l.bounds - l.c
