@@ -1,4 +1,6 @@
 // The reader: the refusal of any list of words, or the sizes of the sheet in it.
+#![tactic(auto)]
+
 pub mod faults;
 pub mod opened;
 mod refusal_1;

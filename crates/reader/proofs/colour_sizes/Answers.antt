@@ -1,12 +1,7 @@
 -- `reader::colour_sizes` meets its contract.
-use Prim.Native.Nat.{◌-◌}
 use native.Mathlib.Omega.{arith}
-use lib.ListN.{length, replicate}
-use borrow.Author.Rules.{rules}
-use Rattle.lists.proofs.Grown.{Grown, grown-none, grown-more}
-use Rattle.sheet.specs.Limits.{most_colours}
-use Rattle.reader.specs.Read.{absent}
-use Rattle.reader.proofs.Eight.{sizes_from, sizes-at, eight_are}
+use Rattle.lists.proofs.Grown.{grown-none, grown-more}
+use Rattle.reader.proofs.Eight.{sizes-at, eight_are}
 use Rattle.reader.proofs.colour_sizes.Goals as goal
 
 pub loop-c-init : goal.loop-c-init

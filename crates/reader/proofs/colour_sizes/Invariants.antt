@@ -1,12 +1,10 @@
 -- `reader::colour_sizes` meets its contract.
 use Prim.Native.Nat.{◌-◌}
-use native.Mathlib.Omega.{arith}
 use lib.ListN.{length, replicate}
-use borrow.Author.Rules.{rules}
-use Rattle.lists.proofs.Grown.{Grown, grown-none, grown-more}
+use Rattle.lists.proofs.Grown.{Grown}
 use Rattle.sheet.specs.Limits.{most_colours}
 use Rattle.reader.specs.Read.{absent}
-use Rattle.reader.proofs.Eight.{sizes_from, sizes-at, eight_are}
+use Rattle.reader.proofs.Eight.{sizes_from}
 use Rattle.reader.proofs.colour_sizes.Given as goal
 
 abbrev pub invariant-loop-c : goal.invariant-loop-c

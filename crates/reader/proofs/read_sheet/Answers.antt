@@ -1,6 +1,5 @@
 -- `reader::read_sheet` meets its contract.
 use mathlib.Core.Path.{◌∙◌}
-use borrow.Author.Rules.{rules}
 use Rattle.reader.proofs.Opening.{sizes-read}
 use Rattle.reader.proofs.read_sheet.Goals as goal
 

@@ -1,6 +1,5 @@
 -- `reader::refused` meets its contract.
 use mathlib.Core.Path.{refl}
-use borrow.Author.Rules.{rules}
 use Rattle.reader.proofs.refused.Goals as goal
 
 pub returns : goal.returns

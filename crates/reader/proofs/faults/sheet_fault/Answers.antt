@@ -7,7 +7,7 @@ use lib.Dec.{ltb, leb}
 use lib.ListN.{drop}
 use Rattle.sheet.specs.Limits.{most_budgets}
 use Rattle.sheet.specs.Refusals.{given}
-use Rattle.sheet.specs.Sheet.{all, body_of, is_head, slots_in, colours_in, sites_in, sheet_in, in_order, rising, inside_by, ranks_differ, product_of, sheet_refusals, sheet_fault}
+use Rattle.sheet.specs.Sheet.{all, body_of, is_head, slots_in, sites_in, sheet_in, in_order, rising, inside_by, ranks_differ, product_of, sheet_refusals, sheet_fault}
 use Rattle.refusals.specs.Wordwise.{counts_fit_in}
 use Rattle.sheet.proofs.Refusals.{here, later, turned}
 use Rattle.reader.proofs.faults.sheet_fault.Goals as goal

@@ -1,7 +1,6 @@
 -- `opened::open_sheet` meets its contract.
 use mathlib.Core.Path.{◌≡◌}
 use native.Mathlib.Omega.{arith}
-use borrow.Author.Rules.{rules}
 use Rattle.sheet.specs.Sheet.{sheet_fault}
 use Rattle.sheet.proofs.Accepted.{fault-seven}
 use Rattle.reader.proofs.Opening.{sheet-refused, sheet-accepted}

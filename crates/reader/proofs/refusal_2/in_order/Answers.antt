@@ -1,9 +1,7 @@
 -- `refusal_2::in_order` meets its contract.
 use mathlib.Core.Path.{◌≡◌, refl, sym, ◌∙◌}
-use Prim.Native.Nat.{◌-◌}
-use lib.ListN.{drop_of_length-le, length, get_or, drop}
+use lib.ListN.{drop_of_length-le, get_or}
 use borrow.Author.Tests.{ne_eqb}
-use borrow.Author.Rules.{rules}
 use Rattle.sheet.specs.Sheet.{in_order}
 use Rattle.forms.specs.Forms.{stage_after}
 use Rattle.reader.proofs.refusal_2.Order.{order-at}

@@ -1,12 +1,8 @@
 -- `refusal_2::in_order` meets its contract.
-use mathlib.Core.Path.{◌≡◌, refl, sym, ◌∙◌}
+use mathlib.Core.Path.{◌≡◌}
 use Prim.Native.Nat.{◌-◌}
-use lib.ListN.{drop_of_length-le, length, get_or, drop}
-use borrow.Author.Tests.{ne_eqb}
-use borrow.Author.Rules.{rules}
+use lib.ListN.{length, drop}
 use Rattle.sheet.specs.Sheet.{in_order}
-use Rattle.forms.specs.Forms.{stage_after}
-use Rattle.reader.proofs.refusal_2.Order.{order-at}
 use Rattle.reader.proofs.refusal_2.in_order.Given as goal
 
 abbrev pub invariant-loop-i : goal.invariant-loop-i

@@ -1,11 +1,7 @@
 -- `refusal_4::rises` meets its contract.
-use mathlib.Core.Path.{◌≡◌, refl, sym, ◌∙◌}
-use Prim.Native.Nat.{◌-◌, ◌≤◌}
-use lib.ListN.{drop_of_length-le, length, get_or, drop}
-use borrow.Author.Tests.{not-true, not-false}
-use borrow.Author.Rules.{rules}
+use mathlib.Core.Path.{refl, sym, ◌∙◌}
+use lib.ListN.{drop_of_length-le, get_or}
 use Rattle.lists.proofs.Places.{stop, go}
-use Rattle.sheet.specs.Limits.{number_top}
 use Rattle.refusals.specs.Wordwise.{rises_from}
 use Rattle.reader.proofs.Wordwise.{rises}
 use Rattle.reader.proofs.Steps.{low-le, rises-at}

@@ -1,14 +1,9 @@
 -- `refusal_4::rises` meets its contract.
-use mathlib.Core.Path.{◌≡◌, refl, sym, ◌∙◌}
+use mathlib.Core.Path.{◌≡◌}
 use Prim.Native.Nat.{◌-◌, ◌≤◌}
-use lib.ListN.{drop_of_length-le, length, get_or, drop}
-use borrow.Author.Tests.{not-true, not-false}
-use borrow.Author.Rules.{rules}
-use Rattle.lists.proofs.Places.{stop, go}
+use lib.ListN.{length, drop}
 use Rattle.sheet.specs.Limits.{number_top}
 use Rattle.refusals.specs.Wordwise.{rises_from}
-use Rattle.reader.proofs.Wordwise.{rises}
-use Rattle.reader.proofs.Steps.{low-le, rises-at}
 use Rattle.reader.proofs.refusal_4.rises.Given as goal
 
 abbrev pub invariant-loop-i : goal.invariant-loop-i

@@ -1,9 +1,6 @@
 -- `refusal_5::all_inside` meets its contract.
-use mathlib.Core.Path.{◌≡◌, refl, sym, ◌∙◌}
-use Prim.Native.Nat.{◌-◌}
-use lib.ListN.{drop_of_length-le, length, drop}
-use borrow.Author.Tests.{not-true, not-false}
-use borrow.Author.Rules.{rules}
+use mathlib.Core.Path.{refl, sym, ◌∙◌}
+use lib.ListN.{drop_of_length-le}
 use Rattle.lists.proofs.Places.{stop, go}
 use Rattle.refusals.specs.Wordwise.{all_inside}
 use Rattle.reader.proofs.Wordwise.{inside}

@@ -1,13 +1,8 @@
 -- `refusal_5::all_inside` meets its contract.
-use mathlib.Core.Path.{◌≡◌, refl, sym, ◌∙◌}
+use mathlib.Core.Path.{◌≡◌}
 use Prim.Native.Nat.{◌-◌}
-use lib.ListN.{drop_of_length-le, length, drop}
-use borrow.Author.Tests.{not-true, not-false}
-use borrow.Author.Rules.{rules}
-use Rattle.lists.proofs.Places.{stop, go}
+use lib.ListN.{length, drop}
 use Rattle.refusals.specs.Wordwise.{all_inside}
-use Rattle.reader.proofs.Wordwise.{inside}
-use Rattle.reader.proofs.Steps.{inside-at}
 use Rattle.reader.proofs.refusal_5.all_inside.Given as goal
 
 abbrev pub invariant-loop-i : goal.invariant-loop-i

@@ -1,9 +1,7 @@
 -- `refusal_6::some_ranked` meets its contract.
-use mathlib.Core.Bool.{◌||◌}
-use mathlib.Core.Path.{◌≡◌, refl, ap, ◌∙◌}
-use Prim.Native.Nat.{◌+◌, ◌-◌}
-use lib.ListN.{drop_of_length-le, length, drop}
-use borrow.Author.Rules.{rules}
+use mathlib.Core.Path.{refl, ap, ◌∙◌}
+use Prim.Native.Nat.{◌+◌}
+use lib.ListN.{drop_of_length-le, drop}
 use Rattle.refusals.specs.Wordwise.{some_ranked}
 use Rattle.reader.proofs.Steps.{some_at, or-more, or-none}
 use Rattle.reader.proofs.refusal_6.some_ranked.Goals as goal

@@ -1,11 +1,9 @@
 -- `refusal_6::some_ranked` meets its contract.
 use mathlib.Core.Bool.{◌||◌}
-use mathlib.Core.Path.{◌≡◌, refl, ap, ◌∙◌}
-use Prim.Native.Nat.{◌+◌, ◌-◌}
-use lib.ListN.{drop_of_length-le, length, drop}
-use borrow.Author.Rules.{rules}
+use mathlib.Core.Path.{◌≡◌}
+use Prim.Native.Nat.{◌-◌}
+use lib.ListN.{length, drop}
 use Rattle.refusals.specs.Wordwise.{some_ranked}
-use Rattle.reader.proofs.Steps.{some_at, or-more, or-none}
 use Rattle.reader.proofs.refusal_6.some_ranked.Given as goal
 
 abbrev pub invariant-loop-i : goal.invariant-loop-i

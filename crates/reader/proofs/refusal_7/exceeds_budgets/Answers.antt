@@ -1,6 +1,5 @@
 -- `refusal_7::exceeds_budgets` meets its contract.
 use Rattle.sheet.specs.Sheet.{colours_in, product_of}
-use borrow.Author.Rules.{rules}
 use Rattle.reader.proofs.refusal_7.Factors.{capped-over}
 use Rattle.reader.proofs.refusal_7.exceeds_budgets.Goals as goal
 
