@@ -1,4 +1,6 @@
 // A cost in one word, count and length by the aim: from both, of a step, and to a layout's first word.
+#![tactic(auto)]
+
 pub mod masks;
 
 ghost use Rattle.std.specs.Prelude.{◌≡◌, ◌<◌, eqb};

@@ -1,0 +1,5 @@
+use mathlib.Core.Path.{refl}
+use Rattle.costs.proofs.comes_to.Goals as goal
+
+pub returns : goal.returns
+returns c = rw c.plus_of.ensures refl
