@@ -1,5 +1,7 @@
 // The slots at which a site may open no label: rule 5 of the sites before it, left of the label's tip. A site and a slot are tried where
 // the site is taken from the arrays, and not for each strip or budget.
+#![tactic(auto)]
+
 ghost use Rattle.std.specs.Prelude.{◌≡◌, ◌<◌, ◌≤◌, length};
 ghost use Rattle.sheet.specs.Limits.{most_slots};
 ghost use Rattle.arrays.specs.Arrays.{near_slots, barred_by};
