@@ -1,7 +1,7 @@
 -- Where no pair has a flaw, every two tied sites pass every test. Assumes nothing.
 use mathlib.Core.Path.{◌≡◌, sym, ap₂, ◌∙◌, subst}
 use mathlib.Core.Bool.{Bool, true, false, ◌&&◌, ◌||◌, not, cond}
-use Prim.Native.Nat.{ℕ, zero, suc, ◌+◌, ◌<◌, ◌≤◌}
+use Prim.Native.Nat.{ℕ, zero, suc, ◌<◌, ◌≤◌}
 use native.Mathlib.Omega.{arith}
 use Rattle.lists.proofs.Tests.{by-test, by_order, by_equal, and_both, eqb-self, eqb-sym, same_test}
 use Rattle.labelling.specs.Counted.{sum_before}
@@ -63,10 +63,6 @@ flaw-low h t u {n} q = omega (arith, one (passes_both h t u && (passes_one h t u
     one : (b : Bool) → ◌≤◌ (cond b 0 1) 1
     one true = omega arith
     one false = omega arith
-
--- no flaw so far, and none with one more
-pub none_more : (f : ℕ → ℕ) (i : ℕ) {n : ℕ} → n ≡ f i → n ≡ 0 → ((j : ℕ) → j < i → f j ≡ 0) → (j : ℕ) → j < i + 1 → f j ≡ 0
-none_more f i e z h j l = by_equal j i (λ q. subst (λ (k : ℕ). f k ≡ 0) (sym q) (sym e ∙ z)) (λ q. h j (omega arith))
 
 -- EVERY PAIR
 pub every-pair : (h : Head) (ts : ℕ → TiedSite) (n : ℕ) → ((i : ℕ) → i < n → flaws_at h ts i ≡ 0) → (k : Test) → pairs_pass k h ts n ≡ true

@@ -2,7 +2,7 @@
 use mathlib.Core.Path.{◌≡◌, refl, sym, ap, ◌∙◌}
 use mathlib.Core.Bool.{Bool, true, false, ◌&&◌, ◌||◌, cond}
 use mathlib.Core.List.{List, [], ◌∷◌}
-use Prim.Native.Nat.{ℕ, zero, suc, ◌+◌, ◌-◌, ◌*◌, ◌<◌, ◌≤◌, min}
+use Prim.Native.Nat.{ℕ, zero, suc, ◌+◌, ◌-◌, ◌<◌, ◌≤◌, min}
 use native.Mathlib.Numerals.{add-one}
 use native.Mathlib.Omega.{arith}
 use lib.Dec.{eqb}
@@ -31,9 +31,6 @@ all_more f i e k h = rw (add-one i) (and_i h (sym e ∙ k))
 pub all-stop : (f : ℕ → Bool) (n i : ℕ) {r : Bool} → i < n → r ≡ f i → r ≡ false → false ≡ all_before f n
 all-stop f n i l e k = sym (is_false (all_before f n) λ h. clash (all-before f n h i l) (sym e ∙ k))
 
-pub all_end : (f : ℕ → Bool) (n i : ℕ) → i ≤ n → n ≤ i → all_before f i ≡ true → true ≡ all_before f n
-all_end f n i l m h = let e : i ≡ n = omega arith in sym (ap (all_before f) (sym e) ∙ h)
-
 -- A SUM
 pub sum-none : (f : ℕ → ℕ) → 0 ≡ sum_before f 0
 unfolding sum_before
@@ -42,9 +39,6 @@ sum-none f = refl
 pub sum_more : (f : ℕ → ℕ) (i n t : ℕ) → n ≡ sum_before f i → t ≡ f i → n + t ≡ sum_before f (i + 1)
 unfolding sum_before
 sum_more f i n t e q = rw (add-one i, e, q) refl
-
-pub sum-end : (f : ℕ → ℕ) (n i t : ℕ) → i ≤ n → n ≤ i → t ≡ sum_before f i → t ≡ sum_before f n
-sum-end f n i t l m h = let e : i ≡ n = omega arith in h ∙ ap (sum_before f) e
 
 pub one-le : (b : Bool) → one_if b ≤ 1
 one-le true = omega arith
@@ -59,9 +53,6 @@ taken_none p js k = refl
 pub taken_more : (p : ℕ → Bool) (js : List ℕ) (k i : ℕ) {t q r : Bool} → t ≡ is_taken p js k i → q ≡ p i → r ≡ eqb (get_or js i 0) k → (t || (q && r)) ≡ is_taken p js k (i + 1)
 unfolding is_taken
 taken_more p js k i e f g = rw (add-one i, e, f, g) refl
-
-pub taken-end : (p : ℕ → Bool) (js : List ℕ) (k n i : ℕ) {t : Bool} → i ≤ n → n ≤ i → t ≡ is_taken p js k i → t ≡ is_taken p js k n
-taken-end p js k n i l m h = let e : i ≡ n = omega arith in h ∙ ap (is_taken p js k) e
 
 -- THE LEAST
 pub least_more : (k w : ℕ) (f g : ℕ → ℕ) (i l : ℕ) → l ≡ least_before k w f g i → cond (eqb (f i) k) (min l (g i)) l ≡ least_before k w f g (i + 1)

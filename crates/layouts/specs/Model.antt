@@ -1,6 +1,6 @@
 -- The model that the loops follow: tests and sums over the sites by their numbers, on a sheet's decoded numbers and the ties.
 -- Assumes nothing: these are definitions. proofs/RulesKept shows that they come to document 01's rules.
-use Rattle.std.specs.Prelude.{◌≡◌, Bool, true, not, cond, List, ℕ, zero, suc, ◌+◌, ◌-◌, ◌≤◌, ◌<◌, min, eqb, length, get_or}
+use Rattle.std.specs.Prelude.{Bool, true, not, cond, List, ℕ, zero, suc, ◌+◌, ◌-◌, ◌≤◌, ◌<◌, min, eqb, length, get_or}
 use Rattle.sheet.specs.Limits.{most_sites, number_top}
 use Rattle.rules.specs.Rules.{bound_kept, is_stated}
 use Rattle.labelling.specs.Counted.{all_before, sum_before, is_first}

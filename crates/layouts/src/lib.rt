@@ -1,5 +1,7 @@
 // A whole layout's rules and totals, on a sheet's decoded numbers and the ties' words. Its functions are internal to those that have
 // refused first: each asks for arrays that hold a number for each tie, low enough that lengths fit.
+#![tactic(auto)]
+
 mod every_pair;
 mod flaws;
 pub mod labels;
