@@ -1,4 +1,6 @@
 // The judge: a refusal, or the least broken rule of a stored sheet.
+#![tactic(auto)]
+
 pub mod opened;
 pub mod refusal_11;
 mod ruling;
