@@ -1,4 +1,3 @@
 mod Fields
-mod Signs
 pub mod Reading
 pub mod EachLine

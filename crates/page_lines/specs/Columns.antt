@@ -1,5 +1,5 @@
 -- A line of a page by its columns: document 02, "A page for the print room". Columns count from 1. Assumes nothing: these are definitions.
-use Rattle.std.specs.Prelude.{List, [], ◌∷◌, ◌++◌, ℕ, ◌+◌, ◌-◌, replicate}
+use Rattle.std.specs.Prelude.{List, [], ◌∷◌, ◌++◌, ℕ, ◌-◌, replicate}
 use Rattle.sizes.specs.Pages.{line_columns}
 use Rattle.text.specs.Text.{blank, line_feed, right_in}
 

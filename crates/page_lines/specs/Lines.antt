@@ -1,5 +1,5 @@
 -- The lines of a page, from their numbers: document 02, "A page for the print room". Assumes nothing: these are definitions.
-use Rattle.std.specs.Prelude.{cond, List, [], ◌∷◌, ◌++◌, ℕ, ◌+◌, ◌*◌, ltb}
+use Rattle.std.specs.Prelude.{cond, List, [], ◌∷◌, ◌++◌, ℕ, ltb}
 use Rattle.labelling.specs.Layout.{apart}
 use Rattle.text.specs.Text.{ascii, decimal}
 use Rattle.page_lines.specs.Columns.{Field, field, line_of}
