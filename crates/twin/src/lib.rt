@@ -1,4 +1,6 @@
 // The twin tool: a stored sheet's one-sided twin in a lent area. Stored two-sided sheets end with it; document 02, request (n).
+#![tactic(auto)]
+
 mod length;
 mod writing;
 
