@@ -1,4 +1,6 @@
 // Strips of a one-sided sheet and where their rows stand: a level has a row of words for each strip, by the ends above and below it.
+#![tactic(auto)]
+
 pub mod budgets;
 pub mod rest;
 
