@@ -28,7 +28,7 @@ unfolding site_lines_by
 lines_at ls cs i h = rw (drop-cons cs i 0 h, add-one i) refl
 
 -- A LINE from its parts, each a name, a number and a last byte
-abbrev Part : (name : List ℕ) (number last : ℕ) → List ℕ
+abbrev pub Part : (name : List ℕ) (number last : ℕ) → List ℕ
 Part s n b = s ++ decimal n ++ (b ∷ [])
 
 part-more : {m o : List ℕ} {p q : ℕ} (l : List ℕ) (at : ℕ) (s x name n y : List ℕ) → Put l m at p (s ++ x) → Put m o p q (name ++ n ++ y) → Put l o at q (s ++ (x ++ name) ++ n ++ y)
