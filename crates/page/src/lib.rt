@@ -1,4 +1,6 @@
 // The page of a stored sheet, a text for the print room, in a lent area of bytes. Document 02, request (d).
+#![tactic(auto)]
+
 mod labels;
 mod lines;
 
