@@ -27,11 +27,9 @@ pub fn lay_least(
     work: &[u32],
     out: &mut [u32],
 ) -> u8
-    ghost g: { Given }
-    requires counts_value { given q heights.now bounds.now radices.now draws.now xs.now ys.now colours.now order.now parts.now counts.now ≡ g }
-    requires filled_in { FilledIn g work.now out.old }
-    ensures value { result ≡ laid_fault g }
-    ensures out_after { out.new ≡ laid_out g out.old }
+    requires { let g = given q heights.now bounds.now radices.now draws.now xs.now ys.now colours.now order.now parts.now counts.now in FilledIn g work.now out.old }
+    ensures value { let g = given q heights.now bounds.now radices.now draws.now xs.now ys.now colours.now order.now parts.now counts.now in result ≡ laid_fault g }
+    ensures out_after { let g = given q heights.now bounds.now radices.now draws.now xs.now ys.now colours.now order.now parts.now counts.now in out.new ≡ laid_out g out.old }
 {
     let v = q.budgets - 1;
     let m = heights.len();

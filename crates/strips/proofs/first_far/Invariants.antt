@@ -1,0 +1,15 @@
+use Rattle.optimum.specs.Slots.{far_from}
+use Rattle.arrays.specs.Arrays.{slots_by}
+use Rattle.strips.proofs.Windows.{near_down}
+use mathlib.Core.Path.{◌≡◌, sym, ◌∙◌}
+use mathlib.Core.Bool.{false}
+use Prim.Native.Nat.{ℕ, ◌-◌, ◌<◌, ◌≤◌}
+use native.Mathlib.Omega.{arith}
+use borrow.Author.Rules.{rules}
+use Rattle.strips.proofs.first_far.Given as goal
+
+abbrev pub invariant-loop-k : goal.invariant-loop-k
+invariant-loop-k l = (l.p.a ≤ l.k) × (l.p.a < l.k → l.k < l.p.b) × ((j : ℕ) → l.p.a ≤ j → j < l.k → far_from (slots_by l.q l.heights) l.p.a l.p.ca j l.c ≡ false)
+
+abbrev pub decreases-loop-k : goal.decreases-loop-k
+decreases-loop-k l = l.end - l.k
