@@ -1,4 +1,6 @@
 // The two parts that a label leaves of a strip: what they cost together, and their rows marked.
+#![tactic(auto)]
+
 ghost use Rattle.std.specs.Prelude.{◌≡◌, ◌+◌, ◌*◌, ◌<◌, length};
 ghost use Rattle.optimum.specs.OneSided.{mark_count};
 ghost use Rattle.rows.specs.Rows.{strip_of, point_of, rows_of, row_in, Lies, LevelFits};

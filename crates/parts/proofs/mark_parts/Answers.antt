@@ -1,13 +1,9 @@
 use Rattle.rows.specs.Rows.{strip_of, point_of}
 use Rattle.parts.proofs.Marking.{both-within, fits-place, parts-marked}
 use mathlib.Core.Path.{refl}
-use Prim.Native.Nat.{◌-◌, ◌<◌}
+use Prim.Native.Nat.{◌<◌}
 use native.Mathlib.Omega.{arith}
 use lib.ListN.{length, length-set}
-use borrow.Author.Rules.{rules}
-use Rattle.parts.proofs.mark_parts.Reads as reads
-use Rattle.parts.proofs.mark_parts.Lts as lts
-use Rattle.rows.proofs.part_places.Reads as part-places-reads
 use Rattle.parts.proofs.mark_parts.Goals as goal
 
 pub part_places-at-requires : goal.part_places-at-requires

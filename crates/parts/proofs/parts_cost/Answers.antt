@@ -1,13 +1,8 @@
 use Rattle.rows.specs.Rows.{strip_of, point_of}
 use Rattle.parts.proofs.Marking.{both-within, fits-place, parts-cost}
-use Prim.Native.Nat.{◌-◌, ◌<◌}
+use Prim.Native.Nat.{◌<◌}
 use native.Mathlib.Omega.{arith}
 use lib.ListN.{length}
-use borrow.Author.Rules.{rules}
-use Rattle.parts.proofs.parts_cost.Reads as reads
-use Rattle.parts.proofs.parts_cost.Lts as lts
-use Rattle.rows.proofs.part_places.Reads as part-places-reads
-use Rattle.words.proofs.plus_of.Reads as plus-of-reads
 use Rattle.parts.proofs.parts_cost.Goals as goal
 
 pub part_places-at-requires : goal.part_places-at-requires
