@@ -1,5 +1,7 @@
 // The decisions on one strip: does the site lie in it, which slots may open a label, which may be joined, and what a step costs.
 // Each is the model's definition for the instance of these arrays.
+#![tactic(auto)]
+
 ghost use Rattle.std.specs.Prelude.{◌≡◌, List, ℕ, ◌+◌, ◌<◌, ◌≤◌, length};
 ghost use Rattle.sheet.specs.Limits.{most_slots, most_colours};
 ghost use Rattle.optimum.specs.Strips as model;

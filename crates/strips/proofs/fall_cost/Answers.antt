@@ -2,7 +2,6 @@ use mathlib.Core.Path.{refl}
 use native.Mathlib.Omega.{arith}
 use Rattle.strips.specs.Strips.{fall_cost}
 use Rattle.strips.proofs.Steps.{colour-low}
-use borrow.Author.Rules.{rules}
 use Rattle.strips.proofs.fall_cost.Goals as goal
 
 pub joins_down-below-requires : goal.joins_down-below-requires

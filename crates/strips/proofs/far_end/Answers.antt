@@ -1,11 +1,6 @@
-use Rattle.optimum.specs.Slots.{far_from}
-use Rattle.arrays.specs.Arrays.{slots_by}
 use Rattle.strips.proofs.Windows.{near_up}
-use mathlib.Core.Path.{◌≡◌, sym, ◌∙◌}
-use mathlib.Core.Bool.{false}
-use Prim.Native.Nat.{ℕ, ◌+◌, ◌-◌, ◌<◌, ◌≤◌}
+use mathlib.Core.Path.{sym, ◌∙◌}
 use native.Mathlib.Omega.{arith}
-use borrow.Author.Rules.{rules}
 use Rattle.strips.proofs.far_end.Goals as goal
 
 pub loop-k-init : goal.loop-k-init

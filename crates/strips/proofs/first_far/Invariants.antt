@@ -1,11 +1,8 @@
 use Rattle.optimum.specs.Slots.{far_from}
 use Rattle.arrays.specs.Arrays.{slots_by}
-use Rattle.strips.proofs.Windows.{near_down}
-use mathlib.Core.Path.{◌≡◌, sym, ◌∙◌}
+use mathlib.Core.Path.{◌≡◌}
 use mathlib.Core.Bool.{false}
 use Prim.Native.Nat.{ℕ, ◌-◌, ◌<◌, ◌≤◌}
-use native.Mathlib.Omega.{arith}
-use borrow.Author.Rules.{rules}
 use Rattle.strips.proofs.first_far.Given as goal
 
 abbrev pub invariant-loop-k : goal.invariant-loop-k

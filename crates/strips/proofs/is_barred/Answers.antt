@@ -1,6 +1,5 @@
 use mathlib.Core.Path.{refl}
 use Rattle.optimum.specs.OneSided.{has_slot}
-use borrow.Author.Rules.{rules}
 use Rattle.strips.proofs.is_barred.Goals as goal
 
 pub returns : goal.returns

@@ -1,6 +1,5 @@
 use mathlib.Core.Path.{◌∙◌}
 use native.Mathlib.Omega.{arith}
-use borrow.Author.Rules.{rules}
 use Rattle.strips.proofs.join_cost.Goals as goal
 
 pub joining_cost-requires : goal.joining_cost-requires

@@ -1,6 +1,5 @@
 use mathlib.Core.Path.{refl}
 use native.Mathlib.Omega.{arith}
-use borrow.Author.Rules.{rules}
 use Rattle.strips.proofs.open_cost.Goals as goal
 
 pub opening_cost-cost-requires : goal.opening_cost-cost-requires

@@ -1,15 +1,7 @@
 use Rattle.strips.specs.Strips.{gap_left}
 use Rattle.strips.proofs.Decisions.{opens-split}
 use mathlib.Core.Path.{refl}
-use Prim.Native.Nat.{◌-◌}
 use native.Mathlib.Numerals.{add-one}
-use borrow.Author.Rules.{rules}
-use Rattle.strips.proofs.opens.Reads as reads
-use Rattle.strips.proofs.opens.Lts as lts
-use Rattle.words.proofs.both.Reads as both-reads
-use Rattle.words.proofs.less.Reads as less-reads
-use Rattle.arrays.proofs.places.is_far.Reads as is-far-reads
-use Rattle.strips.proofs.site_opens.Reads as site-opens-reads
 use Rattle.strips.proofs.opens.Goals as goal
 
 pub returns : goal.returns

@@ -2,7 +2,6 @@ use mathlib.Core.Path.{refl}
 use native.Mathlib.Omega.{arith}
 use Rattle.strips.specs.Strips.{rise_cost}
 use Rattle.strips.proofs.Steps.{colour-low}
-use borrow.Author.Rules.{rules}
 use Rattle.strips.proofs.rise_cost.Goals as goal
 
 pub joins_up-requires : goal.joins_up-requires

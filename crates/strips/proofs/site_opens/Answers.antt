@@ -1,15 +1,7 @@
 use Rattle.strips.specs.Strips.{site_opens}
 use Rattle.lists.proofs.Places.{default-any}
 use mathlib.Core.Path.{refl}
-use Prim.Native.Nat.{◌-◌}
-use borrow.Author.Rules.{rules}
 use Rattle.sheet.specs.Limits.{unbounded}
-use Rattle.strips.proofs.site_opens.Reads as reads
-use Rattle.strips.proofs.site_opens.Lts as lts
-use Rattle.arrays.proofs.places.is_clear.Reads as is-clear-reads
-use Rattle.words.proofs.both.Reads as both-reads
-use Rattle.words.proofs.is_not.Reads as is-not-reads
-use Rattle.words.proofs.same.Reads as same_Reads
 use Rattle.strips.proofs.site_opens.Goals as goal
 
 pub returns : goal.returns

@@ -3,11 +3,7 @@ use Rattle.strips.proofs.Steps.{step-opens, step-joins, colour-low}
 use Rattle.arrays.proofs.Narrowed.{on-slots}
 use mathlib.Core.Path.{sym, ap₂, ◌∙◌}
 use mathlib.Core.Bool.{◌||◌}
-use Prim.Native.Nat.{◌-◌}
 use native.Mathlib.Omega.{arith}
-use borrow.Author.Rules.{rules}
-use Rattle.strips.proofs.step_of.Reads as reads
-use Rattle.strips.proofs.step_of.Lts as lts
 use Rattle.strips.proofs.step_of.Goals as goal
 
 pub opens-requires : goal.opens-requires
