@@ -44,12 +44,6 @@ unfolding sought_in
 sought-none t a zero p h = refl
 sought-none t a (suc n) p h = absurd (omega arith)
 
--- a place is left for what is listed and not the one
-pub place-left : (b : Bool) (p : ℕ) → (b && eqb p 0) ≡ false → one_if b + (p - one_if b) ≡ p
-place-left true zero h = absurd (true≢false h)
-place-left true (suc p) h = omega arith
-place-left false p h = omega arith
-
 -- the same as a loop has them, at the number i of so many
 module _ (t : ℕ → Bool) (i count left : ℕ) {r : Sought} (e : sought_in t i (count - i) left ≡ r) where
   module _ {b : Bool} (l : i < count) (h : b ≡ t i) where

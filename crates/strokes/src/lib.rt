@@ -1,5 +1,7 @@
 // The strokes of a stored sheet, for a viewer that draws from 32-bit floats in points: one a call, by its place in the list. Document 02,
 // request (a). Backbones come first, by rising slot, then drops in sheet order; a drop of zero gives none. Places count from 0.
+#![tactic(auto)]
+
 mod drawing;
 mod seeking;
 
