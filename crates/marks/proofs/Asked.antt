@@ -56,9 +56,11 @@ module _ (q : Measures) (hs bs : List ℕ) (p : Strip) (s : Point) where
       two : (x ≡ record { a = p.a; ca = p.ca; b = suc k; cb = suc s.c; d = turn_by hs s k }) ⊎ ((x ≡ record { a = suc k; ca = suc s.c; b = p.b; cb = p.cb; d = 0 }) ⊎ ⊥) → (x ≡ upper_part (turn_by hs s k) p s k) ⊎ (x ≡ lower_part p s k)
       two (inl z) = inl (z ∙ sym (upper_is (turn_by hs s k) p s k))
       two (inr (inl z)) = inr (z ∙ sym (lower-is p s k))
+      two (inr (inr z)) = elim z [ ]
 
       one : (x ≡ marked_by (turn_by hs s k) p) ⊎ ⊥ → x ≡ marked_by (turn_by hs s k) p
       one (inl z) = z
+      one (inr z) = elim z [ ]
 
       under : (a b c : ℕ) → a ≤ b → b < c → a < c
       under a b c u v = omega arith

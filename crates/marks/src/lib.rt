@@ -1,4 +1,6 @@
 // Marks, in the first word of its row, each strip that the whole sheet leads to, level by level from the first down.
+#![tactic(auto)]
+
 ghost use Rattle.std.specs.Prelude.{◌≡◌, [], ◌+◌, ◌*◌, ◌<◌, ◌≤◌, length};
 ghost use Rattle.sheet.specs.Limits.{most_sites, most_budgets};
 ghost use Rattle.arrays.specs.Given.{Given, on_slots, on_strip, OfSheet, SiteIn, Bounded};

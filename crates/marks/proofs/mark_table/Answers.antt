@@ -1,0 +1,70 @@
+use Rattle.arrays.specs.Arrays.{points_by}
+use Rattle.strips.specs.Strips.{instance_on}
+use Rattle.optimum.proofs.Marks.{some-mark}
+use Rattle.rows.proofs.Levels.{level-small, first-within, past-level, few, level-fits}
+use Rattle.marks.proofs.Reach.{reach-first, reach-more, whole-marked, to_level}
+use mathlib.Core.Path.{◌≡◌, refl, ap, ◌∙◌}
+use Prim.Native.Nat.{ℕ, ◌*◌}
+use native.Mathlib.Omega.{arith}
+use lib.ListN.{length}
+use Rattle.marks.proofs.mark_table.Goals as goal
+
+pub overflow_mul-size : goal.overflow_mul-size
+overflow_mul-size c = let p = c.requires in
+    let a = c.args in
+    omega (arith, level-small p.0, ap (λ (z : ℕ). z * a.q.budgets) p.3)
+
+pub clear_marks-requires : goal.clear_marks-requires
+clear_marks-requires c = let p = c.requires in
+    let a = c.args in
+    let e = ap (λ (z : ℕ). z * a.q.budgets) p.3 in
+    record { levels_bound = (few _ p.0.few_sites, rw e p.2, e); level_fits = level-fits p.0 (omega (arith, e)) }
+
+pub mark_own-requires : goal.mark_own-requires
+mark_own-requires c = let p = c.requires in (
+  level-fits p.0 (rw c.clear_marks.auto.work (first-within _ _ _ p.2)),
+  record { a_low = omega arith; ca_low = omega arith; b_low = omega arith; cb_low = omega arith; d_low = some-mark },
+)
+
+pub loop-j-init : goal.loop-j-init
+loop-j-init c = let a = c.args in
+    let p = c.requires in
+    let e = ap (λ (z : ℕ). z * a.q.budgets) p.3 in
+    (e, omega arith, refl, λ o. reach-first o c.mark_own.new.work (a.rows * a.q.budgets) (whole-marked a.q a.heights.now a.bounds.now c.mark_own.new.work (c.mark_own.ensures.1 refl)), λ i h. refl)
+
+pub mark_site-requires : goal.mark_site-requires
+mark_site-requires c = let p = c.requires in
+    let l = c.loop-j in
+    (p.0, p.1, omega (arith, p.2, l.invariant.2 ∙ c.mark_own.auto.work ∙ c.clear_marks.auto.work), (l.invariant.0, c.loop-j-test.true))
+
+pub overflow_add-j : goal.overflow_add-j
+overflow_add-j c = omega (arith, c.loop-j-test.true, c.requires.0.few_sites)
+
+pub loop-j-smaller : goal.loop-j-smaller
+loop-j-smaller c = omega (arith, c.loop-j-test.true)
+
+pub loop-j-preserved : goal.loop-j-preserved
+loop-j-preserved c = let a = c.args in
+    let p = c.requires in
+    let l = c.loop-j in
+    let m = c.mark_site in (
+      l.invariant.0,
+      omega (arith, c.loop-j-test.true),
+      m.auto.work ∙ l.invariant.2,
+      (λ o. reach-more o l.work m.new.work _ l.j c.loop-j-test.true (l.invariant.3 o) m.ensures.0 m.ensures.1),
+      λ i h. m.ensures.0.others.after i (past-level l.j (length a.xs.now) _ i c.loop-j-test.true h) ∙ l.invariant.4 i h,
+    )
+
+pub shape_of-work : goal.shape_of-work
+shape_of-work c = c.loop-j.invariant.2 ∙ c.mark_own.auto.work ∙ c.clear_marks.auto.work
+
+pub returns : goal.returns
+returns c = let a = c.args in
+    let p = c.requires in
+    let l = c.loop-j in
+    let z : l.j ≡ length a.xs.now = omega (arith, c.loop-j-test.false, l.invariant.1) in (
+      to_level (instance_on a.q a.heights.now a.bounds.now) a.q (points_by a.q a.heights.now a.xs.now a.ys.now a.cs.now) l.work _ _ l.j l.invariant.0 z (l.invariant.3 p.0),
+      λ i h.
+          let e = ap (λ (z : ℕ). z * a.q.budgets) p.3 in
+          l.invariant.4 i (rw l.invariant.0 h) ∙ c.mark_own.ensures.0.others.after i (first-within _ _ _ h) ∙ c.clear_marks.ensures.kept i (rw e h),
+    )
