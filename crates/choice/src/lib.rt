@@ -1,4 +1,6 @@
 // One step of the one-sided walk: the lowest slot that keeps the least cost.
+#![tactic(auto)]
+
 pub mod kept;
 
 ghost use Rattle.std.specs.Prelude.{◌≡◌, []};
