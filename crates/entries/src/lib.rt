@@ -1,4 +1,6 @@
 // Fills one row of the one-sided table, a strip's entries by budget, from the rows of the level below.
+#![tactic(auto)]
+
 ghost use Rattle.std.specs.Prelude.{◌≡◌, [], ◌+◌, ◌<◌, ◌≤◌, min, length, get_or};
 ghost use Rattle.search.specs.Cost.{plus};
 ghost use Rattle.optimum.specs.OneSided.{top_word};
