@@ -160,6 +160,10 @@ module _ (q : Measures) (hs bs : List ℕ) (base low : ℕ) (s : Point) where
 pub lies_at : (m C : ℕ) (p : Strip) → p.a ≤ m → p.ca ≤ C → p.b < m + 2 → p.cb ≤ C → p.d < mark_count → Lies m C p
 lies_at m C p a ca b cb d = record { a_low = omega arith; ca_low = omega arith; b_low = b; cb_low = omega arith; d_low = d }
 
+-- the row that a loop has come to that goes down below an upper end
+pub row_lies : (m C slot colour : ℕ) (p : Strip) → (slot ≤ m) × (colour ≤ C) → p.a ≡ slot → p.ca ≡ colour → p.b < m + 2 → (p.cb ≤ C) × (p.d < mark_count) → Lies m C p
+row_lies m C slot colour p h a ca b f = lies_at m C p (omega arith) (omega arith) b f.0 f.1
+
 pub start-lies : (m C a ca : ℕ) → a ≤ m → ca ≤ C → Lies m C (record { a = a; ca = ca; b = a + 1; cb = 0; d = 0 })
 start-lies m C a ca h k = record { a_low = omega arith; ca_low = omega arith; b_low = omega arith; cb_low = omega arith; d_low = some-mark }
 

@@ -16,21 +16,25 @@ pub loop-above-init : goal.loop-above-init
 loop-above-init c = (omega arith, omega arith, refl, kept-none _ _)
 
 pub clear_below-requires : goal.clear_below-requires
-clear_below-requires c = let l = c.loop-above in
+clear_below-requires c =
+    let l = c.loop-above in
     (rw l.invariant.2 c.requires, omega (arith, c.loop-above-test.true), l.invariant.0)
 
 pub next_end-above-requires : goal.next_end-above-requires
-next_end-above-requires c = let p = c.requires in
+next_end-above-requires c =
+    let p = c.requires in
     let l = c.loop-above in
     (p.few_colours, omega (arith, l.invariant.1, p.few_slots), l.invariant.0)
 
 pub loop-above-smaller : goal.loop-above-smaller
-loop-above-smaller c = let a = c.args in
+loop-above-smaller c =
+    let a = c.args in
     let l = c.loop-above in
     omega (arith, c.next_end-above.ensures.1, later-end a.q.colours l.above.slot l.above.colour (a.m + 1) 0 l.invariant.0 (omega (arith, c.loop-above-test.true)))
 
 pub loop-above-preserved : goal.loop-above-preserved
-loop-above-preserved c = let a = c.args in
+loop-above-preserved c =
+    let a = c.args in
     let l = c.loop-above in
     let f = c.clear_below in
     let e = c.next_end-above.ensures in (

@@ -8,12 +8,14 @@ pub loop-j-init : goal.loop-j-init
 loop-j-init c = (omega arith, refl, kept-none _ _)
 
 pub overflow_mul-j : goal.overflow_mul-j
-overflow_mul-j c = let a = c.args in
+overflow_mul-j c =
+    let a = c.args in
     let l = c.loop-j in
     omega (arith, row_within l.j a.levels a.size c.loop-j-test.true, c.requires.levels_bound.1)
 
 pub clear_level-requires : goal.clear_level-requires
-clear_level-requires c = let a = c.args in
+clear_level-requires c =
+    let a = c.args in
     let p = c.requires in
     let l = c.loop-j in
     record {
@@ -31,7 +33,8 @@ pub loop-j-smaller : goal.loop-j-smaller
 loop-j-smaller c = omega (arith, c.loop-j-test.true)
 
 pub loop-j-preserved : goal.loop-j-preserved
-loop-j-preserved c = let a = c.args in
+loop-j-preserved c =
+    let a = c.args in
     let l = c.loop-j in
     let f = c.clear_level in (
       omega (arith, c.loop-j-test.true),

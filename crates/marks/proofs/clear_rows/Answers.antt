@@ -11,17 +11,16 @@ use Rattle.areas.proofs.Zeroed.{zeroed-after}
 use Rattle.marks.proofs.clear_rows.Goals as goal
 
 pub zero_part-requires : goal.zero_part-requires
-zero_part-requires c = let b = c.before.before.before in
-    (leb-true _ _ (and_both (eqb b.args.n 1) _ c.if-n-from.true).1, b.requires.0)
+zero_part-requires c = (leb-true _ _ (and_both (eqb c.args.n 1) _ c.if-n-from.true).1, c.requires.0)
 
 pub shape_of-work-then-n-from : goal.shape_of-work-then-n-from
 shape_of-work-then-n-from c = c.zero_part.auto.area
 
 pub returns-then-n-from : goal.returns-then-n-from
-returns-then-n-from c = let b = c.before.before.before.before.before.before in
+returns-then-n-from c =
     record {
       kept = λ i h. ap (λ (l : List ℕ). get_or l i 0) c.zero_part.ensures
-          ∙ zeroed-after b.args.from b.args.to b.args.work.now (leb-true _ _ (and_both (eqb b.args.n 1) _ c.if-n-from.true).1) b.requires.0 i h;
+          ∙ zeroed-after c.args.from c.args.to c.args.work.now (leb-true _ _ (and_both (eqb c.args.n 1) _ c.if-n-from.true).1) c.requires.0 i h;
     }
 
 pub loop-at-init : goal.loop-at-init
@@ -40,7 +39,8 @@ pub loop-at-smaller : goal.loop-at-smaller
 loop-at-smaller c = omega (arith, c.requires.1, c.loop-at-test.true)
 
 pub loop-at-preserved : goal.loop-at-preserved
-loop-at-preserved c = let l = c.loop-at in
+loop-at-preserved c =
+    let l = c.loop-at in
     (simp length-set l.invariant.0, kept_set l.work l.at 0 c.loop-at-test.true l.invariant.1)
 
 pub shape_of-work : goal.shape_of-work

@@ -1,40 +1,42 @@
 use mathlib.Core.Path.{ap₂, refl, ap, sym, ◌∙◌}
-use Rattle.rows.specs.Rows.{Lies, strip_of, point_of, end_place}
+use Rattle.rows.specs.Rows.{strip_of, point_of, end_place}
 use Rattle.optimum.proofs.Marks.{some-mark}
 use Rattle.rows.proofs.Places.{row_fits}
 use Rattle.parts.proofs.Marking.{marking-none}
-use Rattle.marks.proofs.Followed.{ended, followed-none, followed-more, followed-all, next_row, next_low, later-low, start-lies, lies_at, fits-of, at_low}
+use Rattle.marks.proofs.Followed.{ended, followed-none, followed-more, followed-all, next_row, next_low, later-low, start-lies, row_lies, fits-of, at_low}
 use Prim.Native.Nat.{ℕ, ◌+◌}
 use native.Mathlib.Omega.{arith}
 use lib.ListN.{length}
 use Rattle.marks.proofs.follow_below.Goals as goal
 
 pub returns-then-not-is_upper_end : goal.returns-then-not-is_upper_end
-returns-then-not-is_upper_end c = let a = c.args in
+returns-then-not-is_upper_end c =
+    let a = c.args in
     (marking-none _ _ _, λ p t e. absurd (ended _ a.q.colours a.above.slot a.above.colour c.requires.2.1 (sym c.is_upper_end.ensures ∙ c.if-not-is_upper_end.true) p t e))
 
 pub row_place-requires : goal.row_place-requires
-row_place-requires c = let p = c.requires in
+row_place-requires c =
+    let p = c.requires in
     let f = p.0.sheet in
     record { m_le_most_slots = (f.few_slots, f.few_colours, f.few_budgets); lies = start-lies _ _ _ _ p.2.0 p.2.1 }
 
 pub overflow_add-at : goal.overflow_add-at
-overflow_add-at c = let p = c.requires in
+overflow_add-at c =
+    let p = c.requires in
     let a = c.args in
     omega (arith, c.row_place.ensures, p.0.apart, p.0.within, row_fits (length a.heights.now) a.q.colours a.q.budgets _ (start-lies (length a.heights.now) a.q.colours a.above.slot a.above.colour p.2.0 p.2.1))
 
 pub loop-p-init : goal.loop-p-init
-loop-p-init c = let p = c.requires in
+loop-p-init c =
+    let p = c.requires in
     let a = c.args in
     (refl, refl, (omega arith, some-mark), omega (arith, p.2.0), ap (λ (z : ℕ). a.base + z) c.row_place.ensures, refl, followed-none a.q a.heights.now a.bounds.now a.base a.low (point_of a.s) a.work.now a.above.slot a.above.colour _ p.2.1 (omega arith))
 
 pub mark_row-requires : goal.mark_row-requires
-mark_row-requires c = let row_lies : Lies (length c.args.heights.now) c.args.q.colours (strip_of c.loop-p.p) = let p = c.requires.2 in
-    let l = c.loop-p in
-    lies_at (length c.args.heights.now) c.args.q.colours (strip_of l.p) (omega (arith, l.invariant.0, p.0)) (omega (arith, l.invariant.1, p.1)) (omega (arith, c.loop-p-test.true)) l.invariant.2.0 l.invariant.2.1 in
+mark_row-requires c =
     let p = c.requires in
     let l = c.loop-p in
-    let r = row_lies in
+    let r = row_lies _ _ _ _ (strip_of l.p) p.2 l.invariant.0 l.invariant.1 (omega (arith, c.loop-p-test.true)) l.invariant.2 in
     record {
       sheet = p.0.sheet;
       bounded = p.1;
@@ -45,34 +47,32 @@ mark_row-requires c = let row_lies : Lies (length c.args.heights.now) c.args.q.c
     }
 
 pub overflow_add-at-in-loop-p : goal.overflow_add-at-in-loop-p
-overflow_add-at-in-loop-p c = let row_lies : Lies (length c.args.heights.now) c.args.q.colours (strip_of c.loop-p.p) = let p = c.requires.2 in
-    let l = c.loop-p in
-    lies_at (length c.args.heights.now) c.args.q.colours (strip_of l.p) (omega (arith, l.invariant.0, p.0)) (omega (arith, l.invariant.1, p.1)) (omega (arith, c.loop-p-test.true)) l.invariant.2.0 l.invariant.2.1 in
+overflow_add-at-in-loop-p c =
     let p = c.requires in
     let l = c.loop-p in
-    let r = row_lies in
+    let r = row_lies _ _ _ _ (strip_of l.p) p.2 l.invariant.0 l.invariant.1 (omega (arith, c.loop-p-test.true)) l.invariant.2 in
     omega (arith, at_low p.0 _ r _ l.invariant.4, p.0.within)
 
 pub next_below-p-requires : goal.next_below-p-requires
-next_below-p-requires c = let p = c.requires in
+next_below-p-requires c =
+    let p = c.requires in
     let l = c.loop-p in
     (p.0.sheet.few_colours, omega (arith, l.invariant.3, p.0.sheet.few_slots), l.invariant.2.0, l.invariant.2.1)
 
 pub loop-p-smaller : goal.loop-p-smaller
-loop-p-smaller c = let p = c.requires in
+loop-p-smaller c =
+    let p = c.requires in
     let l = c.loop-p in
     omega (arith, c.next_below-p.ensures.4, later-low c.args.q.colours (strip_of l.p) (length c.args.heights.now + 2) 0 l.invariant.2.0 l.invariant.2.1 (omega (arith, c.loop-p-test.true)))
 
 pub loop-p-preserved : goal.loop-p-preserved
-loop-p-preserved c = let row_lies : Lies (length c.args.heights.now) c.args.q.colours (strip_of c.loop-p.p) = let p = c.requires.2 in
-    let l = c.loop-p in
-    lies_at (length c.args.heights.now) c.args.q.colours (strip_of l.p) (omega (arith, l.invariant.0, p.0)) (omega (arith, l.invariant.1, p.1)) (omega (arith, c.loop-p-test.true)) l.invariant.2.0 l.invariant.2.1 in
+loop-p-preserved c =
     let p = c.requires in
     let a = c.args in
     let l = c.loop-p in
     let f = c.mark_row in
     let e = c.next_below-p.ensures in
-    let r = row_lies in (
+    let r = row_lies _ _ _ _ (strip_of l.p) p.2 l.invariant.0 l.invariant.1 (omega (arith, c.loop-p-test.true)) l.invariant.2 in (
       e.0 ∙ l.invariant.0,
       e.1 ∙ l.invariant.1,
       (e.2, e.3),
@@ -86,6 +86,7 @@ pub shape_of-work : goal.shape_of-work
 shape_of-work c = c.loop-p.invariant.5
 
 pub returns : goal.returns
-returns c = let l = c.loop-p in
+returns c =
+    let l = c.loop-p in
     let a = c.args in
     (l.invariant.6.marking, λ p t e. followed-all a.q a.heights.now a.bounds.now a.base a.low (point_of a.s) a.work.now l.work _ (strip_of l.p) (omega (arith, c.loop-p-test.false)) l.invariant.6 p t (e ∙ ap₂ (end_place a.q.colours) (sym l.invariant.0) (sym l.invariant.1)))

@@ -7,25 +7,30 @@ use lib.ListN.{length}
 use Rattle.marks.proofs.follow_level.Goals as goal
 
 pub loop-above-init : goal.loop-above-init
-loop-above-init c = let a = c.args in
+loop-above-init c =
+    let a = c.args in
     (omega arith, omega arith, refl, passed_none a.q a.heights.now a.bounds.now a.base a.low (point_of a.s) a.work.now _ (omega arith))
 
 pub follow_below-requires : goal.follow_below-requires
-follow_below-requires c = let p = c.requires in
+follow_below-requires c =
+    let p = c.requires in
     let l = c.loop-above in
     (rw l.invariant.2 p.0, p.1, (omega (arith, c.loop-above-test.true), l.invariant.0))
 
 pub next_end-above-requires : goal.next_end-above-requires
-next_end-above-requires c = let p = c.requires in
+next_end-above-requires c =
+    let p = c.requires in
     let l = c.loop-above in
     (p.0.sheet.few_colours, omega (arith, l.invariant.1, p.0.sheet.few_slots), l.invariant.0)
 
 pub loop-above-smaller : goal.loop-above-smaller
-loop-above-smaller c = let l = c.loop-above in
+loop-above-smaller c =
+    let l = c.loop-above in
     omega (arith, c.next_end-above.ensures.1, later-end c.args.q.colours l.above.slot l.above.colour (length c.args.heights.now + 1) 0 l.invariant.0 (omega (arith, c.loop-above-test.true)))
 
 pub loop-above-preserved : goal.loop-above-preserved
-loop-above-preserved c = let p = c.requires in
+loop-above-preserved c =
+    let p = c.requires in
     let a = c.args in
     let l = c.loop-above in
     let f = c.follow_below in
@@ -40,6 +45,7 @@ pub shape_of-work : goal.shape_of-work
 shape_of-work c = c.loop-above.invariant.2
 
 pub returns : goal.returns
-returns c = let l = c.loop-above in
+returns c =
+    let l = c.loop-above in
     let a = c.args in
     (l.invariant.3.marking, passed-all a.q a.heights.now a.bounds.now a.base a.low (point_of a.s) a.work.now l.work _ _ (omega (arith, c.loop-above-test.false)) l.invariant.3)

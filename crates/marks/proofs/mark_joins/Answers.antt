@@ -12,23 +12,28 @@ use Rattle.parts.proofs.Marking.{marking-join}
 use Rattle.marks.proofs.mark_joins.Goals as goal
 
 pub rise_cost-requires : goal.rise_cost-requires
-rise_cost-requires c = let p = c.requires in (p.of_sheet.0, p.of_sheet.1, p.strip_fits.1)
+rise_cost-requires c =
+    let p = c.requires in (p.of_sheet.0, p.of_sheet.1, p.strip_fits.1)
 
 pub mark_own-requires : goal.mark_own-requires
-mark_own-requires c = let p = c.requires in (p.strip_fits.0, rw c.risen_of-up.ensures (marked-lies _ _ _ (strip_of c.args.p) p.strip_fits.1 (turn_low _ _ _)))
+mark_own-requires c =
+    let p = c.requires in (p.strip_fits.0, rw c.risen_of-up.ensures (marked-lies _ _ _ (strip_of c.args.p) p.strip_fits.1 (turn_low _ _ _)))
 
 pub fall_cost-requires : goal.fall_cost-requires
-fall_cost-requires c = let p = c.requires in (p.of_sheet.0, p.of_sheet.1, p.strip_fits.1)
+fall_cost-requires c =
+    let p = c.requires in (p.of_sheet.0, p.of_sheet.1, p.strip_fits.1)
 
 pub mark_own-requires-2 : goal.mark_own-requires-2
-mark_own-requires-2 c = let p = c.requires in
+mark_own-requires-2 c =
+    let p = c.requires in
     (rw c.mark_own.auto.work p.strip_fits.0, rw c.fallen_of-down.ensures (marked-lies _ _ _ (strip_of c.args.p) p.strip_fits.1 (turn_low _ _ _)))
 
 pub shape_of-work : goal.shape_of-work
 shape_of-work c = c.mark_own-2.auto.work ∙ c.mark_own.auto.work
 
 pub returns : goal.returns
-returns c = let a = c.args in
+returns c =
+    let a = c.args in
     let o = c.mark_own.ensures in
     let t = c.mark_own-2.ensures in (
       marking-join _ _ _ _ _ o.0 t.0,

@@ -10,30 +10,35 @@ use lib.ListN.{length}
 use Rattle.marks.proofs.mark_table.Goals as goal
 
 pub overflow_mul-size : goal.overflow_mul-size
-overflow_mul-size c = let p = c.requires in
+overflow_mul-size c =
+    let p = c.requires in
     let a = c.args in
     omega (arith, level-small p.0, ap (λ (z : ℕ). z * a.q.budgets) p.3)
 
 pub clear_marks-requires : goal.clear_marks-requires
-clear_marks-requires c = let p = c.requires in
+clear_marks-requires c =
+    let p = c.requires in
     let a = c.args in
     let e = ap (λ (z : ℕ). z * a.q.budgets) p.3 in
     record { levels_bound = (few _ p.0.few_sites, rw e p.2, e); level_fits = level-fits p.0 (omega (arith, e)) }
 
 pub mark_own-requires : goal.mark_own-requires
-mark_own-requires c = let p = c.requires in (
-  level-fits p.0 (rw c.clear_marks.auto.work (first-within _ _ _ p.2)),
-  record { a_low = omega arith; ca_low = omega arith; b_low = omega arith; cb_low = omega arith; d_low = some-mark },
-)
+mark_own-requires c =
+    let p = c.requires in (
+      level-fits p.0 (rw c.clear_marks.auto.work (first-within _ _ _ p.2)),
+      record { a_low = omega arith; ca_low = omega arith; b_low = omega arith; cb_low = omega arith; d_low = some-mark },
+    )
 
 pub loop-j-init : goal.loop-j-init
-loop-j-init c = let a = c.args in
+loop-j-init c =
+    let a = c.args in
     let p = c.requires in
     let e = ap (λ (z : ℕ). z * a.q.budgets) p.3 in
     (e, omega arith, refl, λ o. reach-first o c.mark_own.new.work (a.rows * a.q.budgets) (whole-marked a.q a.heights.now a.bounds.now c.mark_own.new.work (c.mark_own.ensures.1 refl)), λ i h. refl)
 
 pub mark_site-requires : goal.mark_site-requires
-mark_site-requires c = let p = c.requires in
+mark_site-requires c =
+    let p = c.requires in
     let l = c.loop-j in
     (p.0, p.1, omega (arith, p.2, l.invariant.2 ∙ c.mark_own.auto.work ∙ c.clear_marks.auto.work), (l.invariant.0, c.loop-j-test.true))
 
@@ -44,7 +49,8 @@ pub loop-j-smaller : goal.loop-j-smaller
 loop-j-smaller c = omega (arith, c.loop-j-test.true)
 
 pub loop-j-preserved : goal.loop-j-preserved
-loop-j-preserved c = let a = c.args in
+loop-j-preserved c =
+    let a = c.args in
     let p = c.requires in
     let l = c.loop-j in
     let m = c.mark_site in (
@@ -59,7 +65,8 @@ pub shape_of-work : goal.shape_of-work
 shape_of-work c = c.loop-j.invariant.2 ∙ c.mark_own.auto.work ∙ c.clear_marks.auto.work
 
 pub returns : goal.returns
-returns c = let a = c.args in
+returns c =
+    let a = c.args in
     let p = c.requires in
     let l = c.loop-j in
     let z : l.j ≡ length a.xs.now = omega (arith, c.loop-j-test.false, l.invariant.1) in (

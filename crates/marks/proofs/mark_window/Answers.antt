@@ -11,7 +11,8 @@ pub loop-k-init : goal.loop-k-init
 loop-k-init c = (omega arith, inl (omega arith), marking-none _ _ _, refl, λ i a b e. absurd (omega arith))
 
 pub is_barred-requires : goal.is_barred-requires
-is_barred-requires c = let p = c.requires in
+is_barred-requires c =
+    let p = c.requires in
     let l = c.loop-k in
     omega (arith, c.loop-k-test.true, p.c_lt_colours.1 (omega (arith, c.loop-k-test.true, l.invariant.0)), p.strip_fits.0.few_slots, p.strip_fits.1.b_low)
 
@@ -23,24 +24,27 @@ loop-k-smaller-then-is_barred c = omega (arith, c.loop-k-test.true)
 
 -- a slot that is barred is passed over
 pub loop-k-preserved-then-is_barred : goal.loop-k-preserved-then-is_barred
-loop-k-preserved-then-is_barred c = let l = c.loop-k in (
-  omega (arith, l.invariant.0),
-  inr (omega (arith, c.loop-k-test.true)),
-  l.invariant.2,
-  l.invariant.3,
-  λ i a b e. by_equal i l.k
-      (λ q. clash (sym c.is_barred.ensures ∙ c.if-is_barred.true) (ap (has_slot c.args.s.barred) (sym q) ∙ e))
-      (λ n. l.invariant.4 i a (omega arith) e),
-)
+loop-k-preserved-then-is_barred c =
+    let l = c.loop-k in (
+      omega (arith, l.invariant.0),
+      inr (omega (arith, c.loop-k-test.true)),
+      l.invariant.2,
+      l.invariant.3,
+      λ i a b e. by_equal i l.k
+          (λ q. clash (sym c.is_barred.ensures ∙ c.if-is_barred.true) (ap (has_slot c.args.s.barred) (sym q) ∙ e))
+          (λ n. l.invariant.4 i a (omega arith) e),
+    )
 
 pub mark_parts-requires : goal.mark_parts-requires
-mark_parts-requires c = let p = c.requires in
+mark_parts-requires c =
+    let p = c.requires in
     let l = c.loop-k in
     let t = c.loop-k-test.true in
     record { level_fits = (rw l.invariant.3 p.strip_fits.0, p.strip_fits.1); c_lt_colours = (p.c_lt_colours.0, omega (arith, t, p.c_lt_colours.1 (omega (arith, t, l.invariant.0))), rw c.turn_at-turn.ensures (turn_low _ _ _)) }
 
 pub loop-k-preserved : goal.loop-k-preserved
-loop-k-preserved c = let l = c.loop-k in
+loop-k-preserved c =
+    let l = c.loop-k in
     let t = c.loop-k-test.true in
     let f = c.mark_parts in (
       omega (arith, l.invariant.0),
@@ -57,5 +61,6 @@ pub shape_of-work : goal.shape_of-work
 shape_of-work c = c.loop-k.invariant.3
 
 pub returns : goal.returns
-returns c = let l = c.loop-k in
+returns c =
+    let l = c.loop-k in
     (l.invariant.2, λ k a b e. l.invariant.4 k a (omega (arith, c.loop-k-test.false)) e)
