@@ -74,8 +74,8 @@ pub fn walk(
     j: usize,
     left: Left,
 )
-    requires walk_in { let g : Given = given q heights.now bounds.now radices.now draws.now xs.now ys.now colours.now order.now parts.now counts.now in WalkIn g work.now × Standing g work.now labels.old marks.old out.old j left.budget left.cost }
-    ensures { let g : Given = given q heights.now bounds.now radices.now draws.now xs.now ys.now colours.now order.now parts.now counts.now in out.new ≡ tied_from g work.now labels.old marks.old out.old j left.budget }
+    requires { let g = given q heights.now bounds.now radices.now draws.now xs.now ys.now colours.now order.now parts.now counts.now in WalkIn g work.now × Standing g work.now labels.old marks.old out.old j left.budget left.cost }
+    ensures { let g = given q heights.now bounds.now radices.now draws.now xs.now ys.now colours.now order.now parts.now counts.now in out.new ≡ tied_from g work.now labels.old marks.old out.old j left.budget }
 {
     if j == order.len() {
         return;
