@@ -1,4 +1,6 @@
 // The one-sided walk: ties the sites one after the other by rising rank, each to the lowest slot that keeps the least cost.
+#![tactic(auto)]
+
 pub mod answer;
 
 ghost use Rattle.std.specs.Prelude.{◌≡◌, ◌+◌, ◌<◌, length};

@@ -1,12 +1,11 @@
 use mathlib.Core.Path.{subst⁻¹, ap, ◌∙◌}
-use Prim.Native.Nat.{ℕ, ◌+◌, ◌-◌, ◌*◌}
+use Prim.Native.Nat.{ℕ, ◌+◌, ◌*◌}
 use native.Mathlib.Omega.{arith}
 use lib.ListN.{length, length-set}
 use Rattle.arrays.specs.Given.{SiteIn}
 use Rattle.arrays.proofs.Narrowed.{no-sites}
 use Rattle.rows.specs.Rows.{strip_of, point_of}
 use Rattle.walk.proofs.Tying.{base-low, long, site-in, level-of, place_in, Tied, tied, step_by}
-use borrow.Author.Rules.{rules}
 use Rattle.walk.proofs.tie_site.Goals as goal
 
 pub site_at-s-requires : goal.site_at-s-requires

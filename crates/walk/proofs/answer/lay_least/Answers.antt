@@ -6,7 +6,6 @@ use Rattle.sheet.specs.Limits.{most_slots}
 use Rattle.optimum.specs.OneSided.{top_word}
 use Rattle.walk.proofs.answer.Finished.{zeros-part, front_long, first-level, least-is, none-laid, one-laid, starts, ties}
 use borrow.Author.Tests.{eqb-true, eqb-false}
-use borrow.Author.Rules.{rules}
 use Rattle.walk.proofs.answer.lay_least.Goals as goal
 
 pub overflow_sub-v : goal.overflow_sub-v
