@@ -1,4 +1,6 @@
 // The one-sided table in the lent work words: what the whole sheet leads to is marked, then filled level by level from the last up.
+#![tactic(auto)]
+
 ghost use Rattle.std.specs.Prelude.{◌≡◌, [], ◌+◌, ◌≤◌, length};
 ghost use Rattle.arrays.specs.Given.{Given, on_slots, given, OfSheet, SiteIn};
 ghost use Rattle.rows.specs.Rows.{point_of};
