@@ -3,7 +3,7 @@
 use std::path::{Path, PathBuf};
 use std::process::exit;
 
-/// The archive's name as it is kept, and as `rt staticlib cabi` writes it.
+/// The archive's name as it is kept, and as `rt lib` in crates/cabi writes it.
 const NAMES: [&str; 2] = ["backbone", "cabi"];
 
 fn fail(message: &str) -> ! {

@@ -210,7 +210,7 @@ fn print_pages() {
 fn print_program() {
     println!("\n## The program's largest sheets\n");
     if !program::path().exists() {
-        println!("The program is not built; `rt check backbones` makes it. Its times are left out.");
+        println!("The program is not built; `rt run` in crates/backbones makes it. Its times are left out.");
         return;
     }
     println!("| sheet | n | m | C | P | work words | library | safe Rust | library / Rust | whole process |");

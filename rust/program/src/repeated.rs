@@ -7,7 +7,7 @@ use std::process::{Child, ChildStdin, ChildStdout, Command, ExitStatus, Stdio};
 
 /// Builds the server (server.c) in a folder, over the object file that the program was linked from.
 pub fn build(folder: &Path) -> PathBuf {
-    let object = found(built("obj/backbones.o"));
+    let object = found(built("backbones.o"));
     let (renamed, server) = (folder.join("program.o"), folder.join("server"));
     succeed(Command::new("objcopy").arg("--redefine-sym=main=program").args([&object, &renamed]));
     let source = Path::new(env!("CARGO_MANIFEST_DIR")).join("src/server.c");

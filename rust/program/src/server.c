@@ -5,6 +5,7 @@
  *
  * Standard input, again and again: a number of bytes, no more than a pipe holds, and these. Standard output, for each: what the
  * program returned, the number of bytes that it printed, and these. Numbers are of four bytes, little-endian. */
+#include <errno.h>
 #include <stdint.h>
 #include <stdlib.h>
 #include <unistd.h>
@@ -12,6 +13,13 @@
 enum { MOST_BYTES = 4096, PATIENCE_SECONDS = 20 };
 
 int program(void);
+
+/* What the program asks of the library that rt links it with. */
+int rattle_errno(void);
+
+int rattle_errno(void) {
+    return errno;
+}
 
 static void demand(int holds) {
     if (!holds) {
