@@ -1,7 +1,5 @@
 use mathlib.Core.Path.{sym}
 use lib.Seq.{length-take-le}
-use Prim.Native.Nat.{◌-◌}
-use borrow.Author.Rules.{rules}
 use Rattle.try_stored.proofs.put_page.Goals as goal
 
 pub slice_bounds-write_all-end-then-size-page : goal.slice_bounds-write_all-end-then-size-page

@@ -1,6 +1,5 @@
 use Prim.Native.Nat.{◌+◌, ◌-◌, ◌≤◌}
 use lib.ListN.{length}
-use borrow.Author.Rules.{rules}
 use Rattle.try_stored.proofs.try_lines.Given as goal
 
 abbrev pub invariant-loop-from : goal.invariant-loop-from

@@ -1,5 +1,4 @@
 use Prim.Native.Nat.{◌-◌, ◌≤◌}
-use borrow.Author.Rules.{rules}
 use Rattle.try_stored.proofs.units_of.Given as goal
 
 abbrev pub invariant-loop-n : goal.invariant-loop-n

@@ -1,4 +1,4 @@
-use Rattle.std.proofs.Common.{◌-◌, ◌≤◌, rules}
+use Rattle.std.proofs.Common.{◌-◌, ◌≤◌}
 use Rattle.try_reader.proofs.compare.are_wanted_colours.Given as goal
 
 abbrev pub invariant-loop-i : goal.invariant-loop-i
