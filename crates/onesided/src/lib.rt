@@ -1,4 +1,6 @@
 // The layout of a one-sided sheet: the arrays, the table, the walk, and the areas as they are left.
+#![tactic(auto)]
+
 ghost use Rattle.std.specs.Prelude.{◌≡◌, [], length};
 ghost use Rattle.decoding.specs.Decoding.{sheet_by};
 ghost use Rattle.arrays.specs.Given.{Given, given};

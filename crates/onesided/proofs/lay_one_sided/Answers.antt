@@ -8,7 +8,6 @@ use mathlib.Core.Path.{sym, ◌∙◌}
 use Prim.Native.Nat.{◌≤◌}
 use native.Mathlib.Omega.{arith}
 use lib.ListN.{length, take}
-use borrow.Author.Rules.{rules}
 use Rattle.onesided.proofs.lay_one_sided.Goals as goal
 
 pub slice_bounds-xs-end : goal.slice_bounds-xs-end
@@ -114,13 +113,16 @@ lay_sites-requires c = let ranks-are : (let a = c.args in let s = sheet_in c.req
     let ranked-xs-are : IsFront c.gathered_of-ranked_xs.result c.args.numbers.sites (gathered (xs_of (sheet_in c.requires.read.words).sites) (order (sheet_in c.requires.read.words))) = ranked c.requires.read _ _ _ _ (xs c.requires.read).0 order-is.0 c.gathered_of-ranked_xs.ensures in
     let ranked-ys-are : IsFront c.gathered_of-ranked_ys.result c.args.numbers.sites (gathered (ys_of (sheet_in c.requires.read.words).sites) (order (sheet_in c.requires.read.words))) = ranked c.requires.read _ _ _ _ (ys c.requires.read).0 order-is.0 c.gathered_of-ranked_ys.ensures in
     let ranked-colours-are : IsFront c.gathered_of-ranked_colours.result c.args.numbers.sites (gathered (colours_of (sheet_in c.requires.read.words).sites) (order (sheet_in c.requires.read.words))) = ranked c.requires.read _ _ _ _ (colours c.requires.read).0 order-is.0 c.gathered_of-ranked_colours.ensures in
-    let p = c.requires in record { takes_one_sided = p; ranked_sites = by-numbers p.read
+    let p = c.requires in record {
+      takes_one_sided = p;
+      ranked_sites = by-numbers p.read
           (record {
             xs_is = ranked-xs-are.0;
             ys_is = ranked-ys-are.0;
             colours_is = ranked-colours-are.0;
             order_is = order-is.0;
-          }) }
+          });
+    }
 
 pub returns : goal.returns
 returns c = c.lay_sites.ensures

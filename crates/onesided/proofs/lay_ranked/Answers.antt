@@ -3,7 +3,6 @@ use Rattle.arrays.proofs.Narrowed.{no-order}
 use Rattle.onesided.proofs.Facts.{filled_is, zeroed-same, zeros-are}
 use mathlib.Core.Path.{refl, ◌∙◌}
 use native.Mathlib.Omega.{arith}
-use borrow.Author.Rules.{rules}
 use Rattle.onesided.proofs.lay_ranked.Goals as goal
 
 pub list_splits-requires : goal.list_splits-requires

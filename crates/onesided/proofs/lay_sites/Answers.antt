@@ -11,7 +11,6 @@ use mathlib.Core.Path.{◌≡◌, refl, ap, ◌∙◌}
 use mathlib.Core.List.{[]}
 use native.Mathlib.Omega.{arith}
 use lib.ListN.{take}
-use borrow.Author.Rules.{rules}
 use Rattle.onesided.proofs.lay_sites.Goals as goal
 
 pub overflow_cast-q : goal.overflow_cast-q
