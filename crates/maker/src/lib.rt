@@ -1,5 +1,7 @@
 // The layout maker: refusals 1 to 7, 18, 8 and 9, then the table and the walk, on the sheet without the bounds that can't bind.
 // `make_layout` asks nothing of its caller. What has a `requires` below it, here and in other crates, is internal to the maker.
+#![tactic(auto)]
+
 mod binding;
 
 ghost use Rattle.std.specs.Prelude.{◌≡◌};

@@ -3,7 +3,6 @@ use Rattle.decoding.specs.Decoding.{SheetRead}
 use Rattle.decoding.proofs.Fronts.{few, bounds, bounds-fit, stands}
 use Rattle.maker.proofs.Calls.{read_kept, few-budgets, takes-numbers, needs-less, laid}
 use native.Mathlib.Omega.{arith}
-use borrow.Author.Rules.{rules}
 use Rattle.maker.proofs.lay_binding.Goals as goal
 
 pub binding_numbers-kept-requires : goal.binding_numbers-kept-requires

@@ -1,11 +1,9 @@
 -- `maker::make_layout` meets its contract.
 use Rattle.reader.specs.Read.{read_post}
 use Rattle.reader.proofs.Opening.{sizes-read, numbers-are}
-use Rattle.maker.specs.Taken.{Taken}
 use Rattle.maker.proofs.Calls.{refused, taken}
 use mathlib.Core.Path.{◌≡◌, ◌∙◌}
 use native.Mathlib.Omega.{arith}
-use borrow.Author.Rules.{rules}
 use Rattle.maker.proofs.make_layout.Goals as goal
 
 pub sizes_of-sizes-requires : goal.sizes_of-sizes-requires
