@@ -1,6 +1,8 @@
 // The C interface: reader, judge, layout maker, twin tool, page and strokes. Their structs are laid out as C has them.
 // Each contract has the call's equations, and then what demands 1, 2 and 3, or the promises about the twin, the page and the strokes, conclude of it
 // (demands/specs/Demands).
+#![tactic(auto)]
+
 ghost use Rattle.std.specs.Prelude.{◌≡◌};
 ghost use Rattle.reader.specs.Read.{read_post};
 ghost use Rattle.judge.specs.Judge.{judge_post};
