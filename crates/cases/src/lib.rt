@@ -1,7 +1,7 @@
 // Cases of a test as lines of text: a name, a colon, and words in hexadecimal, a blank before each; and a line for what is given.
 #![tactic(auto)]
 
-ghost use Rattle.std.specs.Prelude.{◌≤◌, length, IfOk};
+ghost use Rattle.std.specs.Prelude.{◌≤◌, length, IfOk, OnErr, ◌≡◌};
 
 use std::io;
 
@@ -71,9 +71,10 @@ pub fn place_of(text: &[u8], from: usize, b: u8) -> usize
     text.len()
 }
 
-// Writes a line's name, and takes its words.
+// Writes a line's name, and takes its words. An error is that of the write, and leaves the words as they were.
 pub fn take_case(rt: &impl Print, line: &[u8], words: &mut [u32]) -> io::Result<usize>
-    ensures { IfOk result (λ n. n ≤ length words.old) }
+    ensures ok { IfOk result (λ n. n ≤ length words.old) }
+    ensures err { OnErr result (words.new ≡ words.old) }
 {
     let name = place_of(line, 0, b':');
     rt.write_all(&line[0..name])?;
