@@ -35,8 +35,10 @@ pub fn choose_slot(
     s: Site,
     left: Left,
 ) -> u32
-    requires { let g = given q heights.now bounds.now radices.now draws.now [] [] [] [] parts.now counts.now in ChosenIn g work.now base labels.old marks.old p.a (point_of s) left }
-    ensures value { let g = given q heights.now bounds.now radices.now draws.now [] [] [] [] parts.now counts.now in result ≡ lowest_kept g work.now base (strip_of p) (point_of s) labels.old marks.old left }
+    requires { let g = given q heights.now bounds.now radices.now draws.now [] [] [] [] parts.now counts.now in
+        ChosenIn g work.now base labels.old marks.old p.a (point_of s) left }
+    ensures value { let g = given q heights.now bounds.now radices.now draws.now [] [] [] [] parts.now counts.now in
+        result ≡ lowest_kept g work.now base (strip_of p) (point_of s) labels.old marks.old left }
     ensures labels_unchanged { labels.new ≡ labels.old }
     ensures marks_unchanged { marks.new ≡ marks.old }
 {

@@ -62,8 +62,10 @@ fn start_joined(
     base: usize,
     low: usize,
 )
-    requires { let l = level (on_slots q heights.now) [] (point_of s) base low in Ready l (budgets_in l) (length work.old) × Lies (slots_in l) (colours_in l) (strip_of p) }
-    ensures { let l = level (on_slots q heights.now) [] (point_of s) base low in RowJoined l (strip_of p) work.old work.new }
+    requires { let l = level (on_slots q heights.now) [] (point_of s) base low in
+        Ready l (budgets_in l) (length work.old) × Lies (slots_in l) (colours_in l) (strip_of p) }
+    ensures { let l = level (on_slots q heights.now) [] (point_of s) base low in
+        RowJoined l (strip_of p) work.old work.new }
 {
     let m = heights.len();
     let up = low + rows::row_place(q, m, strips::risen_of(heights, p, s));
@@ -147,8 +149,10 @@ fn open_slot(
     low: usize,
     k: u32,
 )
-    requires { let l = filling (on_rows q heights.now [] parts.now counts.now) left.now opening.now (point_of s) base low in RowReady l (strip_of p) (length work.old) × LeavesGap l (strip_of p) k }
-    ensures { let l = filling (on_rows q heights.now [] parts.now counts.now) left.now opening.now (point_of s) base low in SlotTried l (strip_of p) k work.old work.new }
+    requires { let l = filling (on_rows q heights.now [] parts.now counts.now) left.now opening.now (point_of s) base low in
+        RowReady l (strip_of p) (length work.old) × LeavesGap l (strip_of p) k }
+    ensures { let l = filling (on_rows q heights.now [] parts.now counts.now) left.now opening.now (point_of s) base low in
+        SlotTried l (strip_of p) k work.old work.new }
 {
     let cost = opening[k as usize];
     if cost == NONE {
@@ -192,8 +196,10 @@ fn least_open(
     window: Window,
     old: u32,
 ) -> u32
-    requires { let g = on_slots q heights.now in WindowReady g opening.now (strip_of p) (point_of s) low window (length work.now) }
-    ensures { let g = on_slots q heights.now in result ≡ min old (window_least g work.now low (strip_of p) (point_of s) window) }
+    requires { let g = on_slots q heights.now in
+        WindowReady g opening.now (strip_of p) (point_of s) low window (length work.now) }
+    ensures { let g = on_slots q heights.now in
+        result ≡ min old (window_least g work.now low (strip_of p) (point_of s) window) }
 {
     let m = heights.len();
     let mut best = old;
@@ -222,8 +228,10 @@ fn open_slots(
     base: usize,
     low: usize,
 )
-    requires { let l = filling (on_rows q heights.now [] parts.now counts.now) left.now opening.now (point_of s) base low in RowReady l (strip_of p) (length work.old) }
-    ensures { let l = filling (on_rows q heights.now [] parts.now counts.now) left.now opening.now (point_of s) base low in SlotsTried l (strip_of p) work.old work.new }
+    requires { let l = filling (on_rows q heights.now [] parts.now counts.now) left.now opening.now (point_of s) base low in
+        RowReady l (strip_of p) (length work.old) }
+    ensures { let l = filling (on_rows q heights.now [] parts.now counts.now) left.now opening.now (point_of s) base low in
+        SlotsTried l (strip_of p) work.old work.new }
 {
     let window = strips::open_window(q, heights, p, s);
     if window.to <= window.from {
@@ -258,8 +266,10 @@ pub fn fill_row(
     base: usize,
     low: usize,
 )
-    requires { let l = filling (on_rows q heights.now bounds.now parts.now counts.now) left.now opening.now (point_of s) base low in RowReady l (strip_of p) (length work.old) × Bounded l.arrays }
-    ensures { let l = filling (on_rows q heights.now bounds.now parts.now counts.now) left.now opening.now (point_of s) base low in EntriesFilled l (strip_of p) work.old work.new }
+    requires { let l = filling (on_rows q heights.now bounds.now parts.now counts.now) left.now opening.now (point_of s) base low in
+        RowReady l (strip_of p) (length work.old) × Bounded l.arrays }
+    ensures { let l = filling (on_rows q heights.now bounds.now parts.now counts.now) left.now opening.now (point_of s) base low in
+        EntriesFilled l (strip_of p) work.old work.new }
 {
     if work[base] != 1 {
         return;

@@ -79,8 +79,10 @@ fn mark_row(
     at: usize,
     low: usize,
 )
-    requires { let l = level (on_strip q heights.now bounds.now) [] (point_of s) at low in MarkReady l (strip_of p) (length work.old) }
-    ensures { let l = level (on_strip q heights.now bounds.now) [] (point_of s) at low in RowLed l (strip_of p) work.old work.new }
+    requires { let l = level (on_strip q heights.now bounds.now) [] (point_of s) at low in
+        MarkReady l (strip_of p) (length work.old) }
+    ensures { let l = level (on_strip q heights.now bounds.now) [] (point_of s) at low in
+        RowLed l (strip_of p) work.old work.new }
 {
     if work[at] != 1 {
         return;
@@ -114,8 +116,10 @@ fn follow_below(
     base: usize,
     low: usize,
 )
-    requires { let l = level (on_strip q heights.now bounds.now) [] (point_of s) base low in Ready l (words_in l) (length work.old) × Bounded l.arrays × EndIn l above }
-    ensures { let l = level (on_strip q heights.now bounds.now) [] (point_of s) base low in EndLed l above work.old work.new }
+    requires { let l = level (on_strip q heights.now bounds.now) [] (point_of s) base low in
+        Ready l (words_in l) (length work.old) × Bounded l.arrays × EndIn l above }
+    ensures { let l = level (on_strip q heights.now bounds.now) [] (point_of s) base low in
+        EndLed l above work.old work.new }
 {
     if !rows::is_upper_end(above) {
         return;
@@ -147,8 +151,10 @@ fn follow_level(
     base: usize,
     low: usize,
 )
-    requires { let l = level (on_strip q heights.now bounds.now) [] (point_of s) base low in Ready l (words_in l) (length work.old) × Bounded l.arrays }
-    ensures { let l = level (on_strip q heights.now bounds.now) [] (point_of s) base low in LevelLed l work.old work.new }
+    requires { let l = level (on_strip q heights.now bounds.now) [] (point_of s) base low in
+        Ready l (words_in l) (length work.old) × Bounded l.arrays }
+    ensures { let l = level (on_strip q heights.now bounds.now) [] (point_of s) base low in
+        LevelLed l work.old work.new }
 {
     let ends = (heights.len() as u32) + 1;
     let mut above = End { slot: 0, colour: 0 };
@@ -241,8 +247,10 @@ fn mark_site(
     size: usize,
     j: usize,
 )
-    requires { let g = on_sites q heights.now bounds.now xs.now ys.now cs.now in OfSheet g × Bounded g × TableFits g (length work.old) × LevelAt g size j }
-    ensures { let g = on_sites q heights.now bounds.now xs.now ys.now cs.now in SiteLed g size j work.old work.new }
+    requires { let g = on_sites q heights.now bounds.now xs.now ys.now cs.now in
+        OfSheet g × Bounded g × TableFits g (length work.old) × LevelAt g size j }
+    ensures { let g = on_sites q heights.now bounds.now xs.now ys.now cs.now in
+        SiteLed g size j work.old work.new }
 {
     let s = rows::site_at(q, heights, xs, ys, cs, j);
     follow_level(work, q, heights, bounds, s, j * size, (j + 1) * size);
@@ -259,8 +267,10 @@ pub fn mark_table(
     cs: &[u32],
     rows: usize,
 )
-    requires { let g = on_sites q heights.now bounds.now xs.now ys.now cs.now in OfSheet g × Bounded g × TableFits g (length work.old) × (rows ≡ rows_of (length heights.now) q.colours) }
-    ensures { let g = on_sites q heights.now bounds.now xs.now ys.now cs.now in SheetMarked g work.old work.new }
+    requires { let g = on_sites q heights.now bounds.now xs.now ys.now cs.now in
+        OfSheet g × Bounded g × TableFits g (length work.old) × (rows ≡ rows_of (length heights.now) q.colours) }
+    ensures { let g = on_sites q heights.now bounds.now xs.now ys.now cs.now in
+        SheetMarked g work.old work.new }
 {
     let n = q.budgets as usize;
     let size = rows * n;

@@ -27,10 +27,14 @@ fn lay_ranked(
     work: &mut [u32],
     out: &mut [u32],
 ) -> u8
-    requires { let g = given q heights.now bounds.now radices.now draws.now xs.now ys.now colours.now order.now [] [] in LaysOut g (length work.old) out.old }
-    ensures value { let g = given q heights.now bounds.now radices.now draws.now xs.now ys.now colours.now order.now [] [] in result ≡ laid_fault g }
-    ensures work_after { let g = given q heights.now bounds.now radices.now draws.now xs.now ys.now colours.now order.now [] [] in work.new ≡ laid_work g work.old }
-    ensures out_after { let g = given q heights.now bounds.now radices.now draws.now xs.now ys.now colours.now order.now [] [] in out.new ≡ laid_out g out.old }
+    requires { let g = given q heights.now bounds.now radices.now draws.now xs.now ys.now colours.now order.now [] [] in
+        LaysOut g (length work.old) out.old }
+    ensures value { let g = given q heights.now bounds.now radices.now draws.now xs.now ys.now colours.now order.now [] [] in
+        result ≡ laid_fault g }
+    ensures work_after { let g = given q heights.now bounds.now radices.now draws.now xs.now ys.now colours.now order.now [] [] in
+        work.new ≡ laid_work g work.old }
+    ensures out_after { let g = given q heights.now bounds.now radices.now draws.now xs.now ys.now colours.now order.now [] [] in
+        out.new ≡ laid_out g out.old }
 {
     let mut parts = [0u8; SPLITS_LENGTH];
     let mut counts = [0u8; BUDGETS_LENGTH];

@@ -49,8 +49,8 @@ fn no_colour() -> ColourSize
 fn colour_sizes(bounds: &[u32], counts: &[u32]) -> [ColourSize; MOST_COLOURS]
     requires bounds_len_bound { length bounds.now ≤ most_colours }
     requires counts_len { length counts.now ≡ length bounds.now }
-    requires by_index { (i : ℕ) → get_or bounds.now i 0 < byte_top }
-    requires by_index_2 { (i : ℕ) → get_or counts.now i 0 < byte_top }
+    requires bounds_low { (i : ℕ) → get_or bounds.now i 0 < byte_top }
+    requires counts_low { (i : ℕ) → get_or counts.now i 0 < byte_top }
     ensures { result ≡ eight_of (colours_by bounds.now counts.now) }
 {
     let mut colours = [no_colour(); MOST_COLOURS];

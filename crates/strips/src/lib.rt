@@ -218,9 +218,12 @@ pub fn step_of(
     v: u32,
     k: u32,
 ) -> Step
-    requires { let g = on_step q heights.now bounds.now radices.now draws.now in OfSheet g × Bounded g × SiteIn q (point_of s) × (k < most_slots) }
-    ensures left_value { let g = on_step q heights.now bounds.now radices.now draws.now in result.left ≡ budget_left (instance_of g) (strip_of p) (point_of s) v k }
-    ensures price_value { let g = on_step q heights.now bounds.now radices.now draws.now in result.price ≡ price_in (instance_of g) (strip_of p) (point_of s) v k }
+    requires { let g = on_step q heights.now bounds.now radices.now draws.now in
+        OfSheet g × Bounded g × SiteIn q (point_of s) × (k < most_slots) }
+    ensures left_value { let g = on_step q heights.now bounds.now radices.now draws.now in
+        result.left ≡ budget_left (instance_of g) (strip_of p) (point_of s) v k }
+    ensures price_value { let g = on_step q heights.now bounds.now radices.now draws.now in
+        result.price ≡ price_in (instance_of g) (strip_of p) (point_of s) v k }
 {
     if opens(q, heights, bounds, p, s, k) {
         let draw = get(draws, s.c);

@@ -30,8 +30,10 @@ fn fill_below(
     base: usize,
     low: usize,
 )
-    requires { let l = filling (on_rows q heights.now bounds.now parts.now counts.now) left.now opening.now (point_of s) base low in LevelReady l (length work.old) × EndIn l above }
-    ensures { let l = filling (on_rows q heights.now bounds.now parts.now counts.now) left.now opening.now (point_of s) base low in EndFilled l above work.old work.new }
+    requires { let l = filling (on_rows q heights.now bounds.now parts.now counts.now) left.now opening.now (point_of s) base low in
+        LevelReady l (length work.old) × EndIn l above }
+    ensures { let l = filling (on_rows q heights.now bounds.now parts.now counts.now) left.now opening.now (point_of s) base low in
+        EndFilled l above work.old work.new }
 {
     if !rows::is_upper_end(above) {
         return;
@@ -69,8 +71,10 @@ fn fill_level(
     base: usize,
     low: usize,
 )
-    requires { let l = filling (on_rows q heights.now bounds.now parts.now counts.now) left.now opening.now (point_of s) base low in LevelReady l (length work.old) }
-    ensures { let l = filling (on_rows q heights.now bounds.now parts.now counts.now) left.now opening.now (point_of s) base low in LevelFilled l work.old work.new }
+    requires { let l = filling (on_rows q heights.now bounds.now parts.now counts.now) left.now opening.now (point_of s) base low in
+        LevelReady l (length work.old) }
+    ensures { let l = filling (on_rows q heights.now bounds.now parts.now counts.now) left.now opening.now (point_of s) base low in
+        LevelFilled l work.old work.new }
 {
     let ends = (heights.len() as u32) + 1;
     let mut above = End { slot: 0, colour: 0 };
@@ -120,8 +124,10 @@ fn fill_site(
     size: usize,
     j: usize,
 )
-    requires { let g = given q heights.now bounds.now radices.now draws.now xs.now ys.now cs.now [] parts.now counts.now in TableReady g (length work.old) × LevelAt g size j }
-    ensures { let g = given q heights.now bounds.now radices.now draws.now xs.now ys.now cs.now [] parts.now counts.now in SiteFilled g size j work.old work.new }
+    requires { let g = given q heights.now bounds.now radices.now draws.now xs.now ys.now cs.now [] parts.now counts.now in
+        TableReady g (length work.old) × LevelAt g size j }
+    ensures { let g = given q heights.now bounds.now radices.now draws.now xs.now ys.now cs.now [] parts.now counts.now in
+        SiteFilled g size j work.old work.new }
 {
     let s = rows::site_at(q, heights, xs, ys, cs, j);
     let opening = opening_costs(q, heights, s);
@@ -157,8 +163,10 @@ pub fn fill_table(
     ys: &[u32],
     cs: &[u32],
 )
-    requires { let g = given q heights.now bounds.now radices.now draws.now xs.now ys.now cs.now [] parts.now counts.now in TableReady g (length work.old) }
-    ensures { let g = given q heights.now bounds.now radices.now draws.now xs.now ys.now cs.now [] parts.now counts.now in TableRight g work.old work.new }
+    requires { let g = given q heights.now bounds.now radices.now draws.now xs.now ys.now cs.now [] parts.now counts.now in
+        TableReady g (length work.old) }
+    ensures { let g = given q heights.now bounds.now radices.now draws.now xs.now ys.now cs.now [] parts.now counts.now in
+        TableRight g work.old work.new }
 {
     let rows = rows::rows_of(q, heights.len());
     let size = rows * (q.budgets as usize);

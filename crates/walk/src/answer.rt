@@ -27,9 +27,12 @@ pub fn lay_least(
     work: &[u32],
     out: &mut [u32],
 ) -> u8
-    requires { let g = given q heights.now bounds.now radices.now draws.now xs.now ys.now colours.now order.now parts.now counts.now in FilledIn g work.now out.old }
-    ensures value { let g = given q heights.now bounds.now radices.now draws.now xs.now ys.now colours.now order.now parts.now counts.now in result ≡ laid_fault g }
-    ensures out_after { let g = given q heights.now bounds.now radices.now draws.now xs.now ys.now colours.now order.now parts.now counts.now in out.new ≡ laid_out g out.old }
+    requires { let g = given q heights.now bounds.now radices.now draws.now xs.now ys.now colours.now order.now parts.now counts.now in
+        FilledIn g work.now out.old }
+    ensures value { let g = given q heights.now bounds.now radices.now draws.now xs.now ys.now colours.now order.now parts.now counts.now in
+        result ≡ laid_fault g }
+    ensures out_after { let g = given q heights.now bounds.now radices.now draws.now xs.now ys.now colours.now order.now parts.now counts.now in
+        out.new ≡ laid_out g out.old }
 {
     let v = q.budgets - 1;
     let m = heights.len();

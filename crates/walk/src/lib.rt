@@ -32,10 +32,14 @@ fn tie_site(
     j: usize,
     left: Left,
 ) -> Left
-    requires walk_in { let g = given q heights.now bounds.now radices.now draws.now xs.now ys.now colours.now order.now parts.now counts.now in WalkIn g work.now }
-    requires standing { let g = given q heights.now bounds.now radices.now draws.now xs.now ys.now colours.now order.now parts.now counts.now in Standing g work.now labels.old marks.old out.old j left.budget left.cost × (j < length order.now) }
-    ensures standing_2 { let g = given q heights.now bounds.now radices.now draws.now xs.now ys.now colours.now order.now parts.now counts.now in Standing g work.now labels.new marks.new out.new (j + 1) result.budget result.cost }
-    ensures budget_value { let g = given q heights.now bounds.now radices.now draws.now xs.now ys.now colours.now order.now parts.now counts.now in tied_from g work.now labels.old marks.old out.old j left.budget ≡ tied_from g work.now labels.new marks.new out.new (j + 1) result.budget }
+    requires walk_in { let g = given q heights.now bounds.now radices.now draws.now xs.now ys.now colours.now order.now parts.now counts.now in
+        WalkIn g work.now }
+    requires standing { let g = given q heights.now bounds.now radices.now draws.now xs.now ys.now colours.now order.now parts.now counts.now in
+        Standing g work.now labels.old marks.old out.old j left.budget left.cost × (j < length order.now) }
+    ensures stands { let g = given q heights.now bounds.now radices.now draws.now xs.now ys.now colours.now order.now parts.now counts.now in
+        Standing g work.now labels.new marks.new out.new (j + 1) result.budget result.cost }
+    ensures budget_value { let g = given q heights.now bounds.now radices.now draws.now xs.now ys.now colours.now order.now parts.now counts.now in
+        tied_from g work.now labels.old marks.old out.old j left.budget ≡ tied_from g work.now labels.new marks.new out.new (j + 1) result.budget }
 {
     let s = rows::site_at(q, heights, xs, ys, colours, j);
     let p = rows::hold_of(heights, labels, marks, s.y);
@@ -76,8 +80,10 @@ pub fn walk(
     j: usize,
     left: Left,
 )
-    requires { let g = given q heights.now bounds.now radices.now draws.now xs.now ys.now colours.now order.now parts.now counts.now in WalkIn g work.now × Standing g work.now labels.old marks.old out.old j left.budget left.cost }
-    ensures { let g = given q heights.now bounds.now radices.now draws.now xs.now ys.now colours.now order.now parts.now counts.now in out.new ≡ tied_from g work.now labels.old marks.old out.old j left.budget }
+    requires { let g = given q heights.now bounds.now radices.now draws.now xs.now ys.now colours.now order.now parts.now counts.now in
+        WalkIn g work.now × Standing g work.now labels.old marks.old out.old j left.budget left.cost }
+    ensures { let g = given q heights.now bounds.now radices.now draws.now xs.now ys.now colours.now order.now parts.now counts.now in
+        out.new ≡ tied_from g work.now labels.old marks.old out.old j left.budget }
 {
     if j == order.len() {
         return;

@@ -35,8 +35,8 @@ pub colour_sizes-colours-requires : goal.colour_sizes-colours-requires
 colour_sizes-colours-requires c = let r = c.requires in record {
   bounds_len_bound = (bounds-fit r).0;
   counts_len = (counts-fit r).0;
-  by_index = (bounds-fit r).1;
-  by_index_2 = (counts-fit r).1;
+  bounds_low = (bounds-fit r).1;
+  counts_low = (counts-fit r).1;
 }
 
 pub overflow_cast-result : goal.overflow_cast-result

@@ -21,7 +21,7 @@ overflow_add-j t c =
 pub walk-requires : goal.walk-requires
 walk-requires t c =
     let p = c.requires in
-    (omega (arith, p.1.tied, long p.0, c.if-j-order.false), (p.0, c.tie_site-after.ensures.standing_2))
+    (omega (arith, p.1.tied, long p.0, c.if-j-order.false), (p.0, c.tie_site-after.ensures.stands))
 
 pub shape_of-labels : goal.shape_of-labels
 shape_of-labels t c = c.walk.auto.labels ∙ c.tie_site-after.auto.labels

@@ -126,4 +126,4 @@ returns c = let mid : (let a = c.args in Tied c.requires.walk_in a.j a.labels.no
     (point_of c.site_at-s.result) c.site_at-s.ensures (strip_of c.hold_of-p.result) (c.hold_of-p.ensures a.q a.bounds.now a.radices.now a.draws.now)
     _ (ap (λ (z : ℕ). (a.j + 1) * z) c.level_size-size.ensures) c.choose_slot-k.ensures.value in
     let f = c.step_of-step.ensures in let o = c.choose_slot-k.ensures in
-    let facts = step_by c.requires.walk_in mid _ _ _ _ _ _ _ _ o.labels_unchanged o.marks_unchanged c.turn_at.ensures c.write_marks.ensures c.write_tie.ensures f.left_value f.price_value c.monus-cost.ensures in record { standing_2 = facts.0; budget_value = facts.1 }
+    let facts = step_by c.requires.walk_in mid _ _ _ _ _ _ _ _ o.labels_unchanged o.marks_unchanged c.turn_at.ensures c.write_marks.ensures c.write_tie.ensures f.left_value f.price_value c.monus-cost.ensures in record { stands = facts.0; budget_value = facts.1 }
