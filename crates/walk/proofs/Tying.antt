@@ -196,14 +196,12 @@ module _ {g : Given} {work : List ℕ} (a : WalkIn g work) where
     pub stands : Standing g work (set L k (t.c + 1)) (marked_at L M p.a (turn_by hs t k) k) (with_tie order out j k) (j + 1) (budget_left P p t v k) (here - price_in P p t v k)
     pub ties : tied_from g work L M out j v ≡ tied_from g work (set L k (t.c + 1)) (marked_at L M p.a (turn_by hs t k) k) (with_tie order out j k) (j + 1) (budget_left P p t v k)
 
-  pub tied : (j : ℕ) (L M out : List ℕ) (v here k : ℕ) → j < length order → Standing g work L M out j v here
-      → (t : Point) → t ≡ site j → (p : Strip) → p ≡ hold P L M t.y
-      → (base : ℕ) → base ≡ (j + 1) * level_words g
-      → k ≡ first (length hs) (keeps_cost g work base p t L M v here)
+  pub tied : {j : ℕ} {L M out : List ℕ} {v here k : ℕ} {t : Point} {p : Strip} {size : ℕ} → Standing g work L M out j v here × (j < length order)
+      → t ≡ site j → p ≡ hold P L M t.y → size ≡ level_words g → k ≡ first (length hs) (keeps_cost g work ((j + 1) * size) p t L M v here)
       → Tied j L M out v here t p k
-  tied j L M out v here k l w t e p held base eb tried =
-      subst⁻¹ (λ (z : Point). p ≡ hold P L M z.y → k ≡ first (length hs) (keeps_cost g work base p z L M v here) → Tied j L M out v here z p k) e
-      (λ h f. let g = subst (λ (b : ℕ). k ≡ first (length hs) (keeps_cost g work b p (site j) L M v here)) eb f in
+  tied {j} {L} {M} {out} {v} {here} {k} {t} {p} {size} (w, l) e held words tried =
+      subst⁻¹ (λ (z : Point). p ≡ hold P L M z.y → k ≡ first (length hs) (keeps_cost g work ((j + 1) * size) p z L M v here) → Tied j L M out v here z p k) e
+      (λ h f. let g = subst (λ (n : ℕ). k ≡ first (length hs) (keeps_cost g work ((j + 1) * n) p (site j) L M v here)) words f in
       record {
         slot_low = slot-low j L M out v here k l w p h g;
         marks_in = places j L M out v here k l w p h g;
