@@ -22,7 +22,7 @@ use reader::Sizes;
 #[unsafe(no_mangle)]
 pub extern "C" fn backbone_read(sheet: &[u32]) -> Sizes
     ensures value { result ≡ read_post sheet.now }
-    ensures served_by_reader { ServedByReader sheet.now result sheet.now }
+    ensures served_by_reader { ServedByReader sheet.entry.now result sheet.exit.now }
 {
     reader::read_sheet(sheet)
 }
@@ -30,7 +30,7 @@ pub extern "C" fn backbone_read(sheet: &[u32]) -> Sizes
 #[unsafe(no_mangle)]
 pub extern "C" fn backbone_judge(stored: &[u32]) -> Verdict
     ensures value { result ≡ judge_post stored.now }
-    ensures served_by_judge { ServedByJudge stored.now result stored.now }
+    ensures served_by_judge { ServedByJudge stored.entry.now result stored.exit.now }
     ensures true_verdict { TrueVerdict stored.now result }
 {
     judge::judge_layout(stored)
@@ -41,7 +41,7 @@ pub extern "C" fn backbone_make(sheet: &[u32], work: &mut [u32], out: &mut [u32]
     ensures value { result ≡ make_fault sheet.now work.old out.old }
     ensures work_after { work.new ≡ make_work sheet.now work.old out.old }
     ensures out_after { out.new ≡ make_answer sheet.now work.old out.old }
-    ensures sheet_value { sheet.now ≡ sheet.now }
+    ensures sheet_kept { sheet.exit.now ≡ sheet.entry.now }
     ensures served { Served sheet.now work.old out.old result work.new out.new }
     ensures contents_apart { ContentsApart sheet.now work.old out.old result out.new }
     ensures best_of_lawful { BestOfLawful sheet.now work.old out.old result out.new }
@@ -53,7 +53,7 @@ pub extern "C" fn backbone_make(sheet: &[u32], work: &mut [u32], out: &mut [u32]
 pub extern "C" fn backbone_twin(stored: &[u32], out: &mut [u32]) -> Written
     ensures value { result ≡ twin_post stored.now out.old }
     ensures out_after { out.new ≡ twin_area stored.now out.old }
-    ensures stored_value { stored.now ≡ stored.now }
+    ensures stored_kept { stored.exit.now ≡ stored.entry.now }
     ensures served_by_twin { ServedByTwin stored.now out.old result out.new }
 {
     twin::make_twin(stored, out)
@@ -63,7 +63,7 @@ pub extern "C" fn backbone_twin(stored: &[u32], out: &mut [u32]) -> Written
 pub extern "C" fn backbone_page(stored: &[u32], page: &mut [u8]) -> Written
     ensures value { result ≡ page_post stored.now page.old }
     ensures page_after { page.new ≡ page_area stored.now page.old }
-    ensures stored_value { stored.now ≡ stored.now }
+    ensures stored_kept { stored.exit.now ≡ stored.entry.now }
     ensures served_by_page { ServedByPage stored.now page.old result page.new }
 {
     page::write_page(stored, page)
@@ -72,7 +72,7 @@ pub extern "C" fn backbone_page(stored: &[u32], page: &mut [u8]) -> Written
 #[unsafe(no_mangle)]
 pub extern "C" fn backbone_stroke_at(stored: &[u32], place: usize) -> FlatStroke
     ensures value { result ≡ flat_of (stroke_post stored.now place) }
-    ensures served_by_strokes { ServedByStrokes stored.now place result stored.now }
+    ensures served_by_strokes { ServedByStrokes stored.entry.now place result stored.exit.now }
 {
     flat_stroke(strokes::stroke_at(stored, place))
 }

@@ -14,4 +14,4 @@ returns c = let a = c.args in
     let o' = f.new.out in
     let e = f.ensures in
     let m : WasMade ws k o r k' o' = (e.value, e.work_after, e.out_after) in
-    record { value = e.value; work_after = e.work_after; out_after = e.out_after; sheet_value = refl; served = served ws k o r k' o' m; contents_apart = contents-apart ws k o r k' o' m; best_of_lawful = demand-three ws k o r k' o' m }
+    record { value = e.value; work_after = e.work_after; out_after = e.out_after; sheet_kept = refl; served = served ws k o r k' o' m; contents_apart = contents-apart ws k o r k' o' m; best_of_lawful = demand-three ws k o r k' o' m }
