@@ -18,21 +18,19 @@ use Rattle.labelling.proofs.Members.{all-at, used-at, rise-at}
 use Rattle.labelling.proofs.Words.{height-low}
 use Rattle.optimum.specs.OneSided.{order}
 use Rattle.optimum.specs.Budgets.{radices_of}
-use Rattle.optimum.specs.Reached.{TableOf}
 use Rattle.optimum.proofs.Full.{full-holds}
 use Rattle.optimum.proofs.optimality.Order.{ordered}
 use Rattle.optimum.proofs.optimality.OneSidedAnswer.{work-cells}
 use Rattle.arrays.specs.declared.Measures.{Measures}
 use Rattle.arrays.specs.Arrays.{measures_of, bounds_of, draws_list, xs_of, ys_of, colours_of, gathered}
-use Rattle.arrays.specs.Given.{Given, given, instance_of, points_of, OfSheet}
+use Rattle.arrays.specs.Given.{Given, given, points_of, OfSheet}
 use Rattle.decoding.proofs.Places.{ys-at, colours-at}
 use Rattle.decoding.proofs.Fields.{bounds-long}
 use Rattle.arrays.proofs.Ordered.{gathered-long, gathered-word}
 use Rattle.sizes.proofs.Budgets.{radix-pos}
 use Rattle.rows.proofs.Folding.{size}
-use Rattle.rows.specs.Budgets.{Splits}
 use Rattle.walk.specs.Walk.{level_words}
-use Rattle.walk.specs.Laid.{FilledIn, laid_work}
+use Rattle.walk.specs.Laid.{laid_work}
 use Rattle.arrays.proofs.Points.{points-long}
 use Rattle.onesided.specs.Laying.{RankedSites, arrays_of, LaysOut}
 
@@ -121,28 +119,6 @@ pub arrays-are : (s : Sheet) {q : Measures} {hs bs rs ds xs ys cs os : List ℕ}
 arrays-are s eq eh eb er ed r =
     λ i. given (eq i) (eh i) (eb i) (er i) (ed i) (r.xs_is i) (r.ys_is i) (r.colours_is i) (r.order_is i) [] []
 
--- with what may be taken from each budget listed
-module _ {g : Given} (o : OfSheet g) {ps ns : List ℕ} where
-  pub with-lists : OfSheet (given g.measures g.heights g.bounds g.radices g.draws g.xs g.ys g.colours g.order ps ns)
-  with-lists =
-      record {
-        few_slots = o.few_slots;
-        few_colours = o.few_colours;
-        few_sites = o.few_sites;
-        few_budgets = o.few_budgets;
-        some_budget = o.some_budget;
-        narrow = o.narrow;
-        charge_low = o.charge_low;
-        height_low = o.height_low;
-        rising = o.rising;
-        divides = o.divides;
-        full = o.full;
-        ys_long = o.ys_long;
-        colours_long = o.colours_long;
-        site_in = o.site_in;
-        order_low = o.order_low;
-      }
-
 module _ {g : Given} {area : ℕ} {out : List ℕ} (l : LaysOut g area out) where
   -- the levels of all sites, counted by their places
   all-levels : (length g.order + 1) * level_words g ≡ (length g.xs + 1) * level_words g
@@ -150,23 +126,6 @@ module _ {g : Given} {area : ℕ} {out : List ℕ} (l : LaysOut g area out) wher
 
   points-are : length (points_of g) ≡ length g.xs
   points-are = points-long g.measures g.heights g.xs g.ys g.colours
-
-  -- what the walk asks, from what the table was given
-  pub filled_is : {ps ns work : List ℕ} → length work ≡ area → Splits g.radices g.measures.budgets ps ns
-      → TableOf (instance_of g) g.measures.colours g.measures.budgets (points_of g) work
-      → FilledIn (given g.measures g.heights g.bounds g.radices g.draws g.xs g.ys g.colours g.order ps ns) work out
-  filled_is e splits table =
-      record {
-        arrays = record {
-          sheet = with-lists l.sheet;
-          bounded = l.bounded;
-          ranked = l.ranked;
-          splits = splits;
-          whole = omega (arith, l.fits, all-levels);
-        };
-        table = table;
-        answer_fits = l.answer_fits;
-      }
 
   -- the words of the table are zeroed alike where the rest of the area is the same
   pub zeroed-same : (old new : List ℕ) → drop ((length g.xs + 1) * level_words g) new ≡ drop ((length g.xs + 1) * level_words g) old → laid_work g new ≡ laid_work g old

@@ -55,6 +55,16 @@ module _ {d : Numbers} (t : SheetRead d) where
       part most_sites (gathered l (order s)) r d.sites (g ∙ ap₂ (λ (x y : List ℕ). padded most_sites (gathered x y)) e f)
       (sites-are t ∙ sym (ordered s fine).long ∙ sym (gathered-long l (order s)))
 
+  -- both from the calls before: b has the ranks, q the order
+  module _ {b q : List ℕ} (x : b ≡ padded most_sites (ranks_by (take d.sites d.xs) (take d.sites d.ys)))
+      (y : q ≡ padded most_sites (order_by (take d.sites b) (length (take d.sites b)) 0)) where
+    pub order-by : IsFront q d.sites (order s)
+    order-by = orders b q (ranks x).0 y
+
+    pub ranked-by : (a : List ℕ) {l r : List ℕ} → IsFront a d.sites l → r ≡ padded most_sites (gathered (take d.sites a) (take d.sites q))
+        → IsFront r d.sites (gathered l (order s))
+    ranked-by a {l} {r} f z = ranked l a q r f.0 order-by.0 z
+
   -- the sheet of the numbers is that of the words
   sheet-is : sheet_by d ≡ s
   sheet-is = sheet-read t.numbers
