@@ -16,7 +16,7 @@ use Rattle.labelling.specs.Counted.{all_before, sum_before, is_taken, is_first}
 use Rattle.labelling.proofs.Counted.{all-before}
 use Rattle.words.specs.declared.tied.Head.{Head}
 use Rattle.layouts.specs.declared.labels.Among.TheVariants.{All}
-use Rattle.layouts.specs.Model.{one_if, among_by, Low, least_before, left_on, length_by, length_at, most_added}
+use Rattle.layouts.specs.Model.{one_if, among_by, Low, least_before, left_on, length_at, most_added}
 
 -- A TEST OF ALL
 pub all_none : (f : ℕ → Bool) → all_before f 0 ≡ true
@@ -86,11 +86,3 @@ module _ (h : Head) (hs xs ys js : List ℕ) (n i : ℕ) {k a r : ℕ} (ek : k �
 
   pub share-low : Low h hs ys → r ≤ most_share
   share-low l = omega (arith, share-is, share-le _ _ _ l.charge (l.heights (get_or js i 0)) (l.ys i))
-
-  pub length-other : (b : Bool) → b ≡ false → r ≡ length_by h b hs xs ys js n i
-  length-other b e = rw e (omega (arith, share-is))
-
-  pub length-first : (b : Bool) {l m : ℕ} → b ≡ true → l ≡ left_on h xs js n k → m ≡ h.width - l → m + r ≡ length_by h b hs xs ys js n i
-  length-first b {l} {m} e el em =
-      let q : l ≡ left_on h xs js n (get_or js i 0) = el ∙ ap (left_on h xs js n) ek in
-      rw e (omega (arith, share-is, em, q))
