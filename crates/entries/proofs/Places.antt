@@ -1,16 +1,15 @@
 -- The rows that a row is filled from: they stand in the level below, and do not change. Assumes nothing.
 use mathlib.Core.Path.{◌≡◌, fun_ext}
-use mathlib.Core.List.{List, []}
+use mathlib.Core.List.{List}
 use Prim.Native.Nat.{ℕ, ◌+◌, ◌*◌, ◌-◌, ◌<◌, ◌≤◌}
 use native.Mathlib.Omega.{arith}
 use Rattle.optimum.specs.Strips.{Strip}
 use Rattle.optimum.specs.OneSided.{mark_count}
-use Rattle.arrays.proofs.Narrowed.{on-slots}
 use Rattle.rows.specs.Budgets.{Others}
 use Rattle.rows.specs.Rows.{row_of, row_in, Lies, marked_by, upper_part, lower_part, LevelFits}
 use Rattle.rows.proofs.Places.{row_fits, marked-lies, upper-lies, lower-lies}
-use Rattle.rows.specs.Level.{Level, filling, slots_in, colours_in, budgets_in, Ready}
-use Rattle.entries.specs.Entries.{on_rows, RowReady, PartsFit}
+use Rattle.rows.specs.Level.{Level, slots_in, colours_in, budgets_in, Ready}
+use Rattle.entries.specs.Entries.{PartsFit}
 use Rattle.rows.proofs.Levels.{level-fits}
 
 -- rows past the words that changed are the same
@@ -57,13 +56,3 @@ module _ {l : Level} {area : ℕ} (r : Ready l (budgets_in l) area) where
 
   pub below-fits : LevelFits l.arrays.measures (slots_in l) l.low area
   below-fits = level-fits r.sheet r.within
-
--- bounds have no part in where a row stands
-pub no-bounds : {l : Level} {p : Strip} {area : ℕ} → RowReady l p area
-    → RowReady (filling (on_rows l.arrays.measures l.arrays.heights [] l.arrays.parts l.arrays.counts) l.left l.opening l.site l.base l.low) p area
-no-bounds r = record {
-  ready = record { sheet = on-slots r.ready.sheet; site = r.ready.site; apart = r.ready.apart; within = r.ready.within };
-  budgets = record { listed = r.budgets.listed; left_long = r.budgets.left_long };
-  opening = r.opening;
-  lies = r.lies;
-}

@@ -1,62 +1,37 @@
-use mathlib.Core.Path.{refl, ap, sym, ◌∙◌}
+use mathlib.Core.Path.{ap, sym, ◌∙◌}
 use Prim.Native.Nat.{ℕ, ◌+◌}
 use native.Mathlib.Omega.{arith}
-use Rattle.arrays.proofs.Narrowed.{on-slots}
 use Rattle.rows.specs.Rows.{strip_of, point_of}
-use Rattle.entries.proofs.Places.{own-fits, no-bounds}
+use Rattle.entries.proofs.Places.{own-fits}
 use Rattle.entries.proofs.Terms.{row_copied, row-joined, row_opened}
 use Rattle.entries.proofs.fill_row.Goals as goal
 
-pub offset_bounds-work-base : goal.offset_bounds-work-base
-offset_bounds-work-base c = let p = c.requires in omega (arith, p.0.ready.apart, p.0.ready.within, p.0.ready.sheet.some_budget)
-
-pub bounds-work-base : goal.bounds-work-base
-bounds-work-base c = let p = c.requires in omega (arith, p.0.ready.apart, p.0.ready.within, p.0.ready.sheet.some_budget)
-
-pub returns-then-work-base-ne1 : goal.returns-then-work-base-ne1
-returns-then-work-base-ne1 c = (record { before = λ i h. refl; after = λ i h. refl }, λ m. absurd (c.if-work-base-ne1.true m))
-
-pub row_place-requires : goal.row_place-requires
-row_place-requires c = let p = c.requires.0 in
-    let f = p.ready.sheet in
-    record { m_le_most_slots = (f.few_slots, f.few_colours, f.few_budgets); lies = p.lies }
-
 pub overflow_add-same : goal.overflow_add-same
-overflow_add-same c = let p = c.requires.0 in
+overflow_add-same c =
+    let p = c.requires.0 in
     omega (arith, c.row_place.ensures, own-fits p.ready (strip_of c.args.p) p.lies)
 
 pub copy_row-requires : goal.copy_row-requires
-copy_row-requires c = let p = c.requires.0 in
+copy_row-requires c =
+    let p = c.requires.0 in
     let e = c.row_place.ensures in
     let f = own-fits p.ready (strip_of c.args.p) p.lies in
     (omega (arith, p.ready.apart), omega arith)
 
-pub shape_of-work-then-not-is_inside : goal.shape_of-work-then-not-is_inside
-shape_of-work-then-not-is_inside c = c.copy_row.auto.work
-
 pub returns-then-not-is_inside : goal.returns-then-not-is_inside
-returns-then-not-is_inside c = let a = c.args in
+returns-then-not-is_inside c =
+    let a = c.args in
     let o = c.copy_row in
     let g = sym (c.is_inside.ensures a.q a.bounds.now) ∙ c.if-not-is_inside.true in
-    let f = ap (λ (z : ℕ). a.low + z) c.row_place.ensures in
-    (o.ensures.0, λ m. row_copied a.q a.heights.now a.bounds.now a.parts.now a.counts.now a.left.now a.work.now o.new.work a.base a.low _ (strip_of a.p) (point_of a.s) g f o.ensures.1)
-
-pub start_joined-requires : goal.start_joined-requires
-start_joined-requires c = let p = c.requires.0 in
-    let r = p.ready in
-    (record { sheet = on-slots r.sheet; site = r.site; apart = r.apart; within = r.within }, p.lies)
-
-pub site_opens-requires : goal.site_opens-requires
-site_opens-requires c = let p = c.requires in omega (arith, p.0.ready.site.colour_low, p.1)
-
-pub open_slots-requires : goal.open_slots-requires
-open_slots-requires c = rw c.start_joined.auto.work (no-bounds c.requires.0)
-
-pub shape_of-work-then-site_opens : goal.shape_of-work-then-site_opens
-shape_of-work-then-site_opens c = c.open_slots.auto.work ∙ c.start_joined.auto.work
+    let f = ap (λ (z : ℕ). a.low + z) c.row_place.ensures in (
+      o.ensures.0,
+      λ m. row_copied a.q a.heights.now a.bounds.now a.parts.now a.counts.now a.left.now a.work.now o.new.work a.base a.low _
+          (strip_of a.p) (point_of a.s) g f o.ensures.1,
+    )
 
 pub returns-then-site_opens : goal.returns-then-site_opens
-returns-then-site_opens c = let a = c.args in
+returns-then-site_opens c =
+    let a = c.args in
     let p = c.requires in
     let r = c.start_joined in
     let w = r.ensures a.bounds.now in
@@ -64,17 +39,18 @@ returns-then-site_opens c = let a = c.args in
     let g = sym (c.is_inside.ensures a.q a.bounds.now) ∙ c.if-not-is_inside.false in
     let h = sym c.site_opens.ensures ∙ c.if-site_opens.true in (
       record { before = λ i k. o.ensures.0.before i k ∙ w.0.before i k; after = λ i k. o.ensures.0.after i k ∙ w.0.after i k },
-      λ m. row_opened a.q a.heights.now a.bounds.now a.parts.now a.counts.now a.left.now a.work.now r.new.work o.new.work a.base a.low (strip_of a.p) (point_of a.s)
-          p.0.ready.apart g h w.0 w.1 o.ensures.1,
+      λ m. row_opened a.q a.heights.now a.bounds.now a.parts.now a.counts.now a.left.now a.work.now r.new.work o.new.work a.base a.low
+          (strip_of a.p) (point_of a.s) p.0.ready.apart g h w.0 w.1 o.ensures.1,
     )
 
-pub shape_of-work-else-site_opens : goal.shape_of-work-else-site_opens
-shape_of-work-else-site_opens c = c.start_joined.auto.work
-
 pub returns-else-site_opens : goal.returns-else-site_opens
-returns-else-site_opens c = let a = c.args in
+returns-else-site_opens c =
+    let a = c.args in
     let r = c.start_joined in
     let w = r.ensures a.bounds.now in
     let g = sym (c.is_inside.ensures a.q a.bounds.now) ∙ c.if-not-is_inside.false in
-    let h = sym c.site_opens.ensures ∙ c.if-site_opens.false in
-    (w.0, λ m. row-joined a.q a.heights.now a.bounds.now a.parts.now a.counts.now a.left.now a.work.now r.new.work a.base a.low (strip_of a.p) (point_of a.s) g h w.1)
+    let h = sym c.site_opens.ensures ∙ c.if-site_opens.false in (
+      w.0,
+      λ m. row-joined a.q a.heights.now a.bounds.now a.parts.now a.counts.now a.left.now a.work.now r.new.work a.base a.low
+          (strip_of a.p) (point_of a.s) g h w.1,
+    )

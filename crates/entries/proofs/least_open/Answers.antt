@@ -9,34 +9,29 @@ use native.Mathlib.Omega.{arith}
 use Rattle.entries.proofs.least_open.Goals as goal
 
 pub loop-k-init : goal.loop-k-init
-loop-k-init c = let a = c.args in
+loop-k-init c =
+    let a = c.args in
     let e : a.window.from - a.window.from ≡ 0 = omega arith in
     (omega arith, omega (arith, c.requires.some), rw e (single-none a.old _ (omega (arith, c.ranges.old))))
 
-pub bounds-opening-k : goal.bounds-opening-k
-bounds-opening-k c = let p = c.requires in omega (arith, p.listed.long, p.high, p.lies.b_low, c.loop-k-test.true)
-
 pub parts_cost-parts-requires : goal.parts_cost-parts-requires
-parts_cost-parts-requires c = let p = c.requires in
-    record { level_fits = (p.fits, p.lies); c_lt_colours = (p.site.colour_low, omega (arith, p.high, c.loop-k-test.true), rw c.turn_at-turn.ensures (turn_low _ _ _)) }
-
-pub overflow_add-k : goal.overflow_add-k
-overflow_add-k c = omega (arith, c.loop-k-test.true)
-
-pub loop-k-smaller : goal.loop-k-smaller
-loop-k-smaller c = omega (arith, c.loop-k-test.true)
+parts_cost-parts-requires c =
+    let p = c.requires in
+    record {
+      level_fits = (p.fits, p.lies);
+      c_lt_colours = (p.site.colour_low, omega (arith, p.high, c.loop-k-test.true), rw c.turn_at-turn.ensures (turn_low _ _ _));
+    }
 
 pub loop-k-preserved : goal.loop-k-preserved
-loop-k-preserved c = let a = c.args in
+loop-k-preserved c =
+    let a = c.args in
     let l = c.loop-k in
     let f : l.k + 1 - a.window.from ≡ l.k - a.window.from + 1 = omega (arith, l.invariant.0) in
     let g : a.window.from + (l.k - a.window.from) ≡ l.k = omega (arith, l.invariant.0) in
     let p = c.requires in
-    let t = ap₂ (plus top_word) (p.listed.costs l.k (omega (arith, p.high, p.lies.b_low, c.loop-k-test.true))) (rw c.turn_at-turn.ensures at c.parts_cost-parts.ensures) in
-    (omega (arith, l.invariant.0), omega (arith, c.loop-k-test.true), rw f (c.lesser_sum-best.ensures ∙ single_more a.old l.best _ (l.k - a.window.from) _ l.invariant.2 (rw g t)))
-
-pub returns : goal.returns
-returns c = let l = c.loop-k in
-    let a = c.args in
-    let e : l.k ≡ a.window.to = omega (arith, l.invariant.1, c.loop-k-test.false) in
-    rw e at l.invariant.2
+    let t = ap₂ (plus top_word) (p.listed.costs l.k (omega (arith, p.high, p.lies.b_low, c.loop-k-test.true)))
+    (rw c.turn_at-turn.ensures at c.parts_cost-parts.ensures) in (
+      omega (arith, l.invariant.0),
+      omega (arith, c.loop-k-test.true),
+      rw f (c.lesser_sum-best.ensures ∙ single_more a.old l.best _ (l.k - a.window.from) _ l.invariant.2 (rw g t)),
+    )
