@@ -32,10 +32,6 @@ pub record Joined (parts counts old work : List ℕ) (row : ℕ) (acc : List ℕ
   pub kept : (k : ℕ) → k < v → get_or acc k 0 ≡ get_or old k 0
   pub done : (k : ℕ) → v ≤ k → k < length old → get_or acc k 0 ≡ split_row parts counts old work row k
 
-pub joined-none : (parts counts old work : List ℕ) (row : ℕ) → Joined parts counts old work row old (length old)
-joined-none parts counts old work row =
-    record { long = refl; within = omega arith; kept = λ k h. refl; done = λ k h l. absurd (omega arith) }
-
 pub joined-more : (parts counts old work : List ℕ) (row : ℕ) (acc : List ℕ) (v u x : ℕ) → Joined parts counts old work row acc v → u + 1 ≡ v
     → Within (length old) parts counts → x ≡ split_by parts counts (λ w. get_or acc (0 + w) 0) (λ w. get_or work (row + w) 0) u → Joined parts counts old work row (set acc u x) u
 joined-more parts counts old work row acc v u x j e i h =
@@ -86,10 +82,6 @@ pub record Folding (parts counts work : List ℕ) (base C R : ℕ) (L M start ac
   pub above : a ≤ i
   pub colour : ca ≤ C
   pub same : fold_rows parts counts work base (length L) C R (length L) 0 0 0 L M start ≡ fold_rows parts counts work base (length L) C R (length L - i) i a ca L M acc
-
-pub folding-none : (parts counts work : List ℕ) (base C R : ℕ) (L M start : List ℕ) → length start ≡ R → Folding parts counts work base C R L M start start 0 0 0
-folding-none parts counts work base C R L M start h =
-    record { long = h; passed = omega arith; above = omega arith; colour = omega arith; same = ap (λ (r : ℕ). fold_rows parts counts work base (length L) C R r 0 0 0 L M start) (omega arith) }
 
 pub folding-more : (parts counts work : List ℕ) (base C R : ℕ) (L M start acc : List ℕ) (a ca i : ℕ) (next : List ℕ) (a' ca' : ℕ)
     → Folding parts counts work base C R L M start acc a ca i → i < length L → get_or L i 0 ≤ C
@@ -145,6 +137,3 @@ unfolding listing just
 start_is zero n h = refl
 start_is (suc r) zero h = absurd (omega arith)
 start_is (suc r) (suc n) h = ap (λ (l : List ℕ). 0 ∷ l) (tops 0 r n (omega arith))
-
-pub start-long : (r n : ℕ) → r ≤ n → length (take r (set (replicate {A = ℕ} n top_word) 0 0)) ≡ r
-start-long r n h = ap length (start_is r n h) ∙ length-listing (just top_word 0 0) 0 r

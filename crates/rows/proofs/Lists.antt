@@ -2,7 +2,7 @@
 use mathlib.Core.Path.{◌≡◌, refl, ◌∙◌}
 use mathlib.Core.Bool.{true, false, cond}
 use mathlib.Core.List.{List}
-use Prim.Native.Nat.{ℕ, ◌+◌, ◌*◌, ◌<◌, ◌≤◌, min}
+use Prim.Native.Nat.{ℕ, ◌+◌, ◌<◌, min}
 use native.Mathlib.Omega.{arith}
 use native.Mathlib.Numerals.{add-one}
 use lib.ListN.{length, get_or, set}
@@ -12,8 +12,7 @@ use Rattle.search.specs.Cost.{plus, least}
 use Rattle.search.proofs.Cost.{least-le-top}
 use Rattle.search.specs.Radix.{below}
 use Rattle.optimum.specs.OneSided.{top_word}
-use Rattle.rows.specs.Budgets.{Others, Listed, Splits, part_at, splits_length}
-use Rattle.sheet.specs.Limits.{most_budgets}
+use Rattle.rows.specs.Budgets.{Others, Listed}
 
 pub listed-none : (rs : List ℕ) (v : ℕ) (at : ℕ → ℕ) → Listed rs v 0 0 at
 listed-none rs v at =
@@ -61,30 +60,6 @@ pub others-set : (old new : List ℕ) (from count i x : ℕ) → i < count → O
 others-set old new from count i x h o = record {
   before = λ k l. get_or-set_other new (from + i) k x 0 (λ e. omega arith) ∙ o.before k l;
   after = λ k l. get_or-set_other new (from + i) k x 0 (λ e. omega arith) ∙ o.after k l;
-}
-
--- one row more
-pub rows_more : (rs : List ℕ) (v n : ℕ) (old parts counts : List ℕ) → v < most_budgets → length counts ≡ most_budgets
-    → ((x : ℕ) → x < v → Listed rs x (x + 1) (get_or counts x 0) (part_at old x)) → Listed rs v (v + 1) n (part_at parts v) → Others old parts (v * most_budgets) most_budgets
-    → (x : ℕ) → x < v + 1 → Listed rs x (x + 1) (get_or (set counts v n) x 0) (part_at parts x)
-rows_more rs v n old parts counts h c f r o x l =
-    by_order v x
-    (λ k. let e : x ≡ v = omega arith in rw (e, get_or-set_same counts v n 0 (omega arith)) r)
-    (λ k. rw (get_or-set_other counts v x n 0 (λ e. omega arith))
-    (listed_same rs x (x + 1) (get_or counts x 0) (part_at old x) (part_at parts x) (λ i q. o.before (x * most_budgets + i) (omega (arith, (f x k).few))) (f x k)))
-
--- all rows listed
-pub splits_of : (rs : List ℕ) (P : ℕ) (parts counts : List ℕ) → P ≤ most_budgets → length parts ≡ splits_length → length counts ≡ most_budgets
-    → ((v : ℕ) → v < P → Listed rs v (v + 1) (get_or counts v 0) (part_at parts v)) → Splits rs P parts counts
-splits_of rs P parts counts h p c f = record {
-  within = record {
-    few = h;
-    parts_long = p;
-    counts_long = c;
-    counted = λ v l. omega (arith, (f v l).few);
-    small = λ v i l k. omega (arith, (f v l).small i k);
-  };
-  listed = f;
 }
 
 -- one share more; min with a number up to the sentinel needs no cap
