@@ -78,3 +78,10 @@ module _ {q : Measures} {m low area : ℕ} (r : LevelFits q m low area) (p : Str
       let g = own-marking r (lower_part p s k) (lower-lies m q.colours p s k l c b) (set old upper 1) lower e w in
       let y = own-marked r (lower_part p s k) (lower-lies m q.colours p s k l c b) (set old upper 1) lower e w in
       (marking-join _ _ _ _ _ f g, record { upper = g.kept _ x; lower = y })
+
+-- the same, of what the code asks and finds
+pub parts_within : {q : Measures} {m low area : ℕ} {p : Strip} {upper lower : ℕ} (s : Point) (k d : ℕ) → LevelFits q m low area × Lies m q.colours p
+    → (s.c < q.colours) × (k + 1 < p.b) × (d < mark_count)
+    → (upper ≡ low + row_of m q.colours (upper_part d p s k) * q.budgets) × (lower ≡ low + row_of m q.colours (lower_part p s k) * q.budgets)
+    → (upper < area) × (lower < area)
+parts_within s k d r c e = both-within r.0 _ s k d r.1 c.0 c.1 c.2 _ _ e.0 e.1

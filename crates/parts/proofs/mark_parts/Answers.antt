@@ -1,41 +1,32 @@
 use Rattle.rows.specs.Rows.{strip_of, point_of}
-use Rattle.parts.proofs.Marking.{both-within, fits-place, parts-marked}
+use Rattle.parts.proofs.Marking.{parts_within, parts-marked}
 use mathlib.Core.Path.{refl}
-use Prim.Native.Nat.{◌<◌}
+use Prim.Native.Nat.{ℕ}
 use native.Mathlib.Omega.{arith}
-use lib.ListN.{length, length-set}
+use lib.ListN.{length-set}
 use Rattle.parts.proofs.mark_parts.Goals as goal
 
-pub part_places-at-requires : goal.part_places-at-requires
-part_places-at-requires c = let p = c.requires in
-    record { level_fits = fits-place p.level_fits.0 (omega (arith, p.level_fits.0.within, c.ranges)); lies = (p.level_fits.1, p.c_lt_colours.0, p.c_lt_colours.1, p.c_lt_colours.2) }
-
 pub offset_bounds-work-upper : goal.offset_bounds-work-upper
-offset_bounds-work-upper c = let within : (c.part_places-at.result.upper < length c.args.work.now) × (c.part_places-at.result.lower < length c.args.work.now) = let p = c.requires in
-    let a = c.args in
-    both-within p.level_fits.0 (strip_of a.p) (point_of a.s) a.k a.d p.level_fits.1 p.c_lt_colours.0 p.c_lt_colours.1 p.c_lt_colours.2 _ _ c.part_places-at.ensures.0 c.part_places-at.ensures.1 in
-    omega (arith, within)
+offset_bounds-work-upper c =
+    omega (arith, parts_within (point_of c.args.s) _ _ c.requires.level_fits c.requires.c_lt_colours c.part_places-at.ensures)
 
 pub bounds-work-upper : goal.bounds-work-upper
-bounds-work-upper c = let within : (c.part_places-at.result.upper < length c.args.work.now) × (c.part_places-at.result.lower < length c.args.work.now) = let p = c.requires in
-    let a = c.args in
-    both-within p.level_fits.0 (strip_of a.p) (point_of a.s) a.k a.d p.level_fits.1 p.c_lt_colours.0 p.c_lt_colours.1 p.c_lt_colours.2 _ _ c.part_places-at.ensures.0 c.part_places-at.ensures.1 in
-    omega (arith, within)
+bounds-work-upper c =
+    omega (arith, parts_within (point_of c.args.s) _ _ c.requires.level_fits c.requires.c_lt_colours c.part_places-at.ensures)
 
 pub offset_bounds-work-lower : goal.offset_bounds-work-lower
-offset_bounds-work-lower c = let within : (c.part_places-at.result.upper < length c.args.work.now) × (c.part_places-at.result.lower < length c.args.work.now) = let p = c.requires in
-    let a = c.args in
-    both-within p.level_fits.0 (strip_of a.p) (point_of a.s) a.k a.d p.level_fits.1 p.c_lt_colours.0 p.c_lt_colours.1 p.c_lt_colours.2 _ _ c.part_places-at.ensures.0 c.part_places-at.ensures.1 in
-    omega (arith, within)
+offset_bounds-work-lower c =
+    omega (arith, parts_within (point_of c.args.s) _ _ c.requires.level_fits c.requires.c_lt_colours c.part_places-at.ensures)
 
 pub bounds-work-lower : goal.bounds-work-lower
-bounds-work-lower c = let within : (c.part_places-at.result.upper < length c.args.work.now) × (c.part_places-at.result.lower < length c.args.work.now) = let p = c.requires in
-    let a = c.args in
-    both-within p.level_fits.0 (strip_of a.p) (point_of a.s) a.k a.d p.level_fits.1 p.c_lt_colours.0 p.c_lt_colours.1 p.c_lt_colours.2 _ _ c.part_places-at.ensures.0 c.part_places-at.ensures.1 in
-    omega (arith, within, length-set c.args.work.now c.part_places-at.result.upper 1)
+bounds-work-lower c =
+    omega (arith, parts_within (point_of c.args.s) _ _ c.requires.level_fits c.requires.c_lt_colours c.part_places-at.ensures, length-set {A = ℕ})
 
 pub returns : goal.returns
-returns c = let p = c.requires in
+returns c =
     let a = c.args in
     let e = c.part_places-at.ensures in
-    let facts = parts-marked p.level_fits.0 (strip_of a.p) (point_of a.s) a.k a.d p.level_fits.1 p.c_lt_colours.0 p.c_lt_colours.1 p.c_lt_colours.2 _ _ e.0 e.1 a.work.now refl in record { marking = facts.0; parts_marked = facts.1 }
+    let r = c.requires.level_fits in
+    let l = c.requires.c_lt_colours in
+    let facts = parts-marked r.0 (strip_of a.p) (point_of a.s) a.k a.d r.1 l.0 l.1 l.2 _ _ e.0 e.1 a.work.now refl in
+    record { marking = facts.0; parts_marked = facts.1 }
