@@ -2,29 +2,18 @@ use lib.ListN.{drop_of_length-le}
 use Rattle.search.specs.Radix.{below}
 use Rattle.costs.proofs.masks.Digits.{below_step}
 use mathlib.Core.Path.{sym, ◌∙◌}
-use native.Mathlib.Omega.{arith}
 use borrow.Author.Tests.{le-leb, lt-leb}
 use Rattle.costs.proofs.masks.is_below.Goals as goal
 
-pub nonzero_rem-a : goal.nonzero_rem-a
-nonzero_rem-a c = omega (arith, c.requires c.loop-i.i c.loop-i-test.true)
-
-pub nonzero_rem-b : goal.nonzero_rem-b
-nonzero_rem-b c = omega (arith, c.requires c.loop-i.i c.loop-i-test.true)
-
 pub returns-then-a-d : goal.returns-then-a-d
-returns-then-a-d c = let l = c.loop-i in
+returns-then-a-d c =
+    let l = c.loop-i in
     let r = c.args.radices.now in
     sym (l.invariant ∙ below_step r l.i l.a l.b c.loop-i-test.true ∙ rw (lt-leb _ _ c.if-a-d.true))
 
-pub nonzero_div-a : goal.nonzero_div-a
-nonzero_div-a c = omega (arith, c.requires c.loop-i.i c.loop-i-test.true)
-
-pub nonzero_div-b : goal.nonzero_div-b
-nonzero_div-b c = omega (arith, c.requires c.loop-i.i c.loop-i-test.true)
-
 pub loop-i-preserved : goal.loop-i-preserved
-loop-i-preserved c = let l = c.loop-i in
+loop-i-preserved c =
+    let l = c.loop-i in
     let r = c.args.radices.now in
     l.invariant ∙ below_step r l.i l.a l.b c.loop-i-test.true ∙ rw (le-leb _ _ c.if-a-d.false)
 
