@@ -1,36 +1,28 @@
 -- `maker::lay_binding` meets its contract.
-use Rattle.decoding.specs.Decoding.{SheetRead}
 use Rattle.decoding.proofs.Fronts.{few, bounds, bounds-fit, stands}
 use Rattle.maker.proofs.Calls.{read_kept, few-budgets, takes-numbers, needs-less, laid}
 use native.Mathlib.Omega.{arith}
 use Rattle.maker.proofs.lay_binding.Goals as goal
 
-pub binding_numbers-kept-requires : goal.binding_numbers-kept-requires
-binding_numbers-kept-requires c = c.requires.read
-
 pub slice_bounds-bounds-end : goal.slice_bounds-bounds-end
-slice_bounds-bounds-end c = let kept : SheetRead c.binding_numbers-kept.result = read_kept c.requires c.binding_numbers-kept.ensures in
-    stands _ _ (bounds kept).1
+slice_bounds-bounds-end c = stands _ _ (bounds (read_kept c.requires c.binding_numbers-kept.ensures)).1
 
 pub slice_bounds-product_of-end : goal.slice_bounds-product_of-end
-slice_bounds-product_of-end c = let kept : SheetRead c.binding_numbers-kept.result = read_kept c.requires c.binding_numbers-kept.ensures in
-    (bounds kept).1
+slice_bounds-product_of-end c = (bounds (read_kept c.requires c.binding_numbers-kept.ensures)).1
 
 pub product_of-budgets-requires : goal.product_of-budgets-requires
-product_of-budgets-requires c = let kept : SheetRead c.binding_numbers-kept.result = read_kept c.requires c.binding_numbers-kept.ensures in
-    let f = bounds-fit kept in record { by_index = f.1; bounds_bound = f.2 }
+product_of-budgets-requires c =
+    let f = bounds-fit (read_kept c.requires c.binding_numbers-kept.ensures) in
+    record { by_index = f.1; bounds_bound = f.2 }
 
 pub overflow_cast-kept : goal.overflow_cast-kept
-overflow_cast-kept c = let kept : SheetRead c.binding_numbers-kept.result = read_kept c.requires c.binding_numbers-kept.ensures in
-    omega (arith, few kept)
+overflow_cast-kept c = omega (arith, few (read_kept c.requires c.binding_numbers-kept.ensures))
 
 pub overflow_cast-kinds : goal.overflow_cast-kinds
-overflow_cast-kinds c = let kept : SheetRead c.binding_numbers-kept.result = read_kept c.requires c.binding_numbers-kept.ensures in
-    omega (arith, few kept)
+overflow_cast-kinds c = omega (arith, few (read_kept c.requires c.binding_numbers-kept.ensures))
 
 pub overflow_cast-kept-2 : goal.overflow_cast-kept-2
-overflow_cast-kept-2 c = let kept : SheetRead c.binding_numbers-kept.result = read_kept c.requires c.binding_numbers-kept.ensures in
-    omega (arith, few kept)
+overflow_cast-kept-2 c = omega (arith, few (read_kept c.requires c.binding_numbers-kept.ensures))
 
 pub work_for-table-requires : goal.work_for-table-requires
 work_for-table-requires c =
@@ -42,7 +34,12 @@ pub lay_one_sided-refusal-requires : goal.lay_one_sided-refusal-requires
 lay_one_sided-refusal-requires c = takes-numbers c.requires c.binding_numbers-kept.ensures c.product_of-budgets.ensures
 
 pub zero_part-requires : goal.zero_part-requires
-zero_part-requires c = needs-less c.requires c.binding_numbers-kept.ensures c.product_of-budgets.ensures c.work_for-table.ensures c.lay_one_sided-refusal.ensures
+zero_part-requires c =
+    let b = c.binding_numbers-kept.ensures in
+    needs-less c.requires b c.product_of-budgets.ensures c.work_for-table.ensures c.lay_one_sided-refusal.ensures
 
 pub returns : goal.returns
-returns c = laid c.requires c.binding_numbers-kept.ensures c.product_of-budgets.ensures c.work_for-table.ensures c.lay_one_sided-refusal.ensures c.zero_part.ensures
+returns c =
+    let b = c.binding_numbers-kept.ensures in
+    let l = c.lay_one_sided-refusal.ensures in
+    laid c.requires b c.product_of-budgets.ensures c.work_for-table.ensures l c.zero_part.ensures

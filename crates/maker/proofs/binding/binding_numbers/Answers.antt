@@ -1,4 +1,4 @@
-use Rattle.decoding.proofs.Fronts.{bounds, counts, bounds-fit, counts-fit, stands}
+use Rattle.decoding.proofs.Fronts.{bounds, counts, stands}
 use Rattle.maker.proofs.Kept.{numbers-kept}
 use Rattle.maker.proofs.binding.binding_numbers.Goals as goal
 
@@ -13,9 +13,6 @@ slice_bounds-counts-end c = stands _ _ (counts c.requires).1
 
 pub slice_bounds-binding_bounds-end-2 : goal.slice_bounds-binding_bounds-end-2
 slice_bounds-binding_bounds-end-2 c = (counts c.requires).1
-
-pub binding_bounds-binding-requires : goal.binding_bounds-binding-requires
-binding_bounds-binding-requires c = let r = c.requires in record { bounds_len_bound = (bounds-fit r).0; counts_len = (counts-fit r).0 }
 
 pub returns : goal.returns
 returns c = λ ws h e. numbers-kept (record { words = ws; accepted = h; numbers = e }) c.binding_bounds-binding.ensures
