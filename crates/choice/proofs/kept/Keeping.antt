@@ -1,18 +1,16 @@
--- Labels with one changed, and a step that keeps the least cost. Assumes nothing.
-use mathlib.Core.Path.{◌≡◌, ap, ◌∙◌}
-use mathlib.Core.Bool.{Bool, false, cond}
+-- Labels with one changed, and a step that is not lawful. Assumes nothing.
+use mathlib.Core.Path.{◌≡◌, ◌∙◌}
+use mathlib.Core.Bool.{false}
 use mathlib.Core.List.{List}
 use Prim.Native.Nat.{ℕ, suc, ◌+◌, ◌<◌}
 use native.Mathlib.Omega.{arith}
 use lib.Dec.{eqb}
 use lib.ListN.{length, get_or, set, length-set}
-use lib.Seq.{ext_get_or, set-get_or, get_or-set_same, get_or-set_other}
-use native.Mathlib.Numerals.{add-one}
+use lib.Seq.{ext_get_or, get_or-set_same, get_or-set_other}
 use Rattle.lists.proofs.Tests.{by-test, by_equal}
 use borrow.Author.Tests.{ne_eqb}
 use Rattle.search.specs.Cost.{plus}
-use Rattle.optimum.specs.OneSided.{top_word, mark_count}
-use Rattle.rows.specs.Rest.{LevelIn}
+use Rattle.optimum.specs.OneSided.{top_word}
 use Rattle.choice.specs.Choice.{MarksIn, marked_at}
 
 -- a list of small numbers with one changed
@@ -51,28 +49,6 @@ module _ {L M : List ℕ} {a k : ℕ} (i : MarksIn L M a k) (d : ℕ) where
       (λ e. get_or-set_other (set (marked_at L M a d k) a (get_or M a 0)) (k + 1) j (get_or M (k + 1) 0) 0 e ∙ by_equal j a
       (λ f. rw f (get_or-set_same (marked_at L M a d k) a (get_or M a 0) 0 (rw marked-long i.place_low)))
       (λ f. get_or-set_other (marked_at L M a d k) a j (get_or M a 0) 0 f ∙ marked_other j f (λ (z : j ≡ suc k). e (omega arith)))))
-
--- what code writes for the mark below the slot
-pub written_is : (L M : List ℕ) (a d k : ℕ) → set (set M (k + 1) (cond (eqb (get_or L k 0) 0) 0 (get_or M (k + 1) 0))) a d ≡ marked_at L M a d k
-written_is L M a d k =
-    by-test (eqb (get_or L k 0) 0) (λ e. rw (e, add-one k)) (λ e. rw e (ap (λ (l : List ℕ). set l a d) (set-get_or M (k + 1) 0)))
-
--- labels and marks after a step
-pub level-set : (parts counts work : List ℕ) (base C R : ℕ) (L M : List ℕ) (k a d c : ℕ) → LevelIn parts counts work base C R L M → MarksIn L M a k → d < mark_count → c < C + 1
-    → LevelIn parts counts work base C R (set L k c) (marked_at L M a d k)
-level-set parts counts work base C R L M k a d c i m w h =
-    record {
-      few_slots = rw (length-set L k c) i.few_slots;
-      few_colours = i.few_colours;
-      splits = i.splits;
-      within = rw (length-set L k c) i.within;
-      coloured = small-set L k c (C + 1) i.coloured m.slot_low h;
-      marked = marked-low m d mark_count i.marked w;
-    }
-
--- a step keeps the cost where its price and the rest after it come to it
-pub keeps-by : (price after rest t here : ℕ) (r : Bool) → r ≡ eqb t here → t ≡ plus top_word price after → after ≡ rest → r ≡ eqb (plus top_word price rest) here
-keeps-by price after rest t here r e f h = e ∙ rw (f, h)
 
 -- a step that is not lawful keeps no cost below none
 pub never-keeps : (c z here : ℕ) → c ≡ top_word → here < top_word → eqb (plus top_word c z) here ≡ false
