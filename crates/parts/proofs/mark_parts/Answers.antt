@@ -1,7 +1,6 @@
 use Rattle.rows.specs.Rows.{strip_of, point_of}
 use Rattle.parts.proofs.Marking.{parts_within, parts-marked}
 use mathlib.Core.Path.{refl}
-use Prim.Native.Nat.{ℕ}
 use native.Mathlib.Omega.{arith}
 use lib.ListN.{length-set}
 use Rattle.parts.proofs.mark_parts.Goals as goal
@@ -20,7 +19,8 @@ offset_bounds-work-lower c =
 
 pub bounds-work-lower : goal.bounds-work-lower
 bounds-work-lower c =
-    omega (arith, parts_within (point_of c.args.s) _ _ c.requires.level_fits c.requires.c_lt_colours c.part_places-at.ensures, length-set {A = ℕ})
+    simp length-set
+    (omega (arith, parts_within (point_of c.args.s) _ _ c.requires.level_fits c.requires.c_lt_colours c.part_places-at.ensures))
 
 pub returns : goal.returns
 returns c =
