@@ -2,7 +2,7 @@
 use mathlib.Core.Path.{◌≡◌}
 use mathlib.Core.Bool.{true}
 use mathlib.Core.List.{List}
-use Prim.Native.Nat.{ℕ, ◌+◌, ◌-◌, ◌<◌, ◌≤◌}
+use Prim.Native.Nat.{ℕ, ◌-◌, ◌<◌, ◌≤◌}
 use native.Mathlib.Nat.{le_antisymm}
 use native.Mathlib.Omega.{arith}
 use lib.ListN.{get_or}
@@ -13,7 +13,7 @@ use Rattle.search.proofs.Split.{conv-le-top, conv-low, conv-most}
 use Rattle.search.specs.Radix.{below}
 use Rattle.search.proofs.Radix.{below-splits}
 use Rattle.optimum.specs.OneSided.{top_word}
-use Rattle.rows.specs.Budgets.{Within, Splits, part_at, split_by}
+use Rattle.rows.specs.Budgets.{Splits, part_at, split_by}
 
 pub split-by : (rs : List ℕ) (P : ℕ) (parts counts : List ℕ) → Splits rs P parts counts → (f g : ℕ → ℕ) (u : ℕ) → u < P
     → split_by parts counts f g u ≡ conv top_word (below rs) f g u
@@ -26,13 +26,3 @@ split-by rs P parts counts s f g u h =
     listed w e =
         let q = (s.listed u h).whole w (omega (arith, (below-splits rs).fits w u e)) e in
         rw q.2 at (least-le top_word (get_or counts u 0) (λ i. plus top_word (f (part_at parts u i)) (g (u - part_at parts u i))) q.0 q.1)
-
--- what holds of all budgets below P holds of those up to one of them
-pub within-less : (P u : ℕ) (parts counts : List ℕ) → u < P → Within P parts counts → Within (u + 1) parts counts
-within-less P u parts counts h w = record {
-  few = omega (arith, w.few);
-  parts_long = w.parts_long;
-  counts_long = w.counts_long;
-  counted = λ v l. w.counted v (omega arith);
-  small = λ v i l. w.small v i (omega arith);
-}
