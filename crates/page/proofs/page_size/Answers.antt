@@ -1,9 +1,5 @@
-use Rattle.layouts.proofs.Fitting.{some_read}
 use Rattle.page.proofs.Numbered.{size_fits, size_is}
 use Rattle.page.proofs.page_size.Goals as goal
-
-pub bounds-layout-0 : goal.bounds-layout-0
-bounds-layout-0 c = some_read c.requires.0
 
 pub bytes_for-requires : goal.bytes_for-requires
 bytes_for-requires c = size_fits c.requires.0 _ c.count_field-labels.ensures

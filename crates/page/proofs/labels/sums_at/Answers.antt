@@ -1,21 +1,16 @@
 use Rattle.lists.proofs.Places.{part-from}
 use Rattle.labelling.specs.Layout.{ties_at}
-use Rattle.layouts.proofs.Fitting.{some_read, low_read}
+use Rattle.layouts.proofs.Fitting.{low_read}
 use Rattle.page.proofs.Counting.{sites-fit, sums-read}
-use native.Mathlib.Omega.{arith}
 use Rattle.page.proofs.labels.sums_at.Goals as goal
 
-pub slice_bounds-sums_of-count : goal.slice_bounds-sums_of-count
-slice_bounds-sums_of-count c = omega (arith, some_read c.requires)
-
-pub slice_bounds-sums_of-start : goal.slice_bounds-sums_of-start
-slice_bounds-sums_of-start c = omega (arith, some_read c.requires)
-
 pub sums_of-requires : goal.sums_of-requires
-sums_of-requires c = let a = c.args in
+sums_of-requires c =
+    let a = c.args in
     let p = c.requires in
     record { sites_fit = sites-fit p (part-from a.layout.now ties_at); low = low_read p }
 
 pub returns : goal.returns
-returns c = let a = c.args in
+returns c =
+    let a = c.args in
     sums-read c.requires _ a.slot (part-from a.layout.now ties_at) c.sums_of.ensures

@@ -1,30 +1,27 @@
 use Rattle.labelling.specs.Layout.{ties_in}
-use Rattle.page.proofs.Counting.{sums_none, sums-more, sums-end, room}
+use Rattle.page.proofs.Counting.{sums_none, sums-more, room}
 use mathlib.Core.Path.{◌∙◌}
 use native.Mathlib.Omega.{arith}
-use lib.ListN.{length}
 use Rattle.page.proofs.labels.sums_of.Goals as goal
 
 pub loop-i-init : goal.loop-i-init
-loop-i-init c = let a = c.args in
+loop-i-init c =
+    let a = c.args in
     (omega arith, sums_none a.h a.slot a.heights.now a.ys.now a.colours.now (ties_in a.ties.now))
 
-pub site_share-share-requires : goal.site_share-share-requires
-site_share-share-requires c = let a = c.args in
-    let p = c.requires.low in
-    (p.charge, omega (arith, c.get.ensures, p.heights c.slot_at-at.result), omega (arith, p.ys c.loop-i.i))
-
 pub with_site-sums-requires : goal.with_site-sums-requires
-with_site-sums-requires c = let a = c.args in
+with_site-sums-requires c =
+    let a = c.args in
     let l = c.loop-i in
-    room a.h a.slot a.heights.now a.ys.now a.colours.now (ties_in a.ties.now) c.requires.low l.i (omega (arith, c.loop-i-test.true, c.requires.sites_fit.few)) l.invariant.1 c.slot_at-at.ensures c.get.ensures c.site_share-share.ensures
+    room a.h a.slot a.heights.now a.ys.now a.colours.now (ties_in a.ties.now) c.requires.low l.i
+    (omega (arith, c.loop-i-test.true, c.requires.sites_fit.few)) l.invariant.1
+    c.slot_at-at.ensures c.get.ensures c.site_share-share.ensures
 
 pub loop-i-preserved : goal.loop-i-preserved
-loop-i-preserved c = let a = c.args in
-    let l = c.loop-i in
-    (omega (arith, c.loop-i-test.true), c.with_site-sums.ensures ∙ sums-more a.h a.slot a.heights.now a.ys.now a.colours.now (ties_in a.ties.now) l.i l.invariant.1 c.slot_at-at.ensures c.same.ensures c.get.ensures c.site_share-share.ensures)
-
-pub returns : goal.returns
-returns c = let a = c.args in
-    let l = c.loop-i in
-    sums-end a.h a.slot a.heights.now a.ys.now a.colours.now (ties_in a.ties.now) (length a.ties.now) l.i l.invariant.0 c.loop-i-test.false l.invariant.1
+loop-i-preserved c =
+    let a = c.args in
+    let l = c.loop-i in (
+      omega (arith, c.loop-i-test.true),
+      c.with_site-sums.ensures ∙ sums-more a.h a.slot a.heights.now a.ys.now a.colours.now (ties_in a.ties.now) l.i l.invariant.1
+          c.slot_at-at.ensures c.same.ensures c.get.ensures c.site_share-share.ensures,
+    )

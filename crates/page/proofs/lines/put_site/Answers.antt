@@ -1,8 +1,8 @@
 use mathlib.Core.Path.{subst}
 use Rattle.lists.proofs.Places.{part-from}
 use Rattle.labelling.specs.Layout.{ties_at}
-use Rattle.layouts.proofs.Fitting.{some_read, low_read}
-use Rattle.layouts.proofs.Read.{body-sites, sites-few}
+use Rattle.layouts.proofs.Fitting.{low_read}
+use Rattle.layouts.proofs.Read.{sites-few}
 use Rattle.text.proofs.Written.{Put}
 use Rattle.page.proofs.Numbered.{site-line-is}
 use mathlib.Core.List.{List}
@@ -10,30 +10,21 @@ use Prim.Native.Nat.{ℕ}
 use native.Mathlib.Omega.{arith}
 use Rattle.page.proofs.lines.put_site.Goals as goal
 
-pub slice_bounds-slot_at-count : goal.slice_bounds-slot_at-count
-slice_bounds-slot_at-count c = omega (arith, some_read c.requires.0)
-
-pub slice_bounds-slot_at-start : goal.slice_bounds-slot_at-start
-slice_bounds-slot_at-start c = omega (arith, some_read c.requires.0)
-
-pub slot_at-slot-requires : goal.slot_at-slot-requires
-slot_at-slot-requires c = let p = c.requires in
-    omega (arith, p.1, body-sites p.0 _ (part-from c.args.layout.now ties_at))
-
 pub overflow_cast-i : goal.overflow_cast-i
 overflow_cast-i c = omega (arith, c.requires.1, sites-few c.requires.0)
-
-pub offset_bounds-ys-i : goal.offset_bounds-ys-i
-offset_bounds-ys-i c = omega (arith, c.requires.1, sites-few c.requires.0)
 
 pub bounds-ys-i : goal.bounds-ys-i
 bounds-ys-i c = omega (arith, c.requires.1, sites-few c.requires.0)
 
 pub put_site_line-requires : goal.put_site_line-requires
-put_site_line-requires c = let p = low_read c.requires.0 in
+put_site_line-requires c =
+    let p = low_read c.requires.0 in
     (omega (arith, c.get-height.ensures, p.heights c.slot_at-slot.result), omega (arith, p.ys c.args.i))
 
 pub returns : goal.returns
-returns c = let a = c.args in
+returns c =
+    let a = c.args in
     let facts = subst (λ (t : List ℕ). Put a.page.now c.put_site_line.new.text a.at c.put_site_line.result t)
-    (site-line-is c.requires.0 a.i _ _ _ (part-from a.layout.now ties_at) c.slot_at-slot.ensures c.get-height.ensures) (c.put_site_line.ensures.value, c.put_site_line.ensures.text_after) in record { value = facts.0; page_after = facts.1 }
+    (site-line-is c.requires.0 a.i _ _ _ (part-from a.layout.now ties_at) c.slot_at-slot.ensures c.get-height.ensures)
+    (c.put_site_line.ensures.value, c.put_site_line.ensures.text_after) in
+    record { value = facts.0; page_after = facts.1 }

@@ -5,9 +5,6 @@ use Rattle.page.proofs.lines.put_slot.Goals as goal
 
 pub returns-then-not-is_used : goal.returns-then-not-is_used
 unfolding written
-returns-then-not-is_used c = let e = sym c.is_used.ensures ∙ c.if-not-is_used.true in
+returns-then-not-is_used c =
+    let e = sym c.is_used.ensures ∙ c.if-not-is_used.true in
     record { value = rw e (omega arith); page_after = rw e refl }
-
-pub returns : goal.returns
-returns c = let e = sym c.is_used.ensures ∙ c.if-not-is_used.false in
-    record { value = rw e (rw c.label_at.ensures at c.put_slot_line.ensures.value); page_after = rw e (rw c.label_at.ensures at c.put_slot_line.ensures.text_after) }
