@@ -14,26 +14,6 @@ unfolding below
 last-full n v h = le-leb v (n - 1) (omega arith)
 
 module _ {g : Given} (o : OfSheet g) {bs ds ps ns : List ℕ} where
-  -- without the sites' places
-  pub no-order : OfSheet (given g.measures g.heights bs g.radices ds g.xs g.ys g.colours [] ps ns)
-  no-order = record {
-    few_slots = o.few_slots;
-    few_colours = o.few_colours;
-    few_sites = o.few_sites;
-    few_budgets = o.few_budgets;
-    some_budget = o.some_budget;
-    narrow = o.narrow;
-    charge_low = o.charge_low;
-    height_low = o.height_low;
-    rising = o.rising;
-    divides = o.divides;
-    full = o.full;
-    ys_long = o.ys_long;
-    colours_long = o.colours_long;
-    site_in = o.site_in;
-    order_low = λ i h. absurd (omega arith);
-  }
-
   -- without the sites
   pub no-sites : OfSheet (given g.measures g.heights bs g.radices ds [] [] [] [] ps ns)
   no-sites = record {
