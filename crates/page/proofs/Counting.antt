@@ -10,9 +10,9 @@ use lib.ListN.{length, get_or}
 use Rattle.lists.proofs.Tests.{by-test}
 use Rattle.sheet.specs.Limits.{most_sites, most_share, top_word}
 use Rattle.sheet.specs.Sheet.{Sheet}
-use Rattle.labelling.specs.Layout.{share_by, site_at, left_end, ties_in, layout_body, layout_ties}
+use Rattle.labelling.specs.Layout.{share_by, site_at, ties_in, layout_body, layout_ties}
 use Rattle.labelling.specs.Counted.{sum_before}
-use Rattle.labelling.specs.Labels.{sum_at, colour_before, share_at, own_length}
+use Rattle.labelling.specs.Labels.{sum_at, colour_before, share_at}
 use Rattle.labelling.proofs.Distances.{share-le}
 use Rattle.labelling.proofs.Labels.{sum-at-le}
 use Rattle.words.specs.declared.tied.Head.{Head}
@@ -21,9 +21,8 @@ use Rattle.decoding.specs.declared.Numbers.{Numbers}
 use Rattle.layouts.specs.Model.{Low}
 use Rattle.layouts.proofs.Fitting.{fits_read, low_read}
 use Rattle.layouts.proofs.Read.{decoded-read, sites_long, body-long, sites-few}
-use Rattle.page_lines.specs.declared.lines.Label.{Label}
 use Rattle.page.specs.declared.labels.Sums.{Sums}
-use Rattle.page.specs.Labels.{SitesFit, with_site, sums_on, sums_at, label_at}
+use Rattle.page.specs.Labels.{SitesFit, with_site, sums_on, sums_at}
 
 abbrev sums : (colour sites shares : ℕ) → Sums
 sums c n l = record { colour = c; sites = n; shares = l }
@@ -49,9 +48,6 @@ module _ (h : Head) (k : ℕ) (hs ys cs js : List ℕ) where
   pub sums-more : (i : ℕ) {t : Sums} {b : Bool} {slot height l : ℕ} → t ≡ sums_on h k hs ys cs js i → slot ≡ get_or js i 0 → b ≡ eqb slot k → height ≡ get_or hs slot 0 → l ≡ share_by h.charge height (get_or ys i 0) →
       with_site t b (get_or cs i 0) l ≡ sums_on h k hs ys cs js (i + 1)
   sums-more i et es eb eh el = rw (et, eb, el, eh, es, add-one i) (step i)
-
-  pub sums-end : (n i : ℕ) {t : Sums} → i ≤ n → n ≤ i → t ≡ sums_on h k hs ys cs js i → t ≡ sums_on h k hs ys cs js n
-  sums-end n i a b e = let q : i ≡ n = omega arith in e ∙ ap (sums_on h k hs ys cs js) q
 
   -- HOW MUCH they come to
   module _ (low : Low h hs ys) where
@@ -98,7 +94,3 @@ module _ {d : Numbers} {ls : List ℕ} (p : LayoutRead d ls) where
       let l = (sums-low d.head k d.heights d.ys d.colours js (low_read p) (length s.sites) (omega (arith, sites_long p, sites-few p))).1 in
       let e = ap (λ (v : Sums). v.shares) (q ∙ sym (sums-are k (length s.sites) refl)) in
       omega (arith, (low_read p).width, l, e)
-
-  pub label_is : {t : Sums} (k : ℕ) {left height size : ℕ} → t ≡ sums_at s js k → left ≡ left_end s js k → height ≡ get_or d.heights k 0 → size ≡ own_length d.head.width left t.shares →
-      ◌≡◌ {A = Label} (record { slot = k; colour = t.colour; sites = t.sites; height = height; length = size }) (label_at s js k)
-  label_is k et el eh es = rw (es, el, eh, (decoded-read p).heights k, et) refl

@@ -7,7 +7,7 @@ use native.Mathlib.Omega.{arith}
 use lib.Dec.{eqb, ltb}
 use lib.ListN.{length, take, drop, length-append, length-drop}
 use lib.Seq.{take_at}
-use borrow.Author.Tests.{ltb-false, eqb-true, eq-eqb, ne_eqb}
+use borrow.Author.Tests.{ltb-false, eqb-true, eq-eqb}
 use Rattle.labelling.proofs.Maker.{refused-sheet}
 use Rattle.sheet.proofs.Refusals.{at_most}
 use Rattle.sheet.specs.Refusals.{numbered_to}
@@ -26,10 +26,7 @@ use Rattle.report.specs.Lines.{refused_line, slot_at, site_lines, layout_text}
 use Rattle.report.specs.Report.{sheet_text, program_sheet_text, program_text, site_line_bound, text_bound}
 use Rattle.report.proofs.Words.{words-fit}
 
--- a refusal, or a layout
-pub text-refused : (f : ℕ) (t : List ℕ) → (f ≡ 0 → ⊥) → refused_line f ≡ cond (eqb f 0) t (refused_line f)
-text-refused f t n = rw (ne_eqb f 0 n) refl
-
+-- a layout, and no refusal
 pub text-layout : (f : ℕ) (t u : List ℕ) → f ≡ 0 → t ≡ cond (eqb f 0) t u
 text-layout f t u z = rw (eq-eqb f 0 z) refl
 

@@ -3,7 +3,7 @@ use mathlib.Core.Path.{◌≡◌, refl, sym, ap, ap₂, ◌∙◌, subst, subst�
 use mathlib.Core.Bool.{true}
 use mathlib.Core.List.{List, ◌∷◌}
 use Prim.Native.Nat.{ℕ, suc, ◌+◌, ◌-◌, ◌*◌, ◌≤◌, ◌<◌}
-use native.Mathlib.Nat.{mul-le-mul, mul-le-mul_right}
+use native.Mathlib.Nat.{mul-le-mul_right}
 use native.Mathlib.Numerals.{add-one}
 use native.Mathlib.Omega.{arith}
 use lib.Dec.{eqb}
@@ -15,7 +15,6 @@ use Rattle.search.specs.Cost.{plus, first}
 use Rattle.search.proofs.Cost.{first-is}
 use Rattle.search.specs.Walk.{choose_by, walk_by}
 use Rattle.arrays.specs.declared.Measures.{Measures}
-use Rattle.sheet.specs.Limits.{most_sites, most_level}
 use Rattle.arrays.proofs.Points.{points-long, point-at}
 use Rattle.arrays.specs.Given.{Given, instance_of, point_in, points_of, SiteIn}
 use Rattle.optimum.specs.Strips.{Point, Strip, Instance, State, hold, price, next, labels, marked}
@@ -32,7 +31,6 @@ use Rattle.arrays.proofs.Marks.{turn_low}
 use Rattle.optimum.proofs.StripsHeld.{hold-low}
 use Rattle.strips.specs.Steps.{price_in, budget_left}
 use Rattle.walk.specs.Walk.{Found, value_in, worth_in, level_words, WalkIn, Standing, tied_from}
-use Rattle.rows.proofs.Folding.{size}
 
 module _ {g : Given} {work : List ℕ} (a : WalkIn g work) where
   abbrev q : Measures
@@ -82,11 +80,6 @@ module _ {g : Given} {work : List ℕ} (a : WalkIn g work) where
     where
       later : j + 1 + 1 ≤ length order + 1
       later = omega arith
-
-  pub base-low : (j : ℕ) → j < length order → (j + 1) * level_words g ≤ most_sites * most_level
-  base-low j l =
-      let h : j + 1 ≤ most_sites = omega (arith, a.sheet.few_sites, a.ranked) in
-      mul-le-mul {n₂ = most_sites} {m₂ = most_level} h (size (length hs) q.colours q.budgets a.sheet.few_slots a.sheet.few_colours a.splits.within.few)
 
   -- the place above the strip that holds a height has a mark
   pub place_in : (L M : List ℕ) (j : ℕ) {out : List ℕ} {v here : ℕ} → Standing g work L M out j v here → (p : Strip) (y : ℕ) → p ≡ hold P L M y → p.a < length M
