@@ -3,5 +3,6 @@
 #![tactic(auto)]
 
 pub mod maker;
+pub mod refusal;
 pub mod stored;
 pub mod written;
