@@ -33,10 +33,12 @@ fn open_parts(sheet: &[u32], layout: &[u32]) -> Opened
     ensures { result ≡ opened_by (parts_fault sheet.now layout.now) sheet.now }
 {
     let at = sheet.len();
-    let opened = open_sheet(sheet);
-    let numbers = opened.numbers;
+    let numbers = match open_sheet(sheet) {
+        Ok(numbers) => numbers,
+        Err(refusal) => return refused(refusal.number(), at),
+    };
     let fits = is_layout(numbers.slots, numbers.sites, layout);
-    let refusal = layout_fault(opened.refusal, fits);
+    let refusal = layout_fault(0, fits);
     if refusal != 0 {
         return refused(refusal, at);
     }

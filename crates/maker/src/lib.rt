@@ -47,8 +47,11 @@ pub fn make_layout(sheet: &[u32], work: &mut [u32], out: &mut [u32]) -> u8
     ensures work_after { work.new ≡ make_work sheet.now work.old out.old }
     ensures out_after { out.new ≡ make_answer sheet.now work.old out.old }
 {
-    let opened = open_sheet(sheet);
-    let sizes = sizes_of(opened);
+    let numbers = match open_sheet(sheet) {
+        Ok(numbers) => numbers,
+        Err(refusal) => return refusal.number(),
+    };
+    let sizes = sizes_of(numbers);
     let needed = sizes.work as usize;
     let fault = maker_fault(
         sizes.refusal,
@@ -61,5 +64,5 @@ pub fn make_layout(sheet: &[u32], work: &mut [u32], out: &mut [u32]) -> u8
     if fault != 0 {
         return fault;
     }
-    lay_binding(opened.numbers, needed, work, out)
+    lay_binding(numbers, needed, work, out)
 }

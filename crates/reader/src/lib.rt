@@ -1,8 +1,8 @@
 // The reader: the refusal of any list of words, or the sizes of the sheet in it.
 #![tactic(auto)]
 
-pub mod faults;
 pub mod opened;
+pub mod order;
 mod refusal_1;
 mod refusal_2;
 mod refusal_4;
@@ -14,9 +14,8 @@ ghost use Rattle.std.specs.Prelude.{◌≡◌, ℕ, ◌<◌, ◌≤◌, length, 
 ghost use Rattle.sheet.specs.Limits.{most_colours, byte_top};
 ghost use Rattle.decoding.specs.Decoding.{colours_by, sheet_by, SheetRead};
 ghost use Rattle.reader.specs.Read.{absent, eight_of, read_of, refused_of, read_post};
-ghost use Rattle.reader.specs.Opened.{IsOpened, sizes_in};
 
-use crate::opened::{OpenedSheet, open_sheet};
+use crate::opened::open_sheet;
 use decoding::Numbers;
 use sizes::{product_of, work_for};
 use words::MOST_COLOURS;
@@ -81,7 +80,8 @@ fn refused(refusal: u8) -> Sizes
     }
 }
 
-fn accepted(numbers: Numbers) -> Sizes
+// The reader's answer for a sheet that was opened: internal to reader and maker, which open it first.
+pub fn sizes_of(numbers: Numbers) -> Sizes
     requires { SheetRead numbers }
     ensures { result ≡ read_of (sheet_by numbers) }
 {
@@ -105,21 +105,12 @@ fn accepted(numbers: Numbers) -> Sizes
     }
 }
 
-// The reader's answer for a sheet that was opened: internal to reader and maker, which open it first.
-pub fn sizes_of(opened: OpenedSheet) -> Sizes
-    requires { IsOpened opened }
-    ensures { result ≡ sizes_in opened }
-{
-    let refusal = opened.refusal;
-    if refusal != 0 {
-        return refused(refusal);
-    }
-    accepted(opened.numbers)
-}
-
 // The refusal's number, or n, m, C, P, the number of work words and the eight colours.
 pub fn read_sheet(sheet: &[u32]) -> Sizes
     ensures { result ≡ read_post sheet.now }
 {
-    sizes_of(open_sheet(sheet))
+    match open_sheet(sheet) {
+        Ok(numbers) => sizes_of(numbers),
+        Err(refusal) => refused(refusal.number()),
+    }
 }

@@ -9,20 +9,16 @@ use lib.ListN.{length, take, drop}
 use borrow.Author.Tests.{eqb-true, eq-eqb, ne_eqb}
 use Rattle.lists.proofs.Places.{part-from}
 use Rattle.lists.proofs.Tests.{by-test}
-use Rattle.faults.specs.Faults.{layout_fault, rule_fault}
-use Rattle.sheet.specs.Sheet.{Sheet, sheet_in, sheet_fault}
+use Rattle.faults.specs.Faults.{rule_fault}
+use Rattle.sheet.specs.Sheet.{Sheet, sheet_in}
 use Rattle.labelling.specs.Layout.{broken_by, sheet_part, layout_part, judge_fault, judged, stored_fault}
 use Rattle.labelling.proofs.Judge.{judged-so}
 use Rattle.labelling.proofs.Refusals.{judge-chain}
 use Rattle.labelling.proofs.Stored.{stored-judge, stored-unlawful, stored-none, stored-accepted, stored-layout}
-use Rattle.decoding.specs.declared.Numbers.{Numbers}
 use Rattle.decoding.specs.Decoding.{numbers_by, sheet_by, LayoutRead}
 use Rattle.decoding.proofs.Places.{sheet-read}
-use Rattle.reader.specs.declared.opened.OpenedSheet.{OpenedSheet}
-use Rattle.reader.specs.Opened.{sheet_opened}
-use Rattle.reader.proofs.Opening as sheet
 use Rattle.judge.specs.declared.opened.Opened.{Opened}
-use Rattle.judge.specs.Opened.{layout_fits, refused_at, parts_fault, opened_by, layout_opened, stored_opened}
+use Rattle.judge.specs.Opened.{refused_at, parts_fault, opened_by, layout_opened, stored_opened}
 
 -- ITS PARTS
 module _ (f : ℕ) (ss : List ℕ) {o : Opened} (e : o ≡ opened_by f ss) where
@@ -34,26 +30,6 @@ module _ (f : ℕ) (ss : List ℕ) {o : Opened} (e : o ≡ opened_by f ss) where
 
   numbers-are : f ≡ 0 → o.numbers ≡ numbers_by (sheet_in ss)
   numbers-are h = ap (λ (z : Opened). z.numbers) e ∙ rw (eq-eqb f 0 h) refl
-
--- FROM A SHEET AND THE WORDS BEHIND IT
-module _ (ss ls : List ℕ) {o : OpenedSheet} (e : o ≡ sheet_opened ss) where
-  pub fault-parts : layout_fault o.refusal (layout_fits o.numbers.slots o.numbers.sites ls) ≡ parts_fault ss ls
-  fault-parts =
-      by-test (eqb (sheet_fault ss) 0)
-      (λ t. ap₂ layout_fault (sheet.refusal_is ss e) (ap (λ (z : Numbers). layout_fits z.slots z.sites ls) (sheet.numbers-are ss e (eqb-true (sheet_fault ss) 0 t))))
-      (λ t. ap (λ (f : ℕ). layout_fault f (layout_fits o.numbers.slots o.numbers.sites ls)) (sheet.refusal_is ss e) ∙ rw t refl)
-
-  module _ {f : ℕ} (q : f ≡ parts_fault ss ls) where
-    pub parts-refused : {p : Opened} → p ≡ refused_at f (length ss) → (f ≡ 0 → ⊥) → p ≡ opened_by (parts_fault ss ls) ss
-    parts-refused k n = k ∙ rw (q, ne_eqb (parts_fault ss ls) 0 (λ z. n (q ∙ z))) refl
-
-    pub parts-opened : f ≡ 0 → ◌≡◌ {A = Opened} (record { refusal = 0; at = length ss; numbers = o.numbers }) (opened_by (parts_fault ss ls) ss)
-    parts-opened z =
-        let w : parts_fault ss ls ≡ 0 = sym q ∙ z in
-        rw (sheet.numbers-are ss e (accepted w), w) refl
-      where
-        accepted : parts_fault ss ls ≡ 0 → sheet_fault ss ≡ 0
-        accepted w = by-test (eqb (sheet_fault ss) 0) (λ t. eqb-true (sheet_fault ss) 0 t) (λ t. rw t at w)
 
 -- of a stored sheet
 pub opened-parts : (ws ss ls : List ℕ) {o : Opened} → o ≡ opened_by (parts_fault ss ls) ss → ss ≡ sheet_part ws → ls ≡ layout_part ws → o ≡ layout_opened ws

@@ -1,59 +1,75 @@
 -- `maker::make_layout` meets its contract.
-use Rattle.sheet.specs.Sheet.{sheet_in, work_for}
+use Rattle.std.specs.Prelude.{Ok, Err}
+use Rattle.sheet.specs.Sheet.{sheet_in, sheet_fault, work_for}
 use Rattle.labelling.specs.Promise.{TakesSheet}
-use Rattle.decoding.specs.Decoding.{numbers_by}
+use Rattle.labelling.specs.Entry.{make_fault, make_answer, make_work}
+use Rattle.labelling.proofs.Maker.{refused-sheet}
+use Rattle.decoding.specs.declared.Numbers.{Numbers}
+use Rattle.decoding.specs.Decoding.{sheet_by}
+use Rattle.faults.specs.declared.refusal.Refusal.{Refusal}
 use Rattle.faults.specs.Faults.{maker_fault}
+use Rattle.faults.specs.Refusals.{number_of}
+use Rattle.faults.proofs.Refusals.{number-above}
 use Rattle.reader.specs.declared.Sizes.{Sizes}
-use Rattle.reader.specs.declared.opened.OpenedSheet.{OpenedSheet}
-use Rattle.reader.specs.Opened.{sheet_opened, sizes_in}
-use Rattle.reader.specs.Read.{read_post}
-use Rattle.reader.proofs.Opening.{sizes-read, numbers-are}
-use Rattle.maker.proofs.Calls.{refused, taken}
+use Rattle.reader.specs.Opened.{opened_of, sheet_opened}
+use Rattle.reader.specs.Read.{read_of, read_post}
+use Rattle.reader.proofs.Opening.{refusal_is, accepted-read, accepted-sizes}
+use Rattle.maker.proofs.Calls.{call, refused, taken}
 use mathlib.Core.Path.{◌≡◌, ◌∙◌}
 use mathlib.Core.Bool.{Bool}
 use mathlib.Core.List.{List}
-use Prim.Native.Nat.{ℕ}
+use Prim.Native.Nat.{ℕ, ◌<◌}
 use native.Mathlib.Omega.{arith}
 use lib.ListN.{length, get_or}
 use mir.Syntax.{w32}
 use mir.Val.{Fits}
 use Rattle.maker.proofs.make_layout.Goals as goal
 
--- FROM WHAT IS OPENED: its sizes are the reader's; where nothing is refused, what is taken, with the sheet's numbers
-module _ (ws : List ℕ) {p : OpenedSheet} {r : Sizes} (e : p ≡ sheet_opened ws) (z : r ≡ sizes_in p) where
-  read-is : r ≡ read_post ws
-  read-is = z ∙ sizes-read ws e
+-- what the call gives and leaves where it refuses
+abbrev Refuses : (ws k o : List ℕ) → (number : ℕ) → Type 0
+Refuses ws k o f = (f ≡ make_fault ws k o) × ((k ≡ make_work ws k o) × (o ≡ make_answer ws k o))
 
-  takes : (k o : List ℕ) {two : Bool} {f : ℕ} → two ≡ (sheet_in ws).is_two_sided
-      → f ≡ maker_fault r.refusal two r.work r.n (length k) (length o) → ((i : ℕ) → Fits w32 (get_or ws i 0)) → f ≡ 0
-      → TakesSheet ws k o × (r.work ≡ work_for (sheet_in ws)) × (p.numbers ≡ numbers_by (sheet_in ws))
-  takes k o side q u v =
-      let t = taken ws k o r read-is _ side _ q (λ i. omega (arith, u i)) v in
-      (t.0, t.1, numbers-are ws e t.0.1)
+-- OPENED TO A REFUSAL
+unopened : (ws k o : List ℕ) (r : Refusal) {f : ℕ} → opened_of (Err r) ≡ sheet_opened ws → f ≡ number_of r → Refuses ws k o f
+unopened ws k o r {f} e q =
+    let n = refusal_is ws e in
+    let above : 0 < sheet_fault ws = omega (arith, n, number-above r) in
+    call ws k o (sheet_fault ws) f (q ∙ n) (refused-sheet ws k o above)
+
+-- OPENED TO NUMBERS: their sizes are the reader's; where nothing is refused, what is taken
+module _ (ws k o : List ℕ) (d : Numbers) {r : Sizes} (e : opened_of (Ok d) ≡ sheet_opened ws) (z : r ≡ read_of (sheet_by d)) where
+  read-is : r ≡ read_post ws
+  read-is = z ∙ accepted-sizes ws d e
+
+  module _ {two : Bool} {f : ℕ} (side : two ≡ (sheet_in ws).is_two_sided) (q : f ≡ maker_fault r.refusal two r.work r.n (length k) (length o)) where
+    unserved : (f ≡ 0 → ⊥) → Refuses ws k o f
+    unserved = refused ws k o r read-is two side f q
+
+    takes : ((i : ℕ) → Fits w32 (get_or ws i 0)) → f ≡ 0 → TakesSheet ws k o × (r.work ≡ work_for (sheet_in ws))
+    takes u v = taken ws k o r read-is two side f q (λ i. omega (arith, u i)) v
+
+pub returns-in-Err : goal.returns-in-Err
+returns-in-Err c =
+    let a = c.args in
+    let facts = unopened a.sheet.now a.work.now a.out.now c.in-Err.refusal c.in-Err.ensures c.number.ensures in
+    record { value = facts.0; work_after = facts.1.0; out_after = facts.1.1 }
 
 pub returns-then-fault-ne0 : goal.returns-then-fault-ne0
 returns-then-fault-ne0 c =
-    let s = c.args.sheet.now in
-    let e = read-is s c.open_sheet-opened.ensures c.sizes_of-sizes.ensures in
-    let facts = refused s _ _ _ e _ c.is_two_sided.ensures _ c.maker_fault-fault.ensures c.if-fault-ne0.true in
+    let a = c.args in
+    let facts = unserved a.sheet.now a.work.now a.out.now c.in-Ok.numbers c.in-Ok.ensures c.sizes_of-sizes.ensures c.is_two_sided.ensures c.maker_fault-fault.ensures c.if-fault-ne0.true in
     record { value = facts.0; work_after = facts.1.0; out_after = facts.1.1 }
 
 -- what is laid out
 pub lay_binding-requires : goal.lay_binding-requires
 lay_binding-requires c =
-    let e = c.open_sheet-opened.ensures in
-    let f = c.maker_fault-fault.ensures in
-    let t = takes _ e c.sizes_of-sizes.ensures _ _ c.is_two_sided.ensures f c.type_inv.sheet c.if-fault-ne0.false in
-    record {
-      read = record { words = c.args.sheet.now; accepted = t.0.1; numbers = t.2 };
-      takes = t.0;
-      words-needed = t.1;
-    }
+    let a = c.args in
+    let t = takes a.sheet.now a.work.now a.out.now c.in-Ok.numbers c.in-Ok.ensures c.sizes_of-sizes.ensures c.is_two_sided.ensures c.maker_fault-fault.ensures c.type_inv.sheet c.if-fault-ne0.false in
+    record { read = accepted-read a.sheet.now c.in-Ok.numbers c.in-Ok.ensures; takes = t.0; words-needed = t.1 }
 
 pub returns : goal.returns
 returns c =
-    let e = c.open_sheet-opened.ensures in
-    let f = c.maker_fault-fault.ensures in
-    let t = takes _ e c.sizes_of-sizes.ensures _ _ c.is_two_sided.ensures f c.type_inv.sheet c.if-fault-ne0.false in
-    let made = c.lay_binding.ensures _ t.0 t.2 in
+    let a = c.args in
+    let t = takes a.sheet.now a.work.now a.out.now c.in-Ok.numbers c.in-Ok.ensures c.sizes_of-sizes.ensures c.is_two_sided.ensures c.maker_fault-fault.ensures c.type_inv.sheet c.if-fault-ne0.false in
+    let made = c.lay_binding.ensures _ t.0 (accepted-read a.sheet.now c.in-Ok.numbers c.in-Ok.ensures).numbers in
     record { value = made.fault-is; work_after = made.work-is; out_after = made.out-is }

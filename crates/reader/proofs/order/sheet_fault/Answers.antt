@@ -1,4 +1,4 @@
--- `reader::faults::sheet_fault` meets its contract: one line a refusal, each by the one before it.
+-- `reader::order::sheet_fault` meets its contract: one line a refusal, each by the one before it.
 use mathlib.Core.Bool.{Bool, true, false, not}
 use mathlib.Core.List.{List, []}
 use mathlib.Core.Path.{◌≡◌, ap, sym, ◌∙◌}
@@ -10,7 +10,7 @@ use Rattle.sheet.specs.Refusals.{given}
 use Rattle.sheet.specs.Sheet.{all, body_of, is_head, slots_in, sites_in, sheet_in, in_order, rising, inside_by, ranks_differ, product_of, sheet_refusals, sheet_fault}
 use Rattle.refusals.specs.Wordwise.{counts_fit_in}
 use Rattle.sheet.proofs.Refusals.{here, later, turned}
-use Rattle.reader.proofs.faults.sheet_fault.Goals as goal
+use Rattle.reader.proofs.order.sheet_fault.Goals as goal
 
 -- the refusals from a place of the list on
 abbrev from : (place : ℕ) → List ℕ → ℕ
