@@ -11,9 +11,5 @@ pub fn zero_part(area: &mut [u32], from: usize, to: usize)
     requires { (from ≤ to) × (to ≤ length area.old) }
     ensures { area.new ≡ zeroed from to area.old }
 {
-    let mut i = from;
-    while i < to {
-        area[i] = 0;
-        i += 1;
-    }
+    area[from..to].fill(0);
 }

@@ -15,7 +15,7 @@ pub fn write_marks(labels: &[u32], marks: &mut [u32], a: u32, d: u32, k: u32)
     let below = at + 1;
     let above = a as usize;
     let old = marks[below];
-    marks[below] = words::choose(words::same(labels[at], 0), 0, old);
+    marks[below] = if labels[at] == 0 { 0 } else { old };
     marks[above] = d;
 }
 

@@ -44,8 +44,7 @@ pub fn choose_slot(
 {
     let m = heights.len() as u32;
     let c = s.c + 1;
-    let mut k: u32 = 0;
-    while k < m {
+    for k in 0..m {
         let d = strips::turn_at(heights, s, k);
         let step = strips::step_of(q, heights, bounds, radices, draws, p, s, left.budget, k);
         if crate::kept::keeps_cost(
@@ -54,7 +53,6 @@ pub fn choose_slot(
         ) {
             return k;
         }
-        k += 1;
     }
-    k
+    m
 }

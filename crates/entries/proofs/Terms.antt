@@ -39,24 +39,24 @@ window-shut q hs p s w f k a b (inr h) = f.leaves k a b ∙ rw (le-ltb k w.to h)
 
 module _ (q : Measures) (hs parts counts left : List ℕ) where
   -- a slot that leaves the gap, and a part that is none
-  pub slot-none : (work : List ℕ) (low : ℕ) (p : Strip) (s : Point) (k v old upper lower : ℕ) (a b : Bool) → old ≤ top_word → gap_left (slots_by q hs) p s k ≡ true
+  pub slot-none : (work : List ℕ) (low : ℕ) (p : Strip) (s : Point) (k v old upper lower : ℕ) → old ≤ top_word → gap_left (slots_by q hs) p s k ≡ true
       → upper ≡ low + row_of (length hs) q.colours (upper_part (turn_by hs s k) p s k) * q.budgets → lower ≡ low + row_of (length hs) q.colours (lower_part p s k) * q.budgets
-      → a ≡ eqb (get_or work (upper + (q.budgets - 1)) 0) top_word → b ≡ eqb (get_or work (lower + (q.budgets - 1)) 0) top_word → a || b ≡ true
+      → eqb (get_or work (upper + (q.budgets - 1)) 0) top_word || eqb (get_or work (lower + (q.budgets - 1)) 0) top_word ≡ true
       → old ≡ min old (slot_term q hs parts counts left (row_in work low (length hs) q.colours q.budgets) p s k v)
   unfolding slot_term
-  slot-none work low p s k v old upper lower a b o g f h x y z =
-      let t : no_part q hs parts counts left (row_in work low (length hs) q.colours q.budgets) p s k ≡ true = rw (← f, ← h, ← x, ← y) z in
+  slot-none work low p s k v old upper lower o g f h z =
+      let t : no_part q hs parts counts left (row_in work low (length hs) q.colours q.budgets) p s k ≡ true = rw (← f, ← h) z in
       rw (g, t) (omega arith)
 
   -- a slot that leaves the gap, and two parts that are some
-  pub slot-open : (work : List ℕ) (low : ℕ) (p : Strip) (s : Point) (k v c upper lower : ℕ) (a b : Bool) → gap_left (slots_by q hs) p s k ≡ true → c ≡ open_cost q hs s k
+  pub slot-open : (work : List ℕ) (low : ℕ) (p : Strip) (s : Point) (k v c upper lower : ℕ) → gap_left (slots_by q hs) p s k ≡ true → c ≡ open_cost q hs s k
       → upper ≡ low + row_of (length hs) q.colours (upper_part (turn_by hs s k) p s k) * q.budgets → lower ≡ low + row_of (length hs) q.colours (lower_part p s k) * q.budgets
-      → a ≡ eqb (get_or work (upper + (q.budgets - 1)) 0) top_word → b ≡ eqb (get_or work (lower + (q.budgets - 1)) 0) top_word → a || b ≡ false
+      → eqb (get_or work (upper + (q.budgets - 1)) 0) top_word || eqb (get_or work (lower + (q.budgets - 1)) 0) top_word ≡ false
       → open_by parts counts q.budgets c (get_or left v 0) (λ w. get_or work (upper + w) 0) (λ w. get_or work (lower + w) 0)
       ≡ slot_term q hs parts counts left (row_in work low (length hs) q.colours q.budgets) p s k v
   unfolding slot_term
-  slot-open work low p s k v c upper lower a b g e f h x y z =
-      let t : no_part q hs parts counts left (row_in work low (length hs) q.colours q.budgets) p s k ≡ false = rw (← f, ← h, ← x, ← y) z in
+  slot-open work low p s k v c upper lower g e f h z =
+      let t : no_part q hs parts counts left (row_in work low (length hs) q.colours q.budgets) p s k ≡ false = rw (← f, ← h) z in
       rw (g, t, e, f, h)
 
   -- a slot that is barred to the site: no label is to be had there

@@ -14,17 +14,14 @@ use arrays::Measures;
 use rows::budgets::least_split;
 use rows::{Site, Strip};
 use strips::Window;
-use words::{NONE, both, either, same};
+use words::NONE;
 
 // The lesser of a cost and of the sum of two. The sum needs no cap: what is above every cost is not the lesser.
 fn lesser_sum(old: u32, a: u32, b: u32) -> u32
     ensures { result ≡ min old (plus top_word a b) }
 {
-    let t = (a as u64) + (b as u64);
-    if t < old as u64 {
-        return t as u32;
-    }
-    old
+    let sum = u64::from(a) + u64::from(b);
+    sum.min(u64::from(old)) as u32
 }
 
 // A row's n words are those of the row at `from`.
@@ -32,10 +29,8 @@ fn copy_row(work: &mut [u32], base: usize, from: usize, n: usize)
     requires { (base + n ≤ from) × (from + n ≤ length work.old) }
     ensures { RowIs base n (λ v. get_or work.old (from + v) 0) work.old work.new }
 {
-    let mut v: usize = 0;
-    while v < n {
+    for v in 0..n {
         work[base + v] = work[from + v];
-        v += 1;
     }
 }
 
@@ -44,11 +39,9 @@ fn start_row(work: &mut [u32], base: usize, up: usize, rise: u32, down: usize, f
     requires { PartsFit n base (length work.old) up down }
     ensures { RowIs base n (λ v. min (plus top_word rise (get_or work.old (up + v) 0)) (plus top_word fall (get_or work.old (down + v) 0))) work.old work.new }
 {
-    let mut v: usize = 0;
-    while v < n {
-        let t = lesser_sum(words::plus_of(rise, work[up + v]), fall, work[down + v]);
-        work[base + v] = t;
-        v += 1;
+    for v in 0..n {
+        let joined = lesser_sum(words::plus_of(rise, work[up + v]), fall, work[down + v]);
+        work[base + v] = joined;
     }
 }
 
@@ -91,13 +84,14 @@ fn opened(
     ensures { result ≡ min old (open_at parts.now counts.now work.now n cost u upper lower) }
 {
     if n <= u {
-        return old;
+        old
+    } else {
+        lesser_sum(
+            old,
+            cost,
+            least_split(parts, counts, work, upper, work, lower, u),
+        )
     }
-    lesser_sum(
-        old,
-        cost,
-        least_split(parts, counts, work, upper, work, lower, u),
-    )
 }
 
 // Opens a label that costs `cost` in a row; `left` says what it leaves of each budget, which the rows at `upper` and `lower` share.
@@ -115,8 +109,7 @@ fn open_row(
     requires { Within n parts.now counts.now × PartsFit n base (length work.old) upper lower × (n ≤ length left.now) }
     ensures { RowLowered base n (λ v. open_at parts.now counts.now work.old n cost (get_or left.now v 0) upper lower) work.old work.new }
 {
-    let mut v: usize = 0;
-    while v < n {
+    for v in 0..n {
         let u = left[v] as usize;
         let t = opened(
             work[base + v],
@@ -130,7 +123,6 @@ fn open_row(
             u,
         );
         work[base + v] = t;
-        v += 1;
     }
 }
 
@@ -164,10 +156,7 @@ fn open_slot(
     let lower = at.lower;
     let n = q.budgets as usize;
     let last = n - 1;
-    if either(
-        same(work[upper + last], NONE),
-        same(work[lower + last], NONE),
-    ) {
+    if (work[upper + last] == NONE) | (work[lower + last] == NONE) {
         return;
     }
     open_row(work, parts, counts, left, base, upper, lower, n, cost);
@@ -178,10 +167,7 @@ fn is_single(n: usize, parts: &[u8], counts: &[u8], left: &[u8]) -> bool
     requires { Within n parts.now counts.now × (n ≤ length left.now) × (0 < n) }
     ensures { result ≡ is_single n parts.now counts.now left.now }
 {
-    if n != 1 {
-        return false;
-    }
-    both(parts[0] == 0, both(counts[0] == 1, left[0] == 0))
+    n == 1 && parts[0] == 0 && counts[0] == 1 && left[0] == 0
 }
 
 // With one budget: the lesser of an entry and of opening a label at a slot of a window.
@@ -203,13 +189,11 @@ fn least_open(
 {
     let m = heights.len();
     let mut best = old;
-    let mut k = window.from;
-    while k < window.to {
+    for k in window.from..window.to {
         let cost = opening[k as usize];
         let turn = strips::turn_at(heights, s, k);
         let parts = parts::parts_cost(work, q, m, p, s, low, k, turn);
         best = lesser_sum(best, cost, parts);
-        k += 1;
     }
     best
 }
@@ -242,12 +226,10 @@ fn open_slots(
         work[base] = t;
         return;
     }
-    let mut k = window.from;
-    while k < window.to {
+    for k in window.from..window.to {
         open_slot(
             work, q, heights, parts, counts, left, opening, p, s, base, low, k,
         );
-        k += 1;
     }
 }
 

@@ -13,7 +13,7 @@ use areas::zero_part;
 use arrays::Measures;
 use rows::{End, Site, Strip};
 use strips::Window;
-use words::{NONE, less};
+use words::NONE;
 
 // Marks a strip, if it is to be.
 fn mark_own(work: &mut [u32], q: Measures, m: usize, p: Strip, low: usize, stays: bool)
@@ -35,10 +35,10 @@ fn mark_joins(work: &mut [u32], q: Measures, heights: &[u32], p: Strip, s: Site,
 {
     let m = heights.len();
     let up = strips::risen_of(heights, p, s);
-    let rises = less(strips::rise_cost(q, heights, p, s), NONE);
+    let rises = strips::rise_cost(q, heights, p, s) < NONE;
     mark_own(work, q, m, up, low, rises);
     let down = strips::fallen_of(heights, p, s);
-    let falls = less(strips::fall_cost(q, heights, p, s), NONE);
+    let falls = strips::fall_cost(q, heights, p, s) < NONE;
     mark_own(work, q, m, down, low, falls);
 }
 
@@ -56,15 +56,12 @@ fn mark_window(
     requires c_lt_colours { (s.c < q.colours) × (window.from < window.to → window.to < p.b) }
     ensures { WindowMarked q heights.now low (strip_of p) (point_of s) window work.old work.new }
 {
-    let mut k = window.from;
-    while k < window.to {
+    for k in window.from..window.to {
         if strips::is_barred(s, k) {
-            k += 1;
             continue;
         }
         let turn = strips::turn_at(heights, s, k);
         parts::mark_parts(work, q, heights.len(), p, s, low, k, turn);
-        k += 1;
     }
 }
 
@@ -174,10 +171,8 @@ fn clear_rows(work: &mut [u32], from: usize, to: usize, n: usize)
         zero_part(work, from, to);
         return;
     }
-    let mut at = from;
-    while at < to {
+    for at in (from..to).step_by(n) {
         work[at] = 0;
-        at += n;
     }
 }
 
@@ -228,10 +223,8 @@ fn clear_marks(work: &mut [u32], q: Measures, m: usize, size: usize, levels: usi
     requires level_fits { LevelFits q m 0 size }
     ensures { KeptFrom (levels * size) work.old work.new }
 {
-    let mut j: usize = 0;
-    while j < levels {
+    for j in 0..levels {
         clear_level(work, q, m, j * size);
-        j += 1;
     }
 }
 
@@ -283,9 +276,7 @@ pub fn mark_table(
         d: 0,
     };
     mark_own(work, q, heights.len(), whole, 0, true);
-    let mut j: usize = 0;
-    while j < xs.len() {
+    for j in 0..xs.len() {
         mark_site(work, q, heights, bounds, xs, ys, cs, size, j);
-        j += 1;
     }
 }

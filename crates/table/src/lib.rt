@@ -100,10 +100,8 @@ fn opening_costs(q: Measures, heights: &[u32], s: Site) -> [u32; MOST_SLOTS]
     ensures { OpeningListed q heights.now (point_of s) result }
 {
     let mut out = [0u32; MOST_SLOTS];
-    let mut k: usize = 0;
-    while k < heights.len() {
+    for k in 0..heights.len() {
         out[k] = strips::open_cost(q, heights, s, k as u32);
-        k += 1;
     }
     out
 }
@@ -171,10 +169,8 @@ pub fn fill_table(
     let rows = rows::rows_of(q, heights.len());
     let size = rows * (q.budgets as usize);
     marks::mark_table(work, q, heights, bounds, xs, ys, cs, rows);
-    let mut j = xs.len();
-    zero_level(work, j * size, size);
-    while 0 < j {
-        j -= 1;
+    zero_level(work, xs.len() * size, size);
+    for j in (0..xs.len()).rev() {
         fill_site(
             work, q, heights, bounds, radices, draws, parts, counts, xs, ys, cs, size, j,
         );

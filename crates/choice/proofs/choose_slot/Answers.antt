@@ -1,9 +1,11 @@
-use mathlib.Core.Path.{ap, ◌∙◌}
+use mathlib.Core.Path.{sym, ap, ◌∙◌}
 use native.Mathlib.Omega.{arith}
 use borrow.Author.Rules.{rules}
+use borrow.Author.Count.{below_more}
 use lib.ListN.{length}
 use Rattle.arrays.proofs.Marks.{turn_low}
-use Rattle.choice.proofs.Chosen.{level-same, tried-more, tried-found, tried-all}
+use Rattle.optimum.proofs.Loops.{first-at, first-none}
+use Rattle.choice.proofs.Chosen.{level-same}
 use Rattle.choice.proofs.choose_slot.Goals as goal
 
 pub keeps_cost-requires : goal.keeps_cost-requires
@@ -25,7 +27,7 @@ keeps_cost-requires c =
     }
 
 pub returns-then-keeps_cost-clause-value : goal.returns-then-keeps_cost-clause-value
-returns-then-keeps_cost-clause-value c = tried-found _ _ _ c.loop-k.invariant.2 (omega arith) (search rules)
+returns-then-keeps_cost-clause-value c = sym (first-at _ _ _ (omega arith) c.loop-k.invariant.2 (search rules))
 
 pub loop-k-preserved : goal.loop-k-preserved
 loop-k-preserved c =
@@ -33,8 +35,8 @@ loop-k-preserved c =
     let k = c.keeps_cost.ensures in (
       k.labels_unchanged ∙ l.invariant.0,
       k.marks_unchanged ∙ l.invariant.1,
-      tried-more _ _ _ l.invariant.2 (omega arith) (search rules),
+      below_more _ _ l.invariant.2 (search rules),
     )
 
 pub returns-clause-value : goal.returns-clause-value
-returns-clause-value c = tried-all _ _ _ c.loop-k.invariant.2 (omega arith)
+returns-clause-value c = sym (first-none _ _ (λ j h. c.loop-k.invariant.2 j (omega arith)))

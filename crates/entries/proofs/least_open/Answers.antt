@@ -12,7 +12,7 @@ pub loop-k-init : goal.loop-k-init
 loop-k-init c =
     let a = c.args in
     let e : a.window.from - a.window.from ≡ 0 = omega arith in
-    (omega arith, omega (arith, c.requires.some), rw e (single-none a.old _ (omega (arith, c.ranges.old))))
+    (rw e (single-none a.old _ (omega (arith, c.ranges.old))))
 
 pub parts_cost-parts-requires : goal.parts_cost-parts-requires
 parts_cost-parts-requires c =
@@ -26,12 +26,9 @@ pub loop-k-preserved : goal.loop-k-preserved
 loop-k-preserved c =
     let a = c.args in
     let l = c.loop-k in
-    let f : l.k + 1 - a.window.from ≡ l.k - a.window.from + 1 = omega (arith, l.invariant.0) in
-    let g : a.window.from + (l.k - a.window.from) ≡ l.k = omega (arith, l.invariant.0) in
+    let f : l.k + 1 - a.window.from ≡ l.k - a.window.from + 1 = omega (arith, l.auto.k) in
+    let g : a.window.from + (l.k - a.window.from) ≡ l.k = omega (arith, l.auto.k) in
     let p = c.requires in
     let t = ap₂ (plus top_word) (p.listed.costs l.k (omega (arith, p.high, p.lies.b_low, c.loop-k-test.true)))
-    (rw c.turn_at-turn.ensures at c.parts_cost-parts.ensures) in (
-      omega (arith, l.invariant.0),
-      omega (arith, c.loop-k-test.true),
-      rw f (c.lesser_sum-best.ensures ∙ single_more a.old l.best _ (l.k - a.window.from) _ l.invariant.2 (rw g t)),
-    )
+    (rw c.turn_at-turn.ensures at c.parts_cost-parts.ensures) in
+    rw f (c.lesser_sum-best.ensures ∙ single_more a.old l.best _ (l.k - a.window.from) _ l.invariant (rw g t))

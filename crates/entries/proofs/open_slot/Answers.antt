@@ -74,15 +74,15 @@ bounds-work-lower c =
     let f = places-fit c.requires.0 _ c.requires.1 c.turn_at-turn.ensures c.part_places-at.ensures in
     last-in _ _ _ f.some f.lower_in
 
-pub returns-then-either : goal.returns-then-either
-returns-then-either c =
+pub returns-then-work-upper : goal.returns-then-work-upper
+returns-then-work-upper c =
     let a = c.args in
     let at = rw c.turn_at-turn.ensures at c.part_places-at.ensures in (
       record { before = λ i h. refl; after = λ i h. refl },
       λ v h. slot-none a.q a.heights.now a.parts.now a.counts.now a.left.now a.work.now a.low
-          (strip_of a.p) (point_of a.s) a.k v _ _ _ _ _
+          (strip_of a.p) (point_of a.s) a.k v _ _ _
           (omega (arith, c.slice_known-1.given (a.base + v))) c.requires.1.1 at.0 at.1
-          c.same.ensures c.same-2.ensures (sym c.either.ensures ∙ c.if-either.true),
+          c.if-work-upper.true,
     )
 
 pub open_row-requires : goal.open_row-requires
@@ -99,6 +99,6 @@ returns c =
       o.0,
       λ v h. o.1 v h ∙ ap (min (get_or a.work.now (a.base + v) 0))
           (slot-open a.q a.heights.now a.parts.now a.counts.now a.left.now a.work.now a.low
-          (strip_of a.p) (point_of a.s) a.k v _ _ _ _ _
-          c.requires.1.1 e at.0 at.1 c.same.ensures c.same-2.ensures (sym c.either.ensures ∙ c.if-either.false)),
+          (strip_of a.p) (point_of a.s) a.k v _ _ _
+          c.requires.1.1 e at.0 at.1 c.if-work-upper.false),
     )

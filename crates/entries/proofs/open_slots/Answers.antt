@@ -28,12 +28,9 @@ pub loop-k-init : goal.loop-k-init
 loop-k-init c =
     let a = c.args in
     let p = c.requires in
-    let w = c.open_window-window.ensures in (
-      omega arith,
-      omega (arith, w.ordered),
-      tried-start a.q a.heights.now a.parts.now a.counts.now a.left.now a.work.now a.base a.low (strip_of a.p) (point_of a.s)
-          c.open_window-window.result w c.if-window.false (λ i. omega (arith, c.slice_known-1.given i)),
-    )
+    let w = c.open_window-window.ensures in
+    tried-start a.q a.heights.now a.parts.now a.counts.now a.left.now a.work.now a.base a.low (strip_of a.p) (point_of a.s)
+    c.open_window-window.result w c.if-window.false (λ i. omega (arith, c.slice_known-1.given i))
 
 pub loop-k-preserved : goal.loop-k-preserved
 loop-k-preserved c =
@@ -42,14 +39,11 @@ loop-k-preserved c =
     let l = c.loop-k in
     let o = c.open_slot in
     let w = c.open_window-window.ensures in
-    let e : l.k + 1 - a.p.a ≡ l.k - a.p.a + 1 = omega (arith, l.invariant.0, w.low) in
-    let f : a.p.a + (l.k - a.p.a) ≡ l.k = omega (arith, l.invariant.0, w.low) in (
-      omega (arith, l.invariant.0),
-      omega (arith, c.loop-k-test.true),
-      rw e (tried-more a.q a.heights.now a.parts.now a.counts.now a.left.now a.work.now l.work o.new.work a.base a.low
-          (strip_of a.p) (point_of a.s) (l.k - a.p.a)
-          p.ready.apart l.invariant.2 o.auto.work o.ensures.0 (λ v h. rw f (o.ensures.1 v h))),
-    )
+    let e : l.k + 1 - a.p.a ≡ l.k - a.p.a + 1 = omega (arith, l.auto.k, w.low) in
+    let f : a.p.a + (l.k - a.p.a) ≡ l.k = omega (arith, l.auto.k, w.low) in
+    rw e (tried-more a.q a.heights.now a.parts.now a.counts.now a.left.now a.work.now l.work o.new.work a.base a.low
+    (strip_of a.p) (point_of a.s) (l.k - a.p.a)
+    p.ready.apart l.invariant o.auto.work o.ensures.0 (λ v h. rw f (o.ensures.1 v h)))
 
 pub returns : goal.returns
 returns c =
@@ -59,5 +53,5 @@ returns c =
     let w = c.open_window-window in
     let t = tried-end a.q a.heights.now a.parts.now a.counts.now a.left.now a.work.now l.work a.base a.low
     (strip_of a.p) (point_of a.s) w.result l.k w.ensures c.if-window.false
-    (omega (arith, l.invariant.1, c.loop-k-test.false)) l.invariant.2 in
+    (omega (arith, l.auto.k-end, c.loop-k-test.false)) l.invariant in
     (t.others, t.row)

@@ -1,10 +1,7 @@
 use Rattle.rows.specs.Rows.{strip_of, point_of}
 use Rattle.entries.proofs.Terms.{Tried}
-use Prim.Native.Nat.{◌-◌, ◌≤◌}
+use Prim.Native.Nat.{◌-◌}
 use Rattle.entries.proofs.open_slots.Given as goal
 
 abbrev pub invariant-loop-k : goal.invariant-loop-k
-invariant-loop-k l = (l.window.from ≤ l.k) × (l.k ≤ l.window.to) × Tried l.q l.heights l.parts l.counts l.left l.initial.work l.work l.base l.low (strip_of l.p) (point_of l.s) (l.k - l.p.a)
-
-abbrev pub decreases-loop-k : goal.decreases-loop-k
-decreases-loop-k l = l.window.to - l.k
+invariant-loop-k l = Tried l.q l.heights l.parts l.counts l.left l.initial.work l.work l.base l.low (strip_of l.p) (point_of l.s) (l.k - l.p.a)

@@ -11,16 +11,16 @@ use Rattle.parts.specs.Parts.{Marked}
 use Rattle.parts.proofs.Marking.{marking-join}
 use Rattle.marks.proofs.mark_joins.Goals as goal
 
-pub rise_cost-requires : goal.rise_cost-requires
-rise_cost-requires c =
+pub rise_cost-rises-requires : goal.rise_cost-rises-requires
+rise_cost-rises-requires c =
     let p = c.requires in (p.of_sheet.0, p.of_sheet.1, p.strip_fits.1)
 
 pub mark_own-requires : goal.mark_own-requires
 mark_own-requires c =
     let p = c.requires in (p.strip_fits.0, rw c.risen_of-up.ensures (marked-lies _ _ _ (strip_of c.args.p) p.strip_fits.1 (turn_low _ _ _)))
 
-pub fall_cost-requires : goal.fall_cost-requires
-fall_cost-requires c =
+pub fall_cost-falls-requires : goal.fall_cost-falls-requires
+fall_cost-falls-requires c =
     let p = c.requires in (p.of_sheet.0, p.of_sheet.1, p.strip_fits.1)
 
 pub mark_own-requires-2 : goal.mark_own-requires-2
@@ -38,7 +38,7 @@ returns c =
     let t = c.mark_own-2.ensures in (
       marking-join _ _ _ _ _ o.0 t.0,
       λ bs h. subst (Marked c.mark_own-2.new.work a.low (length a.heights.now) a.q.colours a.q.budgets) c.risen_of-up.ensures
-          (t.0.kept _ (o.1 (c.less-rises.ensures ∙ ap (λ (z : ℕ). ltb z top_word) (c.rise_cost.ensures bs) ∙ lt-ltb _ _ h))),
+          (t.0.kept _ (o.1 (ap (λ (z : ℕ). ltb z top_word) (c.rise_cost-rises.ensures bs) ∙ lt-ltb _ _ h))),
       λ bs h. subst (Marked c.mark_own-2.new.work a.low (length a.heights.now) a.q.colours a.q.budgets) c.fallen_of-down.ensures
-          (t.1 (c.less-falls.ensures ∙ ap (λ (z : ℕ). ltb z top_word) (c.fall_cost.ensures bs) ∙ lt-ltb _ _ h)),
+          (t.1 (ap (λ (z : ℕ). ltb z top_word) (c.fall_cost-falls.ensures bs) ∙ lt-ltb _ _ h)),
     )

@@ -34,19 +34,13 @@ loop-j-init c =
     let a = c.args in
     let p = c.requires in
     let e = ap (λ (z : ℕ). z * a.q.budgets) p.3 in
-    (e, omega arith, refl, λ o. reach-first o c.mark_own.new.work (a.rows * a.q.budgets) (whole-marked a.q a.heights.now a.bounds.now c.mark_own.new.work (c.mark_own.ensures.1 refl)), λ i h. refl)
+    (e, refl, λ o. reach-first o c.mark_own.new.work (a.rows * a.q.budgets) (whole-marked a.q a.heights.now a.bounds.now c.mark_own.new.work (c.mark_own.ensures.1 refl)), λ i h. refl)
 
 pub mark_site-requires : goal.mark_site-requires
 mark_site-requires c =
     let p = c.requires in
     let l = c.loop-j in
-    (p.0, p.1, omega (arith, p.2, l.invariant.2 ∙ c.mark_own.auto.work ∙ c.clear_marks.auto.work), (l.invariant.0, c.loop-j-test.true))
-
-pub overflow_add-j : goal.overflow_add-j
-overflow_add-j c = omega (arith, c.loop-j-test.true, c.requires.0.few_sites)
-
-pub loop-j-smaller : goal.loop-j-smaller
-loop-j-smaller c = omega (arith, c.loop-j-test.true)
+    (p.0, p.1, omega (arith, p.2, l.invariant.1 ∙ c.mark_own.auto.work ∙ c.clear_marks.auto.work), (l.invariant.0, c.loop-j-test.true))
 
 pub loop-j-preserved : goal.loop-j-preserved
 loop-j-preserved c =
@@ -55,23 +49,22 @@ loop-j-preserved c =
     let l = c.loop-j in
     let m = c.mark_site in (
       l.invariant.0,
-      omega (arith, c.loop-j-test.true),
-      m.auto.work ∙ l.invariant.2,
-      (λ o. reach-more o l.work m.new.work _ l.j c.loop-j-test.true (l.invariant.3 o) m.ensures.0 m.ensures.1),
-      λ i h. m.ensures.0.others.after i (past-level l.j (length a.xs.now) _ i c.loop-j-test.true h) ∙ l.invariant.4 i h,
+      m.auto.work ∙ l.invariant.1,
+      (λ o. reach-more o l.work m.new.work _ l.j c.loop-j-test.true (l.invariant.2 o) m.ensures.0 m.ensures.1),
+      λ i h. m.ensures.0.others.after i (past-level l.j (length a.xs.now) _ i c.loop-j-test.true h) ∙ l.invariant.3 i h,
     )
 
 pub shape_of-work : goal.shape_of-work
-shape_of-work c = c.loop-j.invariant.2 ∙ c.mark_own.auto.work ∙ c.clear_marks.auto.work
+shape_of-work c = c.loop-j.invariant.1 ∙ c.mark_own.auto.work ∙ c.clear_marks.auto.work
 
 pub returns : goal.returns
 returns c =
     let a = c.args in
     let p = c.requires in
     let l = c.loop-j in
-    let z : l.j ≡ length a.xs.now = omega (arith, c.loop-j-test.false, l.invariant.1) in (
-      to_level (instance_on a.q a.heights.now a.bounds.now) a.q (points_by a.q a.heights.now a.xs.now a.ys.now a.cs.now) l.work _ _ l.j l.invariant.0 z (l.invariant.3 p.0),
+    let z : l.j ≡ length a.xs.now = omega (arith, c.loop-j-test.false, l.auto.j-end) in (
+      to_level (instance_on a.q a.heights.now a.bounds.now) a.q (points_by a.q a.heights.now a.xs.now a.ys.now a.cs.now) l.work _ _ l.j l.invariant.0 z (l.invariant.2 p.0),
       λ i h.
           let e = ap (λ (z : ℕ). z * a.q.budgets) p.3 in
-          l.invariant.4 i (rw l.invariant.0 h) ∙ c.mark_own.ensures.0.others.after i (first-within _ _ _ h) ∙ c.clear_marks.ensures.kept i (rw e h),
+          l.invariant.3 i (rw l.invariant.0 h) ∙ c.mark_own.ensures.0.others.after i (first-within _ _ _ h) ∙ c.clear_marks.ensures.kept i (rw e h),
     )

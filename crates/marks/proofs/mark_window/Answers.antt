@@ -1,4 +1,3 @@
-use mathlib.Core.Logic.{inl, inr}
 use mathlib.Core.Path.{refl, sym, ap, ◌∙◌}
 use native.Mathlib.Omega.{arith}
 use Rattle.lists.proofs.Tests.{by_equal, clash}
@@ -8,31 +7,22 @@ use Rattle.parts.proofs.Marking.{marking-none, marking-join, parts-kept}
 use Rattle.marks.proofs.mark_window.Goals as goal
 
 pub loop-k-init : goal.loop-k-init
-loop-k-init c = (omega arith, inl (omega arith), marking-none _ _ _, refl, λ i a b e. absurd (omega arith))
+loop-k-init c = (marking-none _ _ _, refl, λ i a b e. absurd (omega arith))
 
 pub is_barred-requires : goal.is_barred-requires
 is_barred-requires c =
     let p = c.requires in
-    let l = c.loop-k in
-    omega (arith, c.loop-k-test.true, p.c_lt_colours.1 (omega (arith, c.loop-k-test.true, l.invariant.0)), p.strip_fits.0.few_slots, p.strip_fits.1.b_low)
-
-pub overflow_add-k : goal.overflow_add-k
-overflow_add-k c = omega (arith, c.loop-k-test.true)
-
-pub loop-k-smaller-then-is_barred : goal.loop-k-smaller-then-is_barred
-loop-k-smaller-then-is_barred c = omega (arith, c.loop-k-test.true)
+    omega (arith, c.loop-k-test.true, c.loop-k.auto.k, p.c_lt_colours.1 (omega (arith, c.loop-k-test.true, c.loop-k.auto.k)), p.strip_fits.0.few_slots, p.strip_fits.1.b_low)
 
 -- a slot that is barred is passed over
 pub loop-k-preserved-then-is_barred : goal.loop-k-preserved-then-is_barred
 loop-k-preserved-then-is_barred c =
     let l = c.loop-k in (
-      omega (arith, l.invariant.0),
-      inr (omega (arith, c.loop-k-test.true)),
-      l.invariant.2,
-      l.invariant.3,
+      l.invariant.0,
+      l.invariant.1,
       λ i a b e. by_equal i l.k
           (λ q. clash (sym c.is_barred.ensures ∙ c.if-is_barred.true) (ap (has_slot c.args.s.barred) (sym q) ∙ e))
-          (λ n. l.invariant.4 i a (omega arith) e),
+          (λ n. l.invariant.2 i a (omega arith) e),
     )
 
 pub mark_parts-requires : goal.mark_parts-requires
@@ -40,27 +30,18 @@ mark_parts-requires c =
     let p = c.requires in
     let l = c.loop-k in
     let t = c.loop-k-test.true in
-    record { level_fits = (rw l.invariant.3 p.strip_fits.0, p.strip_fits.1); c_lt_colours = (p.c_lt_colours.0, omega (arith, t, p.c_lt_colours.1 (omega (arith, t, l.invariant.0))), rw c.turn_at-turn.ensures (turn_low _ _ _)) }
+    record { level_fits = (rw l.invariant.1 p.strip_fits.0, p.strip_fits.1); c_lt_colours = (p.c_lt_colours.0, omega (arith, t, p.c_lt_colours.1 (omega (arith, t, l.auto.k))), rw c.turn_at-turn.ensures (turn_low _ _ _)) }
 
 pub loop-k-preserved : goal.loop-k-preserved
 loop-k-preserved c =
     let l = c.loop-k in
-    let t = c.loop-k-test.true in
     let f = c.mark_parts in (
-      omega (arith, l.invariant.0),
-      inr (omega (arith, t)),
-      marking-join _ _ _ _ _ l.invariant.2 f.ensures.marking,
-      f.auto.work ∙ l.invariant.3,
-      λ i a b e. by_equal i l.k (λ q. rw q (rw c.turn_at-turn.ensures at f.ensures.parts_marked)) (λ n. parts-kept _ _ _ _ _ _ _ _ f.ensures.marking (l.invariant.4 i a (omega arith) e)),
+      marking-join _ _ _ _ _ l.invariant.0 f.ensures.marking,
+      f.auto.work ∙ l.invariant.1,
+      λ i a b e. by_equal i l.k (λ q. rw q (rw c.turn_at-turn.ensures at f.ensures.parts_marked)) (λ n. parts-kept _ _ _ _ _ _ _ _ f.ensures.marking (l.invariant.2 i a (omega arith) e)),
     )
-
-pub overflow_add-k-in-loop-k : goal.overflow_add-k-in-loop-k
-overflow_add-k-in-loop-k c = omega (arith, c.loop-k-test.true)
-
-pub shape_of-work : goal.shape_of-work
-shape_of-work c = c.loop-k.invariant.3
 
 pub returns : goal.returns
 returns c =
     let l = c.loop-k in
-    (l.invariant.2, λ k a b e. l.invariant.4 k a (omega (arith, c.loop-k-test.false)) e)
+    (l.invariant.0, λ k a b e. l.invariant.2 k a (omega (arith, c.loop-k-test.false)) e)

@@ -1,7 +1,6 @@
-use mathlib.Core.Logic.{◌⊎◌}
 use mathlib.Core.Path.{◌≡◌}
 use mathlib.Core.Bool.{false}
-use Prim.Native.Nat.{ℕ, ◌-◌, ◌<◌, ◌≤◌}
+use Prim.Native.Nat.{ℕ, ◌<◌, ◌≤◌}
 use lib.ListN.{length}
 use Rattle.optimum.specs.OneSided.{has_slot}
 use Rattle.arrays.specs.Arrays.{turn_by}
@@ -10,7 +9,4 @@ use Rattle.parts.specs.Parts.{Marking, PartsMarked}
 use Rattle.marks.proofs.mark_window.Given as goal
 
 abbrev pub invariant-loop-k : goal.invariant-loop-k
-invariant-loop-k l = (l.window.from ≤ l.k) × (l.k ≤ l.window.from ⊎ l.k ≤ l.window.to) × Marking l.initial.work l.work l.low (level_of l.q l.heights) × (length l.work ≡ length l.initial.work) × ((i : ℕ) → l.window.from ≤ i → i < l.k → has_slot l.s.barred i ≡ false → PartsMarked l.q l.work l.low (length l.heights) (strip_of l.p) (point_of l.s) i (turn_by l.heights (point_of l.s) i))
-
-abbrev pub decreases-loop-k : goal.decreases-loop-k
-decreases-loop-k l = l.window.to - l.k
+invariant-loop-k l = Marking l.initial.work l.work l.low (level_of l.q l.heights) × (length l.work ≡ length l.initial.work) × ((i : ℕ) → l.initial.k ≤ i → i < l.k → has_slot l.s.barred i ≡ false → PartsMarked l.q l.work l.low (length l.heights) (strip_of l.p) (point_of l.s) i (turn_by l.heights (point_of l.s) i))

@@ -20,8 +20,8 @@ pub mark_table-requires : goal.mark_table-requires
 mark_table-requires c =
     let g = c.requires in (no-radices g.sheet, g.bounded, g.fits, c.rows_of-rows.ensures)
 
-pub overflow_mul-j : goal.overflow_mul-j
-overflow_mul-j c =
+pub overflow_mul-xs : goal.overflow_mul-xs
+overflow_mul-xs c =
     let g = c.requires in
     omega (arith, place-small g.sheet (length c.args.xs.now) _ (omega (arith, g.sheet.few_sites)) (ap (λ (z : ℕ). z * c.args.q.budgets) c.rows_of-rows.ensures))
 
@@ -36,14 +36,14 @@ loop-j-init c =
     let a = c.args in
     let e = ap (λ (z : ℕ). z * a.q.budgets) c.rows_of-rows.ensures in
     let z = c.zero_level.ensures in
-    (e, omega arith, refl, λ o. done-last o c.mark_table.new.work c.zero_level.new.work _ e c.mark_table.ensures.0 z.0 z.1)
+    (e, refl, λ o. done-last o c.mark_table.new.work c.zero_level.new.work _ e c.mark_table.ensures.0 z.0 z.1)
 
 pub fill_site-requires : goal.fill_site-requires
 fill_site-requires c =
     let p = c.requires in
     let l = c.loop-j in (
-      ready-area p (l.invariant.2 ∙ c.zero_level.auto.work ∙ c.mark_table.auto.work),
-      (l.invariant.0, omega (arith, c.loop-j-test.true, l.invariant.1)),
+      ready-area p (l.invariant.1 ∙ c.zero_level.auto.work ∙ c.mark_table.auto.work),
+      (l.invariant.0, omega (arith, c.loop-j-test.true, l.auto.j)),
     )
 
 pub loop-j-preserved : goal.loop-j-preserved
@@ -52,13 +52,12 @@ loop-j-preserved c =
     let a = c.args in
     let f = c.fill_site in (
       l.invariant.0,
-      omega (arith, l.invariant.1),
-      f.auto.work ∙ l.invariant.2,
-      λ o. done_more o _ l.work f.new.work _ l.j _ l.invariant.0 (omega (arith, c.loop-j-test.true)) l.invariant.1 f.auto.work f.ensures.0 f.ensures.1 (l.invariant.3 o),
+      f.auto.work ∙ l.invariant.1,
+      λ o. done_more o _ l.work f.new.work _ l.j _ l.invariant.0 (omega (arith, c.loop-j-test.true)) l.auto.j f.auto.work f.ensures.0 f.ensures.1 (l.invariant.2 o),
     )
 
 pub shape_of-work : goal.shape_of-work
-shape_of-work c = c.loop-j.invariant.2 ∙ c.zero_level.auto.work ∙ c.mark_table.auto.work
+shape_of-work c = c.loop-j.invariant.1 ∙ c.zero_level.auto.work ∙ c.mark_table.auto.work
 
 pub returns : goal.returns
 returns c =
@@ -68,4 +67,4 @@ returns c =
     let z : l.j ≡ 0 = omega (arith, c.loop-j-test.false) in
     let m = c.mark_table in
     let o = c.zero_level in
-    done_all p.sheet a.work.now m.new.work o.new.work l.work _ l.invariant.0 (o.auto.work ∙ m.auto.work) m.ensures.1 o.ensures.0 (rw z at (l.invariant.3 p.sheet))
+    done_all p.sheet a.work.now m.new.work o.new.work l.work _ l.invariant.0 (o.auto.work ∙ m.auto.work) m.ensures.1 o.ensures.0 (rw z at (l.invariant.2 p.sheet))

@@ -8,7 +8,7 @@ use Rattle.rows.proofs.Lists.{entries-more}
 use Rattle.table.proofs.opening_costs.Goals as goal
 
 pub loop-k-init : goal.loop-k-init
-loop-k-init c = (refl, omega arith, λ x h. absurd (omega arith))
+loop-k-init c = (refl, λ x h. absurd (omega arith))
 
 pub open_cost-requires : goal.open_cost-requires
 open_cost-requires c =
@@ -22,13 +22,12 @@ loop-k-preserved c =
     let l = c.loop-k in
     let a = c.args in (
       simp length-set l.invariant.0,
-      omega (arith, c.loop-k-test.true),
-      entries-more (λ (x n : ℕ). n ≡ open_cost a.q a.heights.now (point_of a.s) x) l.out l.k c.open_cost.result (omega (arith, l.invariant.0, c.loop-k-test.true, c.requires.0.few_slots)) l.invariant.2 c.open_cost.ensures,
+      entries-more (λ (x n : ℕ). n ≡ open_cost a.q a.heights.now (point_of a.s) x) l.out l.k c.open_cost.result (omega (arith, l.invariant.0, c.loop-k-test.true, c.requires.0.few_slots)) l.invariant.1 c.open_cost.ensures,
     )
 
 pub returns : goal.returns
 returns c =
     let l = c.loop-k in
     let p = c.requires in
-    let e : l.k ≡ length c.args.heights.now = omega (arith, c.loop-k-test.false, l.invariant.1) in
-    record { long = omega (arith, l.invariant.0, p.0.few_slots); costs = rw e at l.invariant.2 }
+    let e : l.k ≡ length c.args.heights.now = omega (arith, c.loop-k-test.false, l.auto.k-end) in
+    record { long = omega (arith, l.invariant.0, p.0.few_slots); costs = rw e at l.invariant.1 }

@@ -1,5 +1,5 @@
 use mathlib.Core.Path.{◌≡◌}
-use Prim.Native.Nat.{ℕ, ◌-◌, ◌<◌, ◌≤◌}
+use Prim.Native.Nat.{ℕ, ◌<◌}
 use lib.ListN.{length, get_or}
 use Rattle.sheet.specs.Limits.{most_slots}
 use Rattle.strips.specs.Strips.{open_cost}
@@ -7,7 +7,4 @@ use Rattle.rows.specs.Rows.{point_of}
 use Rattle.table.proofs.opening_costs.Given as goal
 
 abbrev pub invariant-loop-k : goal.invariant-loop-k
-invariant-loop-k l = (length l.out ≡ most_slots) × (l.k ≤ length l.heights) × ((x : ℕ) → x < l.k → get_or l.out x 0 ≡ open_cost l.q l.heights (point_of l.s) x)
-
-abbrev pub decreases-loop-k : goal.decreases-loop-k
-decreases-loop-k l = length l.heights - l.k
+invariant-loop-k l = (length l.out ≡ most_slots) × ((x : ℕ) → x < l.k → get_or l.out x 0 ≡ open_cost l.q l.heights (point_of l.s) x)
