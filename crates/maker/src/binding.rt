@@ -13,7 +13,8 @@ pub fn binding_numbers(numbers: Numbers) -> Numbers
     let bounds = numbers.bounds;
     let counts = numbers.site_counts;
     let binding = binding_bounds(&bounds[..kinds], &counts[..kinds]);
-    let mut kept = numbers;
-    kept.bounds = binding;
-    kept
+    Numbers {
+        bounds: binding,
+        ..numbers
+    }
 }

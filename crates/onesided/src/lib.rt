@@ -70,9 +70,9 @@ fn lay_sites(
     let head = numbers.head;
     let count = numbers.kinds;
     let q = Measures {
-        head: head,
+        head,
         colours: count as u32,
-        budgets: budgets,
+        budgets,
     };
     let slots = numbers.slots;
     let heights = numbers.heights;

@@ -44,7 +44,7 @@ pub fn lay_least(
         return 10;
     }
     out[0] = first_word(q, least);
-    let left = Left {
+    let whole = Left {
         budget: v,
         cost: least,
     };
@@ -64,8 +64,7 @@ pub fn lay_least(
         &mut labels[..m],
         &mut marks[..places],
         out,
-        0,
-        left,
+        whole,
     );
     0
 }

@@ -53,14 +53,13 @@ fn tie_site(
     write_marks(labels, marks, p.a, strips::turn_at(heights, s, k), k);
     let slot = k as usize;
     labels[slot] = s.c + 1;
-    let cost = words::monus(left.cost, step.price);
     Left {
         budget: step.left,
-        cost,
+        cost: left.cost.saturating_sub(step.price),
     }
 }
 
-// THE WALK: ties the sites from rank j on, one a call, so that the number of untied sites falls.
+// THE WALK: ties all sites by rising rank.
 pub fn walk(
     parts: &[u8],
     counts: &[u8],
@@ -77,38 +76,18 @@ pub fn walk(
     labels: &mut [u32],
     marks: &mut [u32],
     out: &mut [u32],
-    j: usize,
-    left: Left,
+    whole: Left,
 )
     requires { let g = given q heights.now bounds.now radices.now draws.now xs.now ys.now colours.now order.now parts.now counts.now in
-        WalkIn g work.now × Standing g work.now labels.old marks.old out.old j left.budget left.cost }
+        WalkIn g work.now × Standing g work.now labels.old marks.old out.old 0 whole.budget whole.cost }
     ensures { let g = given q heights.now bounds.now radices.now draws.now xs.now ys.now colours.now order.now parts.now counts.now in
-        out.new ≡ tied_from g work.now labels.old marks.old out.old j left.budget }
+        out.new ≡ tied_from g work.now labels.old marks.old out.old 0 whole.budget }
 {
-    if j == order.len() {
-        return;
+    let mut left = whole;
+    for j in 0..order.len() {
+        left = tie_site(
+            parts, counts, work, q, heights, bounds, radices, draws, xs, ys, colours, order,
+            labels, marks, out, j, left,
+        );
     }
-    let after = tie_site(
-        parts, counts, work, q, heights, bounds, radices, draws, xs, ys, colours, order, labels,
-        marks, out, j, left,
-    );
-    walk(
-        parts,
-        counts,
-        work,
-        q,
-        heights,
-        bounds,
-        radices,
-        draws,
-        xs,
-        ys,
-        colours,
-        order,
-        labels,
-        marks,
-        out,
-        j + 1,
-        after,
-    );
 }

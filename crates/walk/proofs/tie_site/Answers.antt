@@ -66,5 +66,5 @@ returns c =
     let f = c.step_of-step.ensures in
     let o = c.choose_slot-k.ensures in
     let facts = step_by c.requires.walk_in mid _ _ _ _ _ _ _ _ o.labels_unchanged o.marks_unchanged c.turn_at.ensures c.write_marks.ensures
-    c.write_tie.ensures f.left_value f.price_value c.monus-cost.ensures in
+    c.write_tie.ensures f.left_value f.price_value c.saturating_sub.ensures in
     record { stands = facts.0; budget_value = facts.1 }
