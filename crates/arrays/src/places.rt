@@ -6,7 +6,8 @@ ghost use Rattle.arrays.specs.Arrays.{slots_by};
 ghost use Rattle.arrays.specs.declared.Measures as measured;
 
 use crate::Measures;
-use words::{at_most, get, less};
+use rules::{rule_3, rule_5};
+use words::get;
 
 // The edge or label a stands above the height y or at it.
 pub fn is_over(heights: &[u32], a: u32, y: u32) -> bool
@@ -15,7 +16,7 @@ pub fn is_over(heights: &[u32], a: u32, y: u32) -> bool
     if a == 0 {
         return true;
     }
-    at_most(get(heights, a - 1), y)
+    get(heights, a - 1) <= y
 }
 
 // The edge or label b stands below the height y.
@@ -25,11 +26,10 @@ pub fn is_under(heights: &[u32], b: u32, y: u32) -> bool
     if b == 0 {
         return false;
     }
-    let k = b - 1;
-    if heights.len() <= k as usize {
-        return true;
+    match heights.get(b as usize - 1) {
+        Some(&height) => y < height,
+        None => true,
     }
-    less(y, get(heights, k))
 }
 
 // The edge or label j, of colour e, lets a label of colour c be at slot k. The definition is by both colours, as are its callers:
@@ -40,11 +40,10 @@ pub fn is_far(q: Measures, heights: &[u32], j: u32, e: u32, k: u32, c: u32) -> b
     if j == 0 {
         return true;
     }
-    let i = j - 1;
-    if heights.len() <= i as usize {
-        return true;
+    match heights.get(j as usize - 1) {
+        Some(&height) => rule_3::is_far(q.head.gap, height, get(heights, k)),
+        None => true,
     }
-    rules::rule_3::is_far(q.head.gap, get(heights, i), get(heights, k))
 }
 
 // The edge or label j is clear of the height y.
@@ -54,9 +53,8 @@ pub fn is_clear(q: Measures, heights: &[u32], j: u32, y: u32) -> bool
     if j == 0 {
         return true;
     }
-    let i = j - 1;
-    if heights.len() <= i as usize {
-        return true;
+    match heights.get(j as usize - 1) {
+        Some(&height) => rule_5::is_clear(q.head.gap, height, y),
+        None => true,
     }
-    rules::rule_5::is_clear(q.head.gap, get(heights, i), y)
 }

@@ -10,7 +10,7 @@ ghost use Rattle.costs.specs.Costs.{word_by, opening_by, joining_by, first_word_
 
 use arrays::Measures;
 use words::drops::share_of;
-use words::{LENGTH_TOP, NONE, monus, plus_of};
+use words::{LENGTH_TOP, NONE, plus_of};
 
 // Above every count of labels, and above every length: optimum/specs/CostWord has both for definitions.
 const COUNT_LIMIT: u32 = 64;
@@ -40,9 +40,10 @@ fn cost_word(q: Measures, count: u32, length: u32) -> u32
     ensures { result ≡ word_by q count length }
 {
     if q.head.shortest {
-        return length * COUNT_LIMIT + count;
+        length * COUNT_LIMIT + count
+    } else {
+        count * LENGTH_LIMIT + length
     }
-    count * LENGTH_LIMIT + length
 }
 
 // What a step costs: one that opens a label for a site, whose backbone reaches from its x to the width; one that ties it to a label there is.
@@ -50,7 +51,7 @@ pub fn opening_cost(q: Measures, x: u32, height: u32, y: u32) -> u32
     requires { (q.head.width < number_top) × (q.head.charge < number_top) × (height < number_top) × (y < number_top) }
     ensures { result ≡ opening_by q x height y }
 {
-    let backbone = monus(q.head.width, x);
+    let backbone = q.head.width.saturating_sub(x);
     cost_word(q, 1, backbone + share_of(q.head.charge, height, y))
 }
 
@@ -65,8 +66,10 @@ pub fn joining_cost(q: Measures, height: u32, y: u32) -> u32
 pub fn first_word(q: Measures, cost: u32) -> u32
     ensures { result ≡ first_word_by q cost }
 {
-    if q.head.shortest {
-        return LAYOUT_KIND + cost % COUNT_LIMIT * LENGTH_TOP + cost / COUNT_LIMIT;
-    }
-    LAYOUT_KIND + cost / LENGTH_LIMIT * LENGTH_TOP + cost % LENGTH_LIMIT
+    let (count, length) = if q.head.shortest {
+        (cost % COUNT_LIMIT, cost / COUNT_LIMIT)
+    } else {
+        (cost / LENGTH_LIMIT, cost % LENGTH_LIMIT)
+    };
+    LAYOUT_KIND + count * LENGTH_TOP + length
 }

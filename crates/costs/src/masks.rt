@@ -4,8 +4,6 @@ ghost use Rattle.sheet.specs.Limits.{most_budgets};
 ghost use Rattle.search.specs.Radix.{below, mask_of};
 ghost use Rattle.costs.specs.Masks.{Divides};
 
-use words::bit_of;
-
 // w may be taken from the budget v.
 pub fn is_below(radices: &[u32], w: u32, v: u32) -> bool
     requires { Divides radices.now }
@@ -13,15 +11,12 @@ pub fn is_below(radices: &[u32], w: u32, v: u32) -> bool
 {
     let mut a = w;
     let mut b = v;
-    let mut i: usize = 0;
-    while i < radices.len() {
-        let d = radices[i];
-        if a % d > b % d {
+    for &radix in radices {
+        if a % radix > b % radix {
             return false;
         }
-        a = a / d;
-        b = b / d;
-        i += 1;
+        a /= radix;
+        b /= radix;
     }
     a <= b
 }
@@ -33,10 +28,8 @@ pub fn mask_below(radices: &[u32], v: u32) -> u64
     ensures { result ≡ mask_of radices.now v }
 {
     let mut mask: u64 = 0;
-    let mut w = v + 1;
-    while 0 < w {
-        w -= 1;
-        mask = mask * 2 + bit_of(is_below(radices, w, v));
+    for w in (0..v + 1).rev() {
+        mask = mask * 2 + u64::from(is_below(radices, w, v));
     }
     mask
 }

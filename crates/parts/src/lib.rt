@@ -7,7 +7,7 @@ ghost use Rattle.rows.specs.Rows.{strip_of, point_of, rows_of, row_in, Lies, Lev
 ghost use Rattle.parts.specs.Parts.{parts_cost, Marking, PartsMarked};
 
 use arrays::Measures;
-use rows::{Site, Strip, part_places};
+use rows::{PartRows, Site, Strip, part_places};
 
 // What the parts that a label at slot k leaves of a strip cost together, where there is but one budget; the site leaves the mark d in the upper one.
 pub fn parts_cost(
@@ -24,9 +24,7 @@ pub fn parts_cost(
     requires c_lt_colours { (s.c < q.colours) × (k + 1 < p.b) × (d < mark_count) }
     ensures { result ≡ parts_cost (row_in work.now low m q.colours q.budgets) (strip_of p) (point_of s) k d }
 {
-    let at = part_places(q, m, p, s, low, k, d);
-    let upper = at.upper;
-    let lower = at.lower;
+    let PartRows { upper, lower } = part_places(q, m, p, s, low, k, d);
     words::plus_of(work[upper], work[lower])
 }
 
@@ -46,9 +44,7 @@ pub fn mark_parts(
     ensures marking { Marking work.old work.new low (rows_of m q.colours * q.budgets) }
     ensures parts_marked { PartsMarked q work.new low m (strip_of p) (point_of s) k d }
 {
-    let at = part_places(q, m, p, s, low, k, d);
-    let upper = at.upper;
-    let lower = at.lower;
+    let PartRows { upper, lower } = part_places(q, m, p, s, low, k, d);
     work[upper] = 1;
     work[lower] = 1;
 }

@@ -1,11 +1,10 @@
 -- One step of the loops that share a budget. Assumes nothing.
 use mathlib.Core.Path.{◌≡◌, refl, sym, ap, ap₂, ◌∙◌}
-use mathlib.Core.Bool.{Bool, true, false, cond}
+use mathlib.Core.Logic.{◌≢◌}
 use mathlib.Core.List.{List, ◌∷◌}
 use Prim.Native.Nat.{ℕ, zero, suc, ◌+◌, ◌-◌, ◌≤◌, ◌<◌}
 use native.Mathlib.Numerals.{add-one}
 use native.Mathlib.Omega.{arith}
-use lib.Dec.{eqb}
 use lib.ListN.{length, get_or, set, take, replicate, length-set}
 use lib.Seq.{ext_get_or, get_or-set_same, get_or-set_other}
 use borrow.Author.Tests.{ne_eqb}
@@ -20,7 +19,7 @@ use native.Mathlib.Nat.{mul-le-mul}
 use Rattle.rows.specs.Rows.{Lies, level_size}
 use Rattle.rows.proofs.Places.{row_fits, rows_few}
 use Rattle.rows.specs.Budgets.{Within, part_at, split_by}
-use Rattle.rows.specs.Rest.{split_row, row_start, StripIn, LevelIn, join_row, fold_rows}
+use Rattle.rows.specs.Rest.{split_row, row_start, LevelIn, join_row, fold_rows}
 use Rattle.sheet.specs.Limits.{most_slots, most_colours, most_budgets, most_level, most_rows}
 
 -- ---- a row joined from the highest budget down
@@ -61,14 +60,6 @@ pub join-long : (parts counts acc work : List ℕ) (row : ℕ) → length (join_
 unfolding join_row
 join-long parts counts acc work row = length-listing _ 0 (length acc)
 
--- a strip in range is one of its level
-pub lies : (m C R a ca b cb d : ℕ) → StripIn m C R a ca b cb d → Lies m C (record { a = a; ca = ca; b = b; cb = cb; d = d })
-lies m C R a ca b cb d i =
-    record { a_low = omega (arith, i.a_low); ca_low = omega (arith, i.ca_low); b_low = omega (arith, i.b_low); cb_low = omega (arith, i.cb_low); d_low = i.d_low }
-
-pub row_inside : (m C R a ca b cb d : ℕ) → StripIn m C R a ca b cb d → row_start m C R a ca b cb d + R ≤ level_size m C R
-row_inside m C R a ca b cb d i = row_fits m C R _ (lies m C R a ca b cb d i)
-
 -- a level has few words
 pub size : (m C R : ℕ) → m ≤ most_slots → C ≤ most_colours → R ≤ most_budgets → level_size m C R ≤ most_level
 size m C R a b c = mul-le-mul {n₂ = most_rows} {m₂ = most_budgets} (rows_few m C a b) c
@@ -83,21 +74,33 @@ pub record Folding (parts counts work : List ℕ) (base C R : ℕ) (L M start ac
   pub colour : ca ≤ C
   pub same : fold_rows parts counts work base (length L) C R (length L) 0 0 0 L M start ≡ fold_rows parts counts work base (length L) C R (length L - i) i a ca L M acc
 
-pub folding-more : (parts counts work : List ℕ) (base C R : ℕ) (L M start acc : List ℕ) (a ca i : ℕ) (next : List ℕ) (a' ca' : ℕ)
-    → Folding parts counts work base C R L M start acc a ca i → i < length L → get_or L i 0 ≤ C
-    → next ≡ cond (eqb (get_or L i 0) 0) acc (join_row parts counts acc work (base + row_start (length L) C R a ca (i + 1) (get_or L i 0) (get_or M a 0)))
-    → a' ≡ cond (eqb (get_or L i 0) 0) a (i + 1) → ca' ≡ cond (eqb (get_or L i 0) 0) ca (get_or L i 0)
-    → Folding parts counts work base C R L M start next a' ca' (i + 1)
-folding-more parts counts work base C R L M start acc a ca i next a' ca' f l c en ea ec = rw (en, ea, ec) (go (eqb (get_or L i 0) 0) refl)
-  where
-    step : fold_rows parts counts work base (length L) C R (length L - i) i a ca L M acc ≡ fold_rows parts counts work base (length L) C R (suc (length L - (i + 1))) i a ca L M acc
-    step = ap (λ (r : ℕ). fold_rows parts counts work base (length L) C R r i a ca L M acc) (omega arith)
+module _ (parts counts work : List ℕ) (base C R : ℕ) (L M start acc : List ℕ) (a ca i : ℕ) (f : Folding parts counts work base C R L M start acc a ca i) where
+  -- the strip from the last label passed to an end below it
+  pub strip_lies : LevelIn parts counts work base C R L M → (b cb d : ℕ) → b ≤ length L + 1 → cb ≤ C → d ≡ get_or M a 0
+      → Lies (length L) C (record { a = a; ca = ca; b = b; cb = cb; d = d })
+  strip_lies p b cb d h l e =
+      record { a_low = omega (arith, f.above, f.passed); ca_low = omega (arith, f.colour); b_low = omega arith; cb_low = omega arith; d_low = rw e (p.marked a) }
 
-    go : (b : Bool) → eqb (get_or L i 0) 0 ≡ b → Folding parts counts work base C R L M start (cond b acc (join_row parts counts acc work (base + row_start (length L) C R a ca (i + 1) (get_or L i 0) (get_or M a 0)))) (cond b a (i + 1)) (cond b ca (get_or L i 0)) (i + 1)
-    go true e =
-        record { long = f.long; passed = omega arith; above = omega (arith, f.above); colour = f.colour; same = f.same ∙ step ∙ (unfold fold_rows in rw (e, add-one i)) }
-    go false e =
-        record { long = join-long parts counts acc work _ ∙ f.long; passed = omega arith; above = omega arith; colour = c; same = f.same ∙ step ∙ (unfold fold_rows in rw (e, add-one i)) }
+  -- its row lies in the level
+  pub row_inside : LevelIn parts counts work base C R L M → (b cb d row : ℕ) → b ≤ length L + 1 → cb ≤ C → d ≡ get_or M a 0
+      → row ≡ row_start (length L) C R a ca b cb d → base + row + R ≤ length work
+  row_inside p b cb d row h l e r = omega (arith, r, row_fits (length L) C R _ (strip_lies p b cb d h l e), p.within)
+
+  step : i < length L → fold_rows parts counts work base (length L) C R (length L - i) i a ca L M acc ≡ fold_rows parts counts work base (length L) C R (suc (length L - (i + 1))) i a ca L M acc
+  step l = ap (λ (r : ℕ). fold_rows parts counts work base (length L) C R r i a ca L M acc) (omega arith)
+
+  -- a slot without a label
+  pub folding-skip : i < length L → get_or L i 0 ≡ 0 → Folding parts counts work base C R L M start acc a ca (i + 1)
+  unfolding fold_rows
+  folding-skip l e =
+      record { long = f.long; passed = omega arith; above = omega (arith, f.above); colour = f.colour; same = f.same ∙ step l ∙ rw (e, add-one i) }
+
+  -- a label: the strip above it takes its share
+  pub folding-join : i < length L → (get_or L i 0 ≢ 0) → get_or L i 0 ≤ C
+      → Folding parts counts work base C R L M start (join_row parts counts acc work (base + row_start (length L) C R a ca (i + 1) (get_or L i 0) (get_or M a 0))) (i + 1) (get_or L i 0) (i + 1)
+  unfolding fold_rows
+  folding-join l n h =
+      record { long = join-long parts counts acc work _ ∙ f.long; passed = omega arith; above = omega arith; colour = h; same = f.same ∙ step l ∙ rw (ne_eqb (get_or L i 0) 0 n, add-one i) }
 
 pub folding-all : (parts counts work : List ℕ) (base C R : ℕ) (L M start acc : List ℕ) (a ca i : ℕ) → Folding parts counts work base C R L M start acc a ca i → length L ≤ i
     → join_row parts counts acc work (base + row_start (length L) C R a ca (length L + 1) 0 (get_or M a 0)) ≡ fold_rows parts counts work base (length L) C R (length L) 0 0 0 L M start
@@ -106,21 +109,6 @@ folding-all parts counts work base C R L M start acc a ca i f h =
     let e : i ≡ length L = omega (arith, f.passed) in
     let z : length L - i ≡ 0 = omega arith in
     sym (f.same ∙ rw z (rw (e, add-one (length L))))
-
--- the strip above the bottom edge
-pub last-strip : (parts counts work : List ℕ) (base C R : ℕ) (L M start acc : List ℕ) (a ca i : ℕ) → LevelIn parts counts work base C R L M → Folding parts counts work base C R L M start acc a ca i
-    → StripIn (length L) C R a ca (length L + 1) 0 (get_or M a 0)
-last-strip parts counts work base C R L M start acc a ca i p f =
-    record {
-      few_slots = p.few_slots;
-      few_colours = p.few_colours;
-      few_budgets = p.splits.few;
-      a_low = omega (arith, f.above, f.passed);
-      ca_low = f.colour;
-      b_low = omega arith;
-      cb_low = omega arith;
-      d_low = p.marked a;
-    }
 
 -- ---- the row that takes nothing and costs nothing
 

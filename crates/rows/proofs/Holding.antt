@@ -1,13 +1,12 @@
 -- The loop that looks for the strip which holds a height. Assumes nothing.
 use mathlib.Core.Path.{◌≡◌, sym, ap, ◌∙◌}
-use mathlib.Core.Bool.{true, false, cond, not, ◌&&◌}
+use mathlib.Core.Logic.{◌≢◌}
 use mathlib.Core.List.{List}
-use Prim.Native.Nat.{ℕ, suc, ◌+◌, ◌-◌, ◌<◌}
+use Prim.Native.Nat.{ℕ, suc, ◌+◌, ◌-◌, ◌<◌, ◌≤◌}
 use native.Mathlib.Numerals.{add-one}
 use native.Mathlib.Omega.{arith}
-use lib.Dec.{eqb, ltb}
 use lib.ListN.{length, get_or}
-use Rattle.lists.proofs.Tests.{by-test, clash}
+use borrow.Author.Tests.{ne_eqb, le-ltb, lt-ltb}
 use Rattle.arrays.specs.declared.Measures.{Measures}
 use Rattle.arrays.specs.Arrays.{instance_by}
 use Rattle.optimum.specs.Strips.{Instance, hold, hold_from}
@@ -26,23 +25,21 @@ module _ (hs L M : List ℕ) (y : ℕ) where
   step : (P : Instance) (i a ca : ℕ) → i < length hs → hold_from P (length hs - i) i a ca L M y ≡ hold_from P (suc (length hs - (i + 1))) i a ca L M y
   step P i a ca l = ap (λ (r : ℕ). hold_from P r i a ca L M y) (omega arith)
 
-  pub looking-more : (a ca i : ℕ) → Looking a ca i → i < length hs → not (eqb (get_or L i 0) 0) && ltb y (get_or hs i 0) ≡ false
-      → Looking (cond (eqb (get_or L i 0) 0) a (i + 1)) (cond (eqb (get_or L i 0) 0) ca (get_or L i 0)) (i + 1)
+  -- a slot without a label; a label above the height; one below it
+  pub looking-skip : (a ca i : ℕ) → Looking a ca i → i < length hs → get_or L i 0 ≡ 0 → Looking a ca (i + 1)
   unfolding Looking hold_from
-  looking-more a ca i f l t q bs rs ds =
-      f q bs rs ds ∙ step (instance_by q hs bs rs ds) i a ca l
-      ∙ by-test (eqb (get_or L i 0) 0)
-      (λ e. rw (e, add-one i))
-      (λ e. let u : ltb y (get_or hs i 0) ≡ false = rw e at t in rw (e, u, add-one i))
+  looking-skip a ca i f l e q bs rs ds = f q bs rs ds ∙ step (instance_by q hs bs rs ds) i a ca l ∙ rw (e, add-one i)
 
-  pub looking-here : (a ca i : ℕ) → Looking a ca i → i < length hs → not (eqb (get_or L i 0) 0) && ltb y (get_or hs i 0) ≡ true
+  pub looking-past : (a ca i : ℕ) → Looking a ca i → i < length hs → (get_or L i 0 ≢ 0) → get_or hs i 0 ≤ y → Looking (i + 1) (get_or L i 0) (i + 1)
+  unfolding Looking hold_from
+  looking-past a ca i f l n h q bs rs ds =
+      f q bs rs ds ∙ step (instance_by q hs bs rs ds) i a ca l ∙ rw (ne_eqb (get_or L i 0) 0 n, le-ltb _ _ h, add-one i)
+
+  pub looking-here : (a ca i : ℕ) → Looking a ca i → i < length hs → (get_or L i 0 ≢ 0) → y < get_or hs i 0
       → (q : Measures) (bs rs ds : List ℕ) → record { a = a; ca = ca; b = i + 1; cb = get_or L i 0; d = get_or M a 0 } ≡ hold (instance_by q hs bs rs ds) L M y
   unfolding Looking hold_from
-  looking-here a ca i f l t q bs rs ds =
-      sym (f q bs rs ds ∙ step (instance_by q hs bs rs ds) i a ca l
-      ∙ by-test (eqb (get_or L i 0) 0)
-      (λ e. clash t (rw e))
-      (λ e. let u : ltb y (get_or hs i 0) ≡ true = rw e at t in rw (e, u, add-one i)))
+  looking-here a ca i f l n h q bs rs ds =
+      sym (f q bs rs ds ∙ step (instance_by q hs bs rs ds) i a ca l ∙ rw (ne_eqb (get_or L i 0) 0 n, lt-ltb _ _ h, add-one i))
 
   pub looking-end : (a ca i : ℕ) → Looking a ca i → i ≡ length hs
       → (q : Measures) (bs rs ds : List ℕ) → record { a = a; ca = ca; b = length hs + 1; cb = 0; d = get_or M a 0 } ≡ hold (instance_by q hs bs rs ds) L M y

@@ -1,11 +1,13 @@
 -- How the lists grow, number by number and row by row. Assumes nothing.
 use mathlib.Core.Path.{◌≡◌, refl, ◌∙◌}
-use mathlib.Core.Bool.{true, false, cond}
+use mathlib.Core.Bool.{true, false}
 use mathlib.Core.List.{List}
 use Prim.Native.Nat.{ℕ, ◌+◌, ◌<◌, min}
 use native.Mathlib.Omega.{arith}
 use native.Mathlib.Numerals.{add-one}
+use Rattle.std.proofs.Common.{add-zero}
 use lib.ListN.{length, get_or, set}
+use mir.Val.{bool_byte}
 use lib.Seq.{get_or-set_same, get_or-set_other}
 use Rattle.lists.proofs.Tests.{by-test, by_order, clash}
 use Rattle.search.specs.Cost.{plus, least}
@@ -47,11 +49,11 @@ listed_same rs v w n old at same r = record {
 
 -- the next number is written down, and counted if it may be taken
 pub listed_next : (rs : List ℕ) (v w n : ℕ) (old at : ℕ → ℕ) → ((i : ℕ) → i < n → at i ≡ old i) → at n ≡ w
-    → Listed rs v w n old → Listed rs v (w + 1) (cond (below rs w v) (n + 1) n) at
+    → Listed rs v w n old → Listed rs v (w + 1) (n + bool_byte (below rs w v)) at
 listed_next rs v w n old at same last r =
     by-test (below rs w v)
     (λ e. rw e (listed_more rs v w n old at e same last r))
-    (λ e. rw e (listed-skip rs v w n at e (listed_same rs v w n old at same r)))
+    (λ e. rw (e, add-zero n) (listed-skip rs v w n at e (listed_same rs v w n old at same r)))
 
 pub others-none : (old : List ℕ) (from count : ℕ) → Others old old from count
 others-none old from count = record { before = λ i l. refl; after = λ i l. refl }

@@ -1,7 +1,7 @@
 -- REST, as code folds it: the strips of the open labels take their shares one after the other, by rising slot. The table's
 -- entries are words of the work area, and lists say which shares may be taken from each budget. Definitions.
 use Rattle.std.specs.Prelude.{cond, List, ℕ, zero, suc, ◌+◌, ◌*◌, ◌≤◌, ◌<◌, eqb, length, get_or}
-use Rattle.sheet.specs.Limits.{most_slots, most_colours, most_budgets}
+use Rattle.sheet.specs.Limits.{most_slots, most_colours}
 use Rattle.search.specs.Split.{just}
 use Rattle.search.specs.Sums.{listing}
 use Rattle.optimum.specs.OneSided.{top_word, mark_count}
@@ -12,17 +12,6 @@ use Rattle.rows.specs.Rows.{level_size}
 -- where the entries of a strip begin in its level: m slots, C colours, R budgets
 abbrev pub row_start : (m C R a ca b cb d : ℕ) → ℕ
 row_start m C R a ca b cb d = rows.row_of m C (record { a = a; ca = ca; b = b; cb = cb; d = d }) * R
-
--- the numbers are a sheet's, and a strip's ends, colours and mark are in range
-pub record StripIn (m C R a ca b cb d : ℕ) : Type 0 where
-  pub few_slots : m ≤ most_slots
-  pub few_colours : C ≤ most_colours
-  pub few_budgets : R ≤ most_budgets
-  pub a_low : a ≤ m + 1
-  pub ca_low : ca ≤ C
-  pub b_low : b ≤ m + 1
-  pub cb_low : cb ≤ C
-  pub d_low : d < mark_count
 
 -- a level stands in the work area from the word `base` on, what may be taken from each budget is listed, the labels' colours are the sheet's,
 -- and the marks are in range

@@ -4,26 +4,14 @@ ghost use Rattle.sheet.specs.Limits.{most_budgets};
 ghost use Rattle.costs.specs.Masks.{Divides};
 ghost use Rattle.rows.specs.Budgets.{Listed, Others, Splits, Within, part_at, splits_length, split_by, left_by};
 
-// An array with a place for each budget, and one with as many for each: rows/specs/Budgets has both lengths for definitions.
-pub const BUDGETS_LENGTH: usize = 64;
-
-pub const SPLITS_LENGTH: usize = 4096;
+pub use arrays::splits::{BUDGETS_LENGTH, SPLITS_LENGTH};
+use costs::masks::{is_below, mask_below};
 
 // A byte that is no budget.
 const NOT_DRAWN: u8 = 255;
 
-// The cost of "none" (words), as a sum of two costs holds it.
-const NONE: u64 = 4294967295;
-
-fn counted(n: u8, one_more: bool) -> u8
-    requires { n < most_budgets }
-    ensures { result ≡ cond one_more (n + 1) n }
-{
-    if one_more {
-        return n + 1;
-    }
-    n
-}
+// The cost of "none", as a sum of two costs holds it.
+const NONE: u64 = words::NONE as u64;
 
 // Lists what may be taken from v, in its own part of the list; returns how many there are.
 fn list_below(radices: &[u32], v: usize, parts: &mut [u8]) -> u8
@@ -33,14 +21,12 @@ fn list_below(radices: &[u32], v: usize, parts: &mut [u8]) -> u8
     ensures others { Others parts.old parts.new (v * most_budgets) most_budgets }
 {
     let base = v * BUDGETS_LENGTH;
-    let mut mask = costs::masks::mask_below(radices, v as u32);
+    let mut mask = mask_below(radices, v as u32);
     let mut count: u8 = 0;
-    let mut w: u8 = 0;
-    while (w as usize) <= v {
-        parts[base + count as usize] = w;
-        count = counted(count, mask % 2 == 1);
-        mask = mask / 2;
-        w += 1;
+    for w in 0..v + 1 {
+        parts[base + count as usize] = w as u8;
+        count += u8::from(mask % 2 == 1);
+        mask /= 2;
     }
     count
 }
@@ -51,21 +37,9 @@ pub fn list_splits(radices: &[u32], budgets: usize, parts: &mut [u8], counts: &m
     requires budgets_le_most_budgets { (budgets ≤ most_budgets) × (length parts.old ≡ splits_length) × (length counts.old ≡ most_budgets) }
     ensures { Splits radices.now budgets parts.new counts.new }
 {
-    let mut v: usize = 0;
-    while v < budgets {
-        let n = list_below(radices, v, parts);
-        counts[v] = n;
-        v += 1;
+    for v in 0..budgets {
+        counts[v] = list_below(radices, v, parts);
     }
-}
-
-fn lower(a: u64, b: u64) -> u64
-    ensures { result ≡ min a b }
-{
-    if b < a {
-        return b;
-    }
-    a
 }
 
 // The least cost of sharing u between the rows f and g, which start at two places of two areas.
@@ -84,13 +58,10 @@ pub fn least_split(
 {
     let base = u * BUDGETS_LENGTH;
     let end = at + u;
-    let n = counts[u] as usize;
     let mut best = NONE;
-    let mut i: usize = 0;
-    while i < n {
+    for i in 0..counts[u] as usize {
         let w = parts[base + i] as usize;
-        best = lower(best, (f[from + w] as u64) + (g[end - w] as u64));
-        i += 1;
+        best = best.min(u64::from(f[from + w]) + u64::from(g[end - w]));
     }
     best as u32
 }
@@ -100,10 +71,11 @@ fn left_of(radices: &[u32], draw: u32, v: u8) -> u8
     requires { Divides radices.now }
     ensures { result ≡ left_by radices.now draw v }
 {
-    if costs::masks::is_below(radices, draw, v as u32) {
-        return v - draw as u8;
+    if is_below(radices, draw, u32::from(v)) {
+        v - draw as u8
+    } else {
+        NOT_DRAWN
     }
-    NOT_DRAWN
 }
 
 // The same for each budget below P.
@@ -112,9 +84,7 @@ pub fn list_left(radices: &[u32], draw: u32, budgets: usize, left: &mut [u8])
     requires budgets_le_most_budgets { (budgets ≤ most_budgets) × (budgets ≤ length left.old) }
     ensures { (v : ℕ) → v < budgets → get_or left.new v 0 ≡ left_by radices.now draw v }
 {
-    let mut v: usize = 0;
-    while v < budgets {
+    for v in 0..budgets {
         left[v] = left_of(radices, draw, v as u8);
-        v += 1;
     }
 }

@@ -99,13 +99,7 @@ pub fn row_place(q: Measures, m: usize, p: Strip) -> usize
 pub fn marked_by(p: Strip, d: u32) -> Strip
     ensures { strip_of result ≡ marked_by d (strip_of p) }
 {
-    Strip {
-        a: p.a,
-        ca: p.ca,
-        b: p.b,
-        cb: p.cb,
-        d: d,
-    }
+    Strip { d, ..p }
 }
 
 // The places of the rows of the two parts that a label at slot k leaves of a strip; the site leaves the mark d in the upper one.
@@ -158,13 +152,7 @@ pub fn next_below(colours: u32, p: Strip) -> Strip
     ensures { (result.a ≡ p.a) × (result.ca ≡ p.ca) × (result.cb ≤ colours) × (result.d < mark_count) × (low_place colours (strip_of result) ≡ low_place colours (strip_of p) + 1) }
 {
     if (p.d as usize) + 1 < MARK_COUNT {
-        return Strip {
-            a: p.a,
-            ca: p.ca,
-            b: p.b,
-            cb: p.cb,
-            d: p.d + 1,
-        };
+        return Strip { d: p.d + 1, ..p };
     }
     let e = next_end(
         colours,
@@ -174,11 +162,10 @@ pub fn next_below(colours: u32, p: Strip) -> Strip
         },
     );
     Strip {
-        a: p.a,
-        ca: p.ca,
         b: e.slot,
         cb: e.colour,
         d: 0,
+        ..p
     }
 }
 
@@ -186,9 +173,10 @@ pub fn is_upper_end(e: End) -> bool
     ensures { result ≡ upper_end e.slot e.colour }
 {
     if e.slot == 0 {
-        return e.colour == 0;
+        e.colour == 0
+    } else {
+        0 < e.colour
     }
-    0 < e.colour
 }
 
 // The strip that holds the height y, with its mark.
@@ -196,33 +184,20 @@ pub fn hold_of(heights: &[u32], labels: &[u32], marks: &[u32], y: u32) -> Strip
     requires { (length labels.now ≡ length heights.now) × (length heights.now ≤ most_slots) }
     ensures { (q : measured.Measures) (bs rs ds : List ℕ) → strip_of result ≡ model.hold (instance_by q heights.now bs rs ds) labels.now marks.now y }
 {
-    let m = labels.len();
-    let mut a: u32 = 0;
-    let mut ca: u32 = 0;
-    let mut i: usize = 0;
-    while i < m {
-        let e = labels[i];
-        let none = e == 0;
-        let b = i as u32 + 1;
-        if words::both(!none, y < heights[i]) {
-            return Strip {
-                a: a,
-                ca: ca,
-                b: b,
-                cb: e,
-                d: words::get(marks, a),
-            };
+    let mut a = 0;
+    let mut ca = 0;
+    for (i, &cb) in labels.iter().enumerate() {
+        if cb != 0 {
+            let b = i as u32 + 1;
+            if y < heights[i] {
+                let d = words::get(marks, a);
+                return Strip { a, ca, b, cb, d };
+            }
+            a = b;
+            ca = cb;
         }
-        a = words::choose(none, a, b);
-        ca = words::choose(none, ca, e);
-        i += 1;
     }
-    let end = m as u32 + 1;
-    Strip {
-        a: a,
-        ca: ca,
-        b: end,
-        cb: 0,
-        d: words::get(marks, a),
-    }
+    let b = labels.len() as u32 + 1;
+    let d = words::get(marks, a);
+    Strip { a, ca, b, cb: 0, d }
 }

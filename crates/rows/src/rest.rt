@@ -1,9 +1,9 @@
 // REST: the least cost of tying the sites of a level in the strips of the open labels, which share the budget.
-ghost use Rattle.std.specs.Prelude.{◌≡◌, cond, ◌+◌, ◌*◌, ◌<◌, ◌≤◌, eqb, length, get_or};
+ghost use Rattle.std.specs.Prelude.{◌≡◌, ◌+◌, ◌*◌, ◌<◌, ◌≤◌, length, get_or};
 ghost use Rattle.sheet.specs.Limits.{most_slots, most_colours, most_budgets};
 ghost use Rattle.rows.specs.Budgets.{Within};
 ghost use Rattle.rows.specs.Rows.{level_size};
-ghost use Rattle.rows.specs.Rest.{row_start, StripIn, LevelIn, join_row, fold_rows, rest_rows};
+ghost use Rattle.rows.specs.Rest.{LevelIn, join_row, fold_rows, rest_rows};
 
 use crate::budgets::{BUDGETS_LENGTH, least_split};
 use crate::{Strip, row_place, rows_of};
@@ -22,53 +22,9 @@ fn join_row(parts: &[u8], counts: &[u8], acc: &mut [u32], work: &[u32], row: usi
     requires { Within (length acc.old) parts.now counts.now × (row + length acc.old ≤ length work.now) }
     ensures { acc.new ≡ join_row parts.now counts.now acc.old work.now row }
 {
-    let n = acc.len();
-    let mut v = n;
-    while v > 0 {
-        v -= 1;
+    for v in (0..acc.len()).rev() {
         acc[v] = least_split(parts, counts, acc, 0, work, row, v);
     }
-}
-
-// Where the entries of a strip begin in its level, of m slots.
-fn row_start(q: Measures, m: usize, a: u32, ca: u32, b: u32, cb: u32, d: u32) -> usize
-    requires { StripIn m q.colours q.budgets a ca b cb d }
-    ensures { result ≡ row_start m q.colours q.budgets a ca b cb d }
-{
-    let strip = Strip {
-        a: a,
-        ca: ca,
-        b: b,
-        cb: cb,
-        d: d,
-    };
-    row_place(q, m, strip)
-}
-
-// The strip from the label a to the slot before the place b takes its share, if that slot has a label.
-fn fold_at(
-    parts: &[u8],
-    counts: &[u8],
-    work: &[u32],
-    base: usize,
-    q: Measures,
-    m: usize,
-    a: u32,
-    ca: u32,
-    b: u32,
-    cb: u32,
-    d: u32,
-    acc: &mut [u32],
-)
-    requires strip_in { StripIn m q.colours q.budgets a ca b cb d }
-    requires acc_len { (length acc.old ≡ q.budgets) × Within q.budgets parts.now counts.now × (base + level_size m q.colours q.budgets ≤ length work.now) }
-    ensures { acc.new ≡ cond (eqb cb 0) acc.old (join_row parts.now counts.now acc.old work.now (base + row_start m q.colours q.budgets a ca b cb d)) }
-{
-    if cb == 0 {
-        return;
-    }
-    let row = base + row_start(q, m, a, ca, b, cb, d);
-    join_row(parts, counts, acc, work, row);
 }
 
 // All strips of the open labels, with their marks, take their shares, by rising slot; what the budget v then costs.
@@ -90,23 +46,21 @@ fn fold_rows(
     let m = labels.len();
     let mut a: u32 = 0;
     let mut ca: u32 = 0;
-    let mut i: usize = 0;
-    while i < m {
-        let e = labels[i];
-        let b = i as u32 + 1;
-        let d = words::get(marks, a);
-        fold_at(parts, counts, work, base, q, m, a, ca, b, e, d, acc);
-        let none = e == 0;
-        a = words::choose(none, a, b);
-        ca = words::choose(none, ca, e);
-        i += 1;
+    for (i, &cb) in labels.iter().enumerate() {
+        if cb != 0 {
+            let b = i as u32 + 1;
+            let d = words::get(marks, a);
+            let row = base + row_place(q, m, Strip { a, ca, b, cb, d });
+            join_row(parts, counts, acc, work, row);
+            a = b;
+            ca = cb;
+        }
     }
-    let end = m as u32 + 1;
+    let b = m as u32 + 1;
     let d = words::get(marks, a);
-    let row = base + row_start(q, m, a, ca, end, 0, d);
+    let row = base + row_place(q, m, Strip { a, ca, b, cb: 0, d });
     join_row(parts, counts, acc, work, row);
-    let at = v as usize;
-    acc[at]
+    acc[v as usize]
 }
 
 // REST: the least cost of tying the sites of a level in the strips of the open labels, which share the budget v.

@@ -7,6 +7,7 @@ use native.Mathlib.Omega.{arith}
 use lib.Bits.{bit_or, or_step, or_zero_l}
 use lib.Dec.{eqb}
 use lib.Pow.{pow_mono}
+use mir.Val.{bool_byte}
 use Rattle.search.specs.Masks.{mask_by, mask_from, mask_bits, mask_top}
 
 -- ---- the lowest bit and the others
@@ -25,6 +26,11 @@ is_one false = refl
 
 low_bit : (m : ℕ) (t : Bool) → eqb ((m * 2 + cond t 1 0) % 2) 1 ≡ t
 low_bit m t = ap (λ (b : ℕ). eqb b 1) (odd m t) ∙ is_one t
+
+-- a test as the number that code makes of it
+pub bit-of : (t : Bool) → bool_byte t ≡ cond t 1 0
+bit-of true = refl
+bit-of false = refl
 
 pub bit-small : (t : Bool) → cond t 1 0 < 2
 bit-small true = omega arith

@@ -1,5 +1,6 @@
 // The decisions on one strip: does the site lie in it, which slots may open a label, which may be joined, and what a step costs.
-// Each is the model's definition for the instance of these arrays.
+// Each is the model's definition for the instance of these arrays. Tests are joined by `&`, as in the definitions: none is dear, and
+// code without branches is shown equal to its definition in one line.
 #![tactic(auto)]
 
 ghost use Rattle.std.specs.Prelude.{◌≡◌, List, ℕ, ◌+◌, ◌<◌, ◌≤◌, length};
@@ -15,9 +16,10 @@ ghost use Rattle.strips.specs.Steps.{price_in, budget_left};
 
 use arrays::Measures;
 use arrays::places::{is_clear, is_far, is_over, is_under};
+use costs::masks::is_below;
 use costs::{joining_cost, opening_cost};
 use rows::{Site, Strip};
-use words::{NONE, both, choose, either, get, is_not, less, monus, same};
+use words::{NONE, get};
 
 // The slots from `from` up to, not with, `to`.
 #[derive(Drop)]
@@ -37,7 +39,7 @@ pub struct Step {
 pub fn is_inside(heights: &[u32], p: Strip, s: Site) -> bool
     ensures { (q : measured.Measures) (bs : List ℕ) → result ≡ model.inside (instance_on q heights.now bs) (strip_of p) (point_of s) }
 {
-    both(is_over(heights, p.a, s.y), is_under(heights, p.b, s.y))
+    is_over(heights, p.a, s.y) & is_under(heights, p.b, s.y)
 }
 
 // The first slot between the strip's ends that the upper end lets open a label.
@@ -46,15 +48,13 @@ fn first_far(q: Measures, heights: &[u32], p: Strip, s: Site) -> u32
     ensures { FirstFar (slots_by q heights.now) (strip_of p) (point_of s) result }
 {
     let c = s.c + 1;
-    let end = monus(p.b, 1);
-    let mut k = p.a;
-    while k < end {
+    let end = p.b.saturating_sub(1);
+    for k in p.a..end {
         if is_far(q, heights, p.a, p.ca, k, c) {
             return k;
         }
-        k += 1;
     }
-    k
+    p.a.max(end)
 }
 
 // The end of the slots from `from` on that the lower end lets open a label.
@@ -63,12 +63,10 @@ fn far_end(q: Measures, heights: &[u32], p: Strip, s: Site, from: u32) -> u32
     ensures { FarEnd (slots_by q heights.now) (strip_of p) (point_of s) from result }
 {
     let c = s.c + 1;
-    let mut k = monus(p.b, 1);
-    while from < k {
-        if is_far(q, heights, p.b, p.cb, k - 1, c) {
-            return k;
+    for k in (from..p.b.saturating_sub(1)).rev() {
+        if is_far(q, heights, p.b, p.cb, k, c) {
+            return k + 1;
         }
-        k -= 1;
     }
     from
 }
@@ -103,12 +101,8 @@ pub fn site_opens(q: Measures, heights: &[u32], bounds: &[u32], p: Strip, s: Sit
     ensures { result ≡ site_opens (instance_on q heights.now bounds.now) (strip_of p) (point_of s) }
 {
     let c = s.c as usize;
-    let clear = both(
-        is_clear(q, heights, p.a, s.y),
-        is_clear(q, heights, p.b, s.y),
-    );
-    let free = both(clear, is_not(same(bounds[c], 0)));
-    both(free, is_not(is_held(heights, p, s)))
+    let clear = is_clear(q, heights, p.a, s.y) & is_clear(q, heights, p.b, s.y);
+    clear & (bounds[c] != 0) & !is_held(heights, p, s)
 }
 
 // The site may open no label at slot k.
@@ -126,16 +120,10 @@ fn opens(q: Measures, heights: &[u32], bounds: &[u32], p: Strip, s: Site, k: u32
 {
     let c = s.c + 1;
     let low = (k as usize) < heights.len();
-    let between = both(both(less(p.a, k + 1), less(k + 1, p.b)), low);
-    let gap = both(
-        is_far(q, heights, p.a, p.ca, k, c),
-        is_far(q, heights, p.b, p.cb, k, c),
-    );
-    let free = both(
-        site_opens(q, heights, bounds, p, s),
-        is_not(is_barred(s, k)),
-    );
-    both(between, both(gap, free))
+    let between = (p.a < k + 1) & (k + 1 < p.b) & low;
+    let gap = is_far(q, heights, p.a, p.ca, k, c) & is_far(q, heights, p.b, p.cb, k, c);
+    let free = site_opens(q, heights, bounds, p, s) & !is_barred(s, k);
+    between & (gap & free)
 }
 
 // It may join the label above, at slot k; the label below.
@@ -143,9 +131,8 @@ fn joins_up(q: Measures, heights: &[u32], p: Strip, s: Site, k: u32) -> bool
     requires { (s.c < most_colours) × (k ≤ most_slots) }
     ensures { (bs : List ℕ) → result ≡ model.joins_up (instance_on q heights.now bs) (strip_of p) (point_of s) k }
 {
-    let own = both(same(p.a, k + 1), same(p.ca, s.c + 1));
-    let clear = both(own, is_clear(q, heights, p.b, s.y));
-    both(clear, is_not(is_held(heights, p, s)))
+    let own = (p.a == k + 1) & (p.ca == s.c + 1);
+    own & is_clear(q, heights, p.b, s.y) & !is_held(heights, p, s)
 }
 
 fn joins_down(q: Measures, heights: &[u32], p: Strip, s: Site, k: u32) -> bool
@@ -153,8 +140,8 @@ fn joins_down(q: Measures, heights: &[u32], p: Strip, s: Site, k: u32) -> bool
     ensures { (bs : List ℕ) → result ≡ model.joins_down (instance_on q heights.now bs) (strip_of p) (point_of s) k }
 {
     let low = (k as usize) < heights.len();
-    let own = both(both(same(p.b, k + 1), low), same(p.cb, s.c + 1));
-    both(own, is_clear(q, heights, p.a, s.y))
+    let own = (p.b == k + 1) & low & (p.cb == s.c + 1);
+    own & is_clear(q, heights, p.a, s.y)
 }
 
 // What it costs to open a label at slot k, NONE if the slot is barred; to join one there.
@@ -162,8 +149,11 @@ pub fn open_cost(q: Measures, heights: &[u32], s: Site, k: u32) -> u32
     requires { OfSheet (on_slots q heights.now) × SiteIn q (point_of s) × (k ≤ most_slots) }
     ensures { result ≡ open_cost q heights.now (point_of s) k }
 {
-    let cost = opening_cost(q, s.x, get(heights, k), s.y);
-    choose(is_barred(s, k), NONE, cost)
+    if is_barred(s, k) {
+        NONE
+    } else {
+        opening_cost(q, s.x, get(heights, k), s.y)
+    }
 }
 
 fn join_cost(q: Measures, heights: &[u32], s: Site, k: u32) -> u32
@@ -178,32 +168,38 @@ pub fn rise_cost(q: Measures, heights: &[u32], p: Strip, s: Site) -> u32
     requires { OfSheet (on_slots q heights.now) × SiteIn q (point_of s) × Lies (length heights.now) q.colours (strip_of p) }
     ensures { (bs : List ℕ) → result ≡ rise_cost q heights.now bs (strip_of p) (point_of s) }
 {
-    let up = monus(p.a, 1);
+    let up = p.a.saturating_sub(1);
     let slot = (up as usize) < heights.len();
-    let above = both(slot, joins_up(q, heights, p, s, up));
-    choose(above, join_cost(q, heights, s, up), NONE)
+    if slot & joins_up(q, heights, p, s, up) {
+        join_cost(q, heights, s, up)
+    } else {
+        NONE
+    }
 }
 
 pub fn fall_cost(q: Measures, heights: &[u32], p: Strip, s: Site) -> u32
     requires { OfSheet (on_slots q heights.now) × SiteIn q (point_of s) × Lies (length heights.now) q.colours (strip_of p) }
     ensures { (bs : List ℕ) → result ≡ fall_cost q heights.now bs (strip_of p) (point_of s) }
 {
-    let down = monus(p.b, 1);
-    let below = joins_down(q, heights, p, s, down);
-    choose(below, join_cost(q, heights, s, down), NONE)
+    let down = p.b.saturating_sub(1);
+    if joins_down(q, heights, p, s, down) {
+        join_cost(q, heights, s, down)
+    } else {
+        NONE
+    }
 }
 
 // The strip as the site leaves it that joins the label above; the label below.
 pub fn risen_of(heights: &[u32], p: Strip, s: Site) -> Strip
     ensures { strip_of result ≡ risen heights.now (strip_of p) (point_of s) }
 {
-    rows::marked_by(p, turn_at(heights, s, monus(p.a, 1)))
+    rows::marked_by(p, turn_at(heights, s, p.a.saturating_sub(1)))
 }
 
 pub fn fallen_of(heights: &[u32], p: Strip, s: Site) -> Strip
     ensures { strip_of result ≡ fallen heights.now (strip_of p) (point_of s) }
 {
-    rows::marked_by(p, turn_at(heights, s, monus(p.b, 1)))
+    rows::marked_by(p, turn_at(heights, s, p.b.saturating_sub(1)))
 }
 
 // The step that ties the site to slot k with the budget v.
@@ -227,18 +223,19 @@ pub fn step_of(
 {
     if opens(q, heights, bounds, p, s, k) {
         let draw = get(draws, s.c);
-        let cost = open_cost(q, heights, s, k);
-        return Step {
-            left: monus(v, draw),
-            price: choose(costs::masks::is_below(radices, draw, v), cost, NONE),
+        let left = v.saturating_sub(draw);
+        let price = if is_below(radices, draw, v) {
+            open_cost(q, heights, s, k)
+        } else {
+            NONE
         };
+        return Step { left, price };
     }
-    let joins = either(
-        joins_up(q, heights, p, s, k),
-        joins_down(q, heights, p, s, k),
-    );
-    Step {
-        left: v,
-        price: choose(joins, join_cost(q, heights, s, k), NONE),
-    }
+    let joins = joins_up(q, heights, p, s, k) | joins_down(q, heights, p, s, k);
+    let price = if joins {
+        join_cost(q, heights, s, k)
+    } else {
+        NONE
+    };
+    Step { left: v, price }
 }

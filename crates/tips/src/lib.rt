@@ -8,18 +8,14 @@ ghost use Rattle.arrays.specs.Arrays.{near_slots, barred_by};
 
 use arrays::Measures;
 use rules::rule_5::{is_clear, is_counted};
-use words::bit_of;
-
 // The slots that are not clear of a site of height y, as bits.
 fn near_slots(gap: u32, heights: &[u32], y: u32) -> u64
     requires { length heights.now ≤ most_slots }
     ensures { result ≡ near_slots gap heights.now y }
 {
     let mut near: u64 = 0;
-    let mut k = heights.len();
-    while 0 < k {
-        k -= 1;
-        near = near * 2 + bit_of(!is_clear(gap, heights[k], y));
+    for k in (0..heights.len()).rev() {
+        near = near * 2 + u64::from(!is_clear(gap, heights[k], y));
     }
     near
 }
@@ -32,12 +28,10 @@ pub fn barred_of(q: Measures, heights: &[u32], xs: &[u32], ys: &[u32], j: usize)
     let gap = q.head.gap;
     let x = xs[j];
     let mut barred: u64 = 0;
-    let mut i: usize = 0;
-    while i < j {
+    for i in 0..j {
         if is_counted(gap, x, xs[i]) {
-            barred = barred | near_slots(gap, heights, ys[i]);
+            barred |= near_slots(gap, heights, ys[i]);
         }
-        i += 1;
     }
     barred
 }

@@ -1,26 +1,28 @@
-use mathlib.Core.Path.{◌≡◌, sym, ◌∙◌}
+use mathlib.Core.Path.{◌≡◌}
 use native.Mathlib.Omega.{arith}
 use lib.ListN.{length}
-use Rattle.rows.proofs.Holding.{looking-none, looking-more, looking-here, looking-end}
+use Rattle.rows.proofs.Holding.{looking-none, looking-skip, looking-past, looking-here, looking-end}
 use Rattle.rows.proofs.hold_of.Goals as goal
+use Rattle.rows.proofs.hold_of.Goals.{then-cb-ne0+else-y-heights, else-cb-ne0}
 
 pub loop-i-init : goal.loop-i-init
-loop-i-init c = (omega arith, looking-none _ _ _ _)
+loop-i-init c = looking-none _ _ _ _
 
-pub returns-then-both : goal.returns-then-both
-returns-then-both c =
+pub returns-then-y-heights : goal.returns-then-y-heights
+returns-then-y-heights c =
     let l = c.loop-i in
-    rw c.get.ensures
-    (looking-here _ _ _ _ _ _ _ l.invariant.1 (omega (arith, c.requires)) (sym c.both.ensures ∙ c.if-both.true))
+    rw c.get-d.ensures (looking-here _ _ _ _ _ _ l.i l.invariant (omega (arith, c.requires)) c.if-cb-ne0.true c.if-y-heights.true)
 
 pub loop-i-preserved : goal.loop-i-preserved
 loop-i-preserved c =
     let l = c.loop-i in
-    let more = looking-more _ _ _ _ _ _ _ l.invariant.1 (omega (arith, c.requires)) (sym c.both.ensures ∙ c.if-both.false) in
-    (omega arith, rw (c.choose-a.ensures, c.choose-ca.ensures) more)
+    elim c.if-cb-ne0.branch [
+      | then-cb-ne0+else-y-heights w ↦ rw (w.a-is, w.ca-is) (looking-past _ _ _ _ _ _ l.i l.invariant (omega (arith, c.requires)) w.if-cb-ne0.true w.if-y-heights.false)
+      | else-cb-ne0 w ↦ rw (w.a-is, w.ca-is) (looking-skip _ _ _ _ _ _ l.i l.invariant (omega (arith, c.requires)) w.if-cb-ne0.false)
+    ]
 
 pub returns : goal.returns
 returns c =
     let l = c.loop-i in
-    let end : l.i ≡ length c.args.heights.now = omega (arith, c.requires, l.invariant.0, c.loop-i-test.false) in
-    rw (c.get-2.ensures, c.requires.0) (looking-end _ _ _ _ _ _ _ l.invariant.1 end)
+    let end : l.i ≡ length c.args.heights.now = omega (arith, c.requires) in
+    rw (c.get-d-2.ensures, c.requires.0) (looking-end _ _ _ _ _ _ _ l.invariant end)

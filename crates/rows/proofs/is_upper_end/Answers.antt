@@ -7,6 +7,6 @@ pub returns-then-e-eq0 : goal.returns-then-e-eq0
 unfolding upper_end
 returns-then-e-eq0 c = rw (eq-eqb _ _ c.if-e-eq0.true) refl
 
-pub returns : goal.returns
+pub returns-else-e-eq0 : goal.returns-else-e-eq0
 unfolding upper_end
-returns c = rw (ne_eqb _ _ c.if-e-eq0.false) refl
+returns-else-e-eq0 c = rw (ne_eqb _ _ c.if-e-eq0.false) refl

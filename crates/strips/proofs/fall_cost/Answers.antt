@@ -1,15 +1,13 @@
 use mathlib.Core.Path.{refl}
-use native.Mathlib.Omega.{arith}
 use Rattle.strips.specs.Strips.{fall_cost}
-use Rattle.strips.proofs.Steps.{colour-low}
 use Rattle.strips.proofs.fall_cost.Goals as goal
 
-pub joins_down-below-requires : goal.joins_down-below-requires
-joins_down-below-requires c = let p = c.requires in (colour-low p.0 p.1, omega (arith, c.monus-down.ensures, p.2.b_low, p.0.few_slots))
-
-pub join_cost-requires : goal.join_cost-requires
-join_cost-requires c = let p = c.requires in (p.0, p.1)
-
-pub returns : goal.returns
+pub returns-then-joins_down : goal.returns-then-joins_down
 unfolding fall_cost
-returns c = λ bs. rw (c.choose.ensures, c.join_cost.ensures, c.joins_down-below.ensures bs, c.monus-down.ensures) refl
+returns-then-joins_down c = λ bs.
+    rw (← c.saturating_sub-down.ensures, ← (c.joins_down.ensures bs), c.if-joins_down.true, c.join_cost.ensures) refl
+
+pub returns-else-joins_down : goal.returns-else-joins_down
+unfolding fall_cost
+returns-else-joins_down c = λ bs.
+    rw (← c.saturating_sub-down.ensures, ← (c.joins_down.ensures bs), c.if-joins_down.false) refl

@@ -6,5 +6,4 @@ use Rattle.strips.proofs.site_opens.Goals as goal
 
 pub returns : goal.returns
 unfolding site_opens
-returns c = let b = c.args.bounds.now in
-    rw (c.both.ensures, c.is_not-2.ensures, c.is_held.ensures, c.both-free.ensures, c.is_not.ensures, c.same.ensures, c.both-clear.ensures, c.is_clear-2.ensures, c.is_clear.ensures, default-any b c.args.s.c unbounded 0 c.requires) refl
+returns c = rw (c.is_held.ensures, c.is_clear-2.ensures, c.is_clear.ensures, default-any c.args.bounds.now c.args.s.c unbounded 0 c.requires) refl

@@ -1,10 +1,6 @@
 use mathlib.Core.Path.{◌≡◌}
-use Prim.Native.Nat.{◌-◌, ◌≤◌}
 use Rattle.arrays.specs.Arrays.{barred_from}
 use Rattle.tips.proofs.barred_of.Given as goal
 
 abbrev pub invariant-loop-i : goal.invariant-loop-i
-invariant-loop-i l = (l.i ≤ l.j) × (l.barred ≡ barred_from l.gap l.heights l.xs l.ys l.j l.i)
-
-abbrev pub decreases-loop-i : goal.decreases-loop-i
-decreases-loop-i l = l.j - l.i
+invariant-loop-i l = l.barred ≡ barred_from l.gap l.heights l.xs l.ys l.j l.i

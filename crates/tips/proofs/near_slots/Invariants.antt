@@ -1,7 +1,7 @@
 use mathlib.Core.Path.{◌≡◌}
 use mathlib.Core.Bool.{Bool, not}
 use mathlib.Core.List.{List}
-use Prim.Native.Nat.{ℕ, ◌≤◌}
+use Prim.Native.Nat.{ℕ}
 use lib.ListN.{length, get_or}
 use Rattle.search.specs.Masks.{mask_from}
 use Rattle.labelling.specs.Layout.{clear_by}
@@ -12,7 +12,4 @@ abbrev pub is_near : (gap : ℕ) → (heights : List ℕ) → (y k : ℕ) → Bo
 is_near d hs y k = not (clear_by d (get_or hs k 0) y)
 
 abbrev pub invariant-loop-k : goal.invariant-loop-k
-invariant-loop-k l = (l.k ≤ length l.heights) × (l.near ≡ mask_from (is_near l.gap l.heights l.y) (length l.heights) l.k)
-
-abbrev pub decreases-loop-k : goal.decreases-loop-k
-decreases-loop-k l = l.k
+invariant-loop-k l = l.near ≡ mask_from (is_near l.gap l.heights l.y) (length l.heights) l.k

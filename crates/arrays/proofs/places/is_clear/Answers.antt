@@ -6,8 +6,9 @@ use Rattle.arrays.proofs.places.is_clear.Goals as goal
 pub returns-then-j-eq0 : goal.returns-then-j-eq0
 returns-then-j-eq0 c = sym (clear-edge _ _ _ c.if-j-eq0.true)
 
-pub returns-then-heights-i : goal.returns-then-heights-i
-returns-then-heights-i c = sym (clear-bottom _ _ _ (omega arith) c.if-heights-i.true)
+pub returns-in-Some : goal.returns-in-Some
+returns-in-Some c = let e = c.in-Some.ensures.lookup in
+    c.is_clear.ensures ∙ rw (e.4 (omega arith) 0) (sym (clear-label _ _ _ (omega arith) e.3.0))
 
-pub returns : goal.returns
-returns c = c.is_clear.ensures ∙ rw c.get.ensures (sym (clear-label _ _ _ (omega arith) (omega arith)))
+pub returns-in-None : goal.returns-in-None
+returns-in-None c = sym (clear-bottom _ _ _ (omega arith) c.in-None.ensures.lookup.3)

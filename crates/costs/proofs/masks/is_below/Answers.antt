@@ -5,18 +5,16 @@ use mathlib.Core.Path.{sym, ◌∙◌}
 use borrow.Author.Tests.{le-leb, lt-leb}
 use Rattle.costs.proofs.masks.is_below.Goals as goal
 
-pub returns-then-a-d : goal.returns-then-a-d
-returns-then-a-d c =
-    let l = c.loop-i in
-    let r = c.args.radices.now in
-    sym (l.invariant ∙ below_step r l.i l.a l.b c.loop-i-test.true ∙ rw (lt-leb _ _ c.if-a-d.true))
+pub returns-then-a-radix : goal.returns-then-a-radix
+returns-then-a-radix c =
+    let l = c.loop-radix in
+    sym (l.invariant ∙ below_step c.args.radices.now l.radix-index l.a l.b c.loop-radix-test.true ∙ rw (lt-leb _ _ c.if-a-radix.true))
 
-pub loop-i-preserved : goal.loop-i-preserved
-loop-i-preserved c =
-    let l = c.loop-i in
-    let r = c.args.radices.now in
-    l.invariant ∙ below_step r l.i l.a l.b c.loop-i-test.true ∙ rw (le-leb _ _ c.if-a-d.false)
+pub loop-radix-preserved : goal.loop-radix-preserved
+loop-radix-preserved c =
+    let l = c.loop-radix in
+    l.invariant ∙ below_step c.args.radices.now l.radix-index l.a l.b c.loop-radix-test.true ∙ rw (le-leb _ _ c.if-a-radix.false)
 
 pub returns : goal.returns
 unfolding below
-returns c = sym (c.loop-i.invariant ∙ rw (drop_of_length-le c.args.radices.now c.loop-i-test.false))
+returns c = sym (c.loop-radix.invariant ∙ rw (drop_of_length-le c.args.radices.now c.loop-radix-test.false))

@@ -1,11 +1,8 @@
 use Rattle.search.specs.Masks.{mask_from}
 use Rattle.search.specs.Radix.{below}
 use mathlib.Core.Path.{◌≡◌}
-use Prim.Native.Nat.{◌+◌, ◌≤◌}
+use Prim.Native.Nat.{◌+◌}
 use Rattle.costs.proofs.masks.mask_below.Given as goal
 
 abbrev pub invariant-loop-w : goal.invariant-loop-w
-invariant-loop-w l = (l.w ≤ l.v + 1) × (l.mask ≡ mask_from (λ u. below l.radices u l.v) (l.v + 1) l.w)
-
-abbrev pub decreases-loop-w : goal.decreases-loop-w
-decreases-loop-w l = l.w
+invariant-loop-w l = l.mask ≡ mask_from (λ u. below l.radices u l.v) (l.v + 1) l.w

@@ -9,7 +9,7 @@ use lib.ListN.{get_or}
 use Rattle.rows.proofs.budgets.least_split.Goals as goal
 
 pub loop-i-init : goal.loop-i-init
-loop-i-init c = (omega arith, omega arith, least-none _)
+loop-i-init c = (omega arith, least-none _)
 
 pub loop-i-preserved : goal.loop-i-preserved
 loop-i-preserved c =
@@ -19,6 +19,6 @@ loop-i-preserved c =
     let low : w l.i ≤ a.u = c.requires.within.small a.u l.i (omega arith) c.loop-i-test.true in
     let e : a.at + a.u - w l.i ≡ a.at + (a.u - w l.i) = omega arith in
     let share = λ (k : ℕ). plus top_word (get_or a.f.now (a.from + w k) 0) (get_or a.g.now (a.at + (a.u - w k)) 0) in
-    let b : c.lower-best.result ≡ min l.best (get_or a.f.now (a.from + w l.i) 0 + get_or a.g.now (a.at + (a.u - w l.i)) 0) =
-    rw e at c.lower-best.ensures in
-    (omega arith, omega arith, b ∙ least_more share l.i l.best _ _ l.invariant.2 refl)
+    let b : c.min-best.result ≡ min l.best (get_or a.f.now (a.from + w l.i) 0 + get_or a.g.now (a.at + (a.u - w l.i)) 0) =
+    rw (c.from.ensures, c.from-in-loop-i.ensures, e) at c.min-best.ensures in
+    (omega arith, b ∙ least_more share l.i l.best _ _ l.invariant.1 refl)

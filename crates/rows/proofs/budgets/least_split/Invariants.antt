@@ -7,7 +7,4 @@ use lib.ListN.{get_or}
 use Rattle.rows.proofs.budgets.least_split.Given as goal
 
 abbrev pub invariant-loop-i : goal.invariant-loop-i
-invariant-loop-i l = (l.i ≤ l.n) × (l.best ≤ top_word) × (l.best ≡ least top_word l.i (λ k. plus top_word (get_or l.f (l.from + part_at l.parts l.u k) 0) (get_or l.g (l.«at» + (l.u - part_at l.parts l.u k)) 0)))
-
-abbrev pub decreases-loop-i : goal.decreases-loop-i
-decreases-loop-i l = l.n - l.i
+invariant-loop-i l = (l.best ≤ top_word) × (l.best ≡ least top_word l.i (λ k. plus top_word (get_or l.f (l.from + part_at l.parts l.u k) 0) (get_or l.g (l.«at» + (l.u - part_at l.parts l.u k)) 0)))

@@ -1,11 +1,8 @@
 use Rattle.rows.specs.Budgets.{left_by}
 use mathlib.Core.Path.{◌≡◌}
-use Prim.Native.Nat.{ℕ, ◌-◌, ◌<◌, ◌≤◌}
+use Prim.Native.Nat.{ℕ, ◌<◌}
 use lib.ListN.{length, get_or}
 use Rattle.rows.proofs.budgets.list_left.Given as goal
 
 abbrev pub invariant-loop-v : goal.invariant-loop-v
-invariant-loop-v l = (length l.left ≡ length l.initial.left) × (l.v ≤ l.budgets) × ((x : ℕ) → x < l.v → get_or l.left x 0 ≡ left_by l.radices l.draw x)
-
-abbrev pub decreases-loop-v : goal.decreases-loop-v
-decreases-loop-v l = l.budgets - l.v
+invariant-loop-v l = (length l.left ≡ length l.initial.left) × ((x : ℕ) → x < l.v → get_or l.left x 0 ≡ left_by l.radices l.draw x)

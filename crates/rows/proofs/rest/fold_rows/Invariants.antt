@@ -1,10 +1,5 @@
-use Prim.Native.Nat.{◌-◌}
-use lib.ListN.{length}
 use Rattle.rows.proofs.Folding.{Folding}
 use Rattle.rows.proofs.rest.fold_rows.Given as goal
 
 abbrev pub invariant-loop-i : goal.invariant-loop-i
 invariant-loop-i l = Folding l.parts l.counts l.work l.base l.q.colours l.q.budgets l.labels l.marks l.initial.acc l.acc l.a l.ca l.i
-
-abbrev pub decreases-loop-i : goal.decreases-loop-i
-decreases-loop-i l = length l.labels - l.i

@@ -3,6 +3,3 @@ use Rattle.rows.proofs.rest.join_row.Given as goal
 
 abbrev pub invariant-loop-v : goal.invariant-loop-v
 invariant-loop-v l = Joined l.parts l.counts l.initial.acc l.work l.row l.acc l.v
-
-abbrev pub decreases-loop-v : goal.decreases-loop-v
-decreases-loop-v l = l.v

@@ -1,5 +1,0 @@
-use mathlib.Core.Path.{refl}
-use Rattle.strips.proofs.risen_of.Goals as goal
-
-pub returns : goal.returns
-returns c = rw (c.marked_by.ensures, c.turn_at.ensures, c.monus.ensures) refl
