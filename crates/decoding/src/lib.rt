@@ -2,162 +2,89 @@
 // to those that have refused first: each asks for an accepted sheet, or for an array that is long enough.
 #![tactic(auto)]
 
-ghost use Rattle.std.specs.Prelude.{◌≡◌, cond, ◌++◌, eqb, ◌+◌, ◌<◌, ◌≤◌, length, drop};
-ghost use Rattle.sheet.specs.Limits.{most_slots, most_colours, most_sites, top_word};
-ghost use Rattle.sheet.specs.Sheet.{slots_in, colours_in, sites_in, sheet_in, sheet_fault};
+ghost use Rattle.std.specs.Prelude.{◌≡◌, ℕ, ◌≤◌, map};
+ghost use Rattle.std.specs.Iterator.{ActsAs};
+ghost use Rattle.sheet.specs.Limits.{most_colours, most_sites};
+ghost use Rattle.sheet.specs.Sheet.{colours_in, sites_in, sheet_in, sheet_fault};
 ghost use Rattle.sheet.specs.Words.{count_kind};
-ghost use Rattle.decoding.specs.Decoding.{numbers_by, no_numbers, head_by, bounds_of, site_counts_of, xs_of, ys_of, colours_of, collected, site_colours};
+ghost use Rattle.decoding.specs.Decoding.{numbers_by, no_numbers, head_by, site_counts_of, colours_of, of_kind};
 ghost use Rattle.lists.specs.Arrays.{padded};
 
+use words::arrays::padded;
 use words::body::{body_of, count_kind, sites_run};
 use words::charge::charge_of;
 use words::tied::Head;
-use words::{BYTE_TOP, COLOUR, MOST_COLOURS, MOST_SITES, MOST_SLOTS, NUMBER_TOP, SITE, SLOT};
+use words::{
+    COLOUR, MOST_COLOURS, MOST_SITES, MOST_SLOTS, SITE, SLOT, aim_bit, byte_field, gap_field, get,
+    high_field, kind_of, low_field, side_bit,
+};
 
 // Side, aim, gap, width and charge: after the refusals the head is taken apart nowhere else.
 fn head_of(sheet: &[u32]) -> Head
     ensures { result ≡ head_by (sheet_in sheet.now) }
 {
-    let w = words::get(sheet, 0);
+    let w = get(sheet, 0);
     Head {
-        twosided: words::same(words::side_bit(w), 1),
-        shortest: words::same(words::aim_bit(w), 1),
-        gap: words::gap_field(w),
-        width: words::low_field(w),
+        twosided: side_bit(w) == 1,
+        shortest: aim_bit(w) == 1,
+        gap: gap_field(w),
+        width: low_field(w),
         charge: charge_of(sheet),
     }
 }
 
-// A field of each word of a kind: w / place % size.
-fn collect(body: &[u32], kind: u32, place: u32, size: u32, out: &mut [u32])
-    requires place_nonzero { (0 < place) × (0 < size) }
-    requires body_in_bounds { count_kind kind body.now ≤ length out.old }
-    ensures { out.new ≡ collected kind place size body.now ++ drop (count_kind kind body.now) out.old }
+// A field of each word of a kind, in an array: zeros past the last.
+fn fields_of<const N: usize, F: FnMut(u32) -> u32 + Drop>(
+    body: &[u32],
+    kind: u32,
+    field: F,
+) -> [u32; N]
+    requires callable { (f : _) (w : _) → F.pre f w }
+    requires few { count_kind kind body.now ≤ N }
+    ensures { (of : ℕ → ℕ) → ActsAs F.FnMut field of → result ≡ padded N (map of (of_kind kind body.now)) }
 {
-    let mut n: usize = 0;
-    let mut i: usize = 0;
-    while i < body.len() {
-        let w = body[i];
-        if words::kind_of(w) == kind {
-            out[n] = w / place % size;
-            n += 1;
-        }
-        i += 1;
-    }
-}
-
-// How many colours have come, after a word of a kind.
-fn colour_after(c: u32, kind: u32) -> u32
-    requires { c < top_word }
-    ensures { result ≡ cond (eqb kind 3) (c + 1) c }
-{
-    if kind == COLOUR {
-        return c + 1;
-    }
-    c
-}
-
-// The number of each site's colour.
-fn site_colours(body: &[u32], out: &mut [u32])
-    requires body_in_bounds { count_kind 4 body.now ≤ length out.old }
-    requires body_bound { count_kind 3 body.now ≤ most_colours }
-    ensures { out.new ≡ site_colours 0 body.now ++ drop (count_kind 4 body.now) out.old }
-{
-    let mut n: usize = 0;
-    let mut c: u32 = 0;
-    let mut i: usize = 0;
-    while i < body.len() {
-        let k = words::kind_of(body[i]);
-        c = colour_after(c, k);
-        if k == SITE {
-            out[n] = words::monus(c, 1);
-            n += 1;
-        }
-        i += 1;
-    }
-}
-
-// How many sites each colour has.
-fn count_sites(body: &[u32], out: &mut [u32])
-    requires body_in_bounds { count_kind 3 body.now ≤ length out.old }
-    requires body_bound { count_kind 4 body.now ≤ most_sites }
-    ensures { out.new ≡ site_counts_of (colours_in body.now) ++ drop (count_kind 3 body.now) out.old }
-{
-    let mut n: usize = 0;
-    let mut i: usize = 0;
-    while i < body.len() {
-        if words::kind_of(body[i]) == COLOUR {
-            let run = sites_run(body, i + 1);
-            out[n] = run as u32;
-            n += 1;
-        }
-        i += 1;
-    }
-}
-
-// ---- the arrays of an accepted sheet's body, whole: zeros past its numbers
-
-// All slots' heights.
-fn heights_of(body: &[u32]) -> [u32; MOST_SLOTS]
-    requires { count_kind 2 body.now ≤ most_slots }
-    ensures { result ≡ padded most_slots (slots_in body.now) }
-{
-    let mut out = [0u32; MOST_SLOTS];
-    collect(body, SLOT, 1, NUMBER_TOP, &mut out);
-    out
-}
-
-// All colours' bounds.
-fn bounds_of(body: &[u32]) -> [u32; MOST_COLOURS]
-    requires { count_kind 3 body.now ≤ most_colours }
-    ensures { result ≡ padded most_colours (bounds_of (colours_in body.now)) }
-{
-    let mut out = [0u32; MOST_COLOURS];
-    collect(body, COLOUR, 1, BYTE_TOP, &mut out);
-    out
+    let words = body.iter().copied();
+    padded(words.filter(|w| kind_of(*w) == kind).map(field))
 }
 
 // How many sites each colour has.
 fn site_counts_of(body: &[u32]) -> [u32; MOST_COLOURS]
-    requires { (count_kind 3 body.now ≤ most_colours) × (count_kind 4 body.now ≤ most_sites) }
+    requires few_colours { count_kind 3 body.now ≤ most_colours }
+    requires few_sites { count_kind 4 body.now ≤ most_sites }
     ensures { result ≡ padded most_colours (site_counts_of (colours_in body.now)) }
 {
-    let mut out = [0u32; MOST_COLOURS];
-    count_sites(body, &mut out);
-    out
+    let words = body.iter().enumerate();
+    let colours = words.filter(|(_, w)| kind_of(**w) == COLOUR);
+    padded(colours.map(|(place, _)| sites_run(body, place + 1) as u32))
 }
 
-// All sites' x, y and colours, in sheet order.
-fn xs_of(body: &[u32]) -> [u32; MOST_SITES]
-    requires { count_kind 4 body.now ≤ most_sites }
-    ensures { result ≡ padded most_sites (xs_of (sites_in 0 body.now)) }
-{
-    let mut out = [0u32; MOST_SITES];
-    collect(body, SITE, NUMBER_TOP, NUMBER_TOP, &mut out);
-    out
-}
-
-fn ys_of(body: &[u32]) -> [u32; MOST_SITES]
-    requires { count_kind 4 body.now ≤ most_sites }
-    ensures { result ≡ padded most_sites (ys_of (sites_in 0 body.now)) }
-{
-    let mut out = [0u32; MOST_SITES];
-    collect(body, SITE, 1, NUMBER_TOP, &mut out);
-    out
-}
-
+// The number of each site's colour: that of the last colour before it.
 fn colours_of(body: &[u32]) -> [u32; MOST_SITES]
-    requires { (count_kind 4 body.now ≤ most_sites) × (count_kind 3 body.now ≤ most_colours) }
+    requires few_sites { count_kind 4 body.now ≤ most_sites }
+    requires few_colours { count_kind 3 body.now ≤ most_colours }
     ensures { result ≡ padded most_sites (colours_of (sites_in 0 body.now)) }
 {
-    let mut out = [0u32; MOST_SITES];
-    site_colours(body, &mut out);
-    out
+    let mut array = [0; MOST_SITES];
+    let mut colours: u32 = 0;
+    let mut sites = 0;
+    for w in body {
+        match kind_of(*w) {
+            COLOUR => colours += 1,
+            SITE => {
+                array[sites] = colours.saturating_sub(1);
+                sites += 1;
+            }
+            _ => {}
+        }
+    }
+    array
 }
 
 // ---- all of them
 
 // An accepted sheet's numbers, by value: what its head and its charge say, how many slots (m), colours (C) and sites (n) it has, and their arrays.
+// Kept as counts beside arrays of a fixed size, one for each field: the engine has no heap, theorems name the fields, and the judge's loops over
+// sites are compiled to several sites at a time, which a list of records is not.
 #[derive(Clone, Copy)]
 pub struct Numbers {
     pub head: Head,
@@ -176,24 +103,23 @@ pub struct Numbers {
 pub fn no_numbers() -> Numbers
     ensures { result ≡ no_numbers }
 {
-    let head = Head {
-        twosided: false,
-        shortest: false,
-        gap: 0,
-        width: 0,
-        charge: 0,
-    };
     Numbers {
-        head: head,
+        head: Head {
+            twosided: false,
+            shortest: false,
+            gap: 0,
+            width: 0,
+            charge: 0,
+        },
         slots: 0,
         kinds: 0,
         sites: 0,
-        heights: [0u32; MOST_SLOTS],
-        bounds: [0u32; MOST_COLOURS],
-        site_counts: [0u32; MOST_COLOURS],
-        xs: [0u32; MOST_SITES],
-        ys: [0u32; MOST_SITES],
-        colours: [0u32; MOST_SITES],
+        heights: [0; MOST_SLOTS],
+        bounds: [0; MOST_COLOURS],
+        site_counts: [0; MOST_COLOURS],
+        xs: [0; MOST_SITES],
+        ys: [0; MOST_SITES],
+        colours: [0; MOST_SITES],
     }
 }
 
@@ -201,27 +127,17 @@ pub fn numbers_of(sheet: &[u32]) -> Numbers
     requires { sheet_fault sheet.now ≡ 0 }
     ensures { result ≡ numbers_by (sheet_in sheet.now) }
 {
-    let head = head_of(sheet);
     let body = body_of(sheet);
-    let slots = count_kind(body, SLOT);
-    let kinds = count_kind(body, COLOUR);
-    let sites = count_kind(body, SITE);
-    let heights = heights_of(body);
-    let bounds = bounds_of(body);
-    let site_counts = site_counts_of(body);
-    let xs = xs_of(body);
-    let ys = ys_of(body);
-    let colours = colours_of(body);
     Numbers {
-        head: head,
-        slots: slots,
-        kinds: kinds,
-        sites: sites,
-        heights: heights,
-        bounds: bounds,
-        site_counts: site_counts,
-        xs: xs,
-        ys: ys,
-        colours: colours,
+        head: head_of(sheet),
+        slots: count_kind(body, SLOT),
+        kinds: count_kind(body, COLOUR),
+        sites: count_kind(body, SITE),
+        heights: fields_of(body, SLOT, low_field),
+        bounds: fields_of(body, COLOUR, byte_field),
+        site_counts: site_counts_of(body),
+        xs: fields_of(body, SITE, high_field),
+        ys: fields_of(body, SITE, low_field),
+        colours: colours_of(body),
     }
 }

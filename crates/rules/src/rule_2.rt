@@ -13,6 +13,5 @@ pub fn is_unbounded(bound: u32) -> bool
 pub fn is_within(labels: usize, bound: u32) -> bool
     ensures { result ≡ leb labels bound }
 {
-    let most = bound as usize;
-    labels <= most
+    labels <= bound as usize
 }

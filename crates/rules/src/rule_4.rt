@@ -3,24 +3,20 @@ ghost use Rattle.std.specs.Prelude.{◌≡◌};
 ghost use Rattle.labelling.specs.Layout.{is_between, vertical_has};
 ghost use Rattle.rules.specs.Rules.{misses_pass};
 
-use words::choose;
 use words::tied::{Head, TiedSite, start_of};
 
 // Whether a height lies between two others, both included.
 fn is_between(low: u32, high: u32, h: u32) -> bool
     ensures { result ≡ is_between low high h }
 {
-    let below = low <= h;
-    let above = h <= high;
-    below & above
+    (low..=high).contains(&h)
 }
 
 // Whether the vertical from y to its end has a point at a height.
 fn vertical_has(y: u32, end: u32, h: u32) -> bool
     ensures { result ≡ vertical_has y end h }
 {
-    let down = y < end;
-    is_between(choose(end < y, end, y), choose(down, end, y), h)
+    is_between(y.min(end), y.max(end), h)
 }
 
 // Whether t's vertical misses the backbone of u's label.

@@ -3,22 +3,20 @@ ghost use Rattle.std.specs.Prelude.{◌≡◌};
 ghost use Rattle.labelling.specs.Layout.{counts_by, clear_by};
 ghost use Rattle.rules.specs.Rules.{clears_pass};
 
-use words::drops::apart_of;
-use words::monus;
 use words::tied::{Head, TiedSite, start_of};
 
 // Whether a site at x counts against a label with this left end. The maker asks it too.
 pub fn is_counted(gap: u32, left: u32, x: u32) -> bool
     ensures { result ≡ counts_by gap left x }
 {
-    (left <= x) | (monus(left, x) < gap)
+    (left <= x) | (left.saturating_sub(x) < gap)
 }
 
 // Whether a label at a height is clear of a site of height y. The maker asks it too.
 pub fn is_clear(gap: u32, height: u32, y: u32) -> bool
     ensures { result ≡ clear_by gap height y }
 {
-    gap <= apart_of(height, y)
+    gap <= height.abs_diff(y)
 }
 
 // Whether the backbone of u's label lies at least D from t.

@@ -7,7 +7,7 @@ ghost use Rattle.rules.specs.Rules.{is_stated};
 
 use words::drops::share_of;
 use words::tied::Head;
-use words::{count_field, length_field, monus};
+use words::{count_field, length_field};
 
 // What a site adds to the length beside its label's backbone.
 pub fn site_share(h: Head, height: u32, y: u32) -> u32
@@ -22,14 +22,12 @@ pub fn own_length(width: u32, left: u32, shares: u32) -> u32
     requires { width + shares < top_word }
     ensures { result ≡ own_length width left shares }
 {
-    monus(width, left) + shares
+    width.saturating_sub(left) + shares
 }
 
 // Whether the word states this count and this length.
 pub fn is_stated(w: u32, count: usize, length: u32) -> bool
     ensures { result ≡ is_stated w count length }
 {
-    let stated = count_field(w) as usize;
-    let counted = stated == count;
-    counted & (length_field(w) == length)
+    (count_field(w) as usize == count) & (length_field(w) == length)
 }

@@ -1,6 +1,7 @@
 // Kind and fields of a word, and tests and sums as functions. Each is total: its contract is one equation and asks nothing.
 #![tactic(auto)]
 
+pub mod arrays;
 pub mod body;
 pub mod charge;
 pub mod drops;

@@ -4,4 +4,4 @@ use Rattle.rules.proofs.rule_3.is_far.Goals as goal
 
 pub returns : goal.returns
 unfolding far_by
-returns c = rw c.apart_of.ensures refl
+returns c = rw c.abs_diff.ensures refl

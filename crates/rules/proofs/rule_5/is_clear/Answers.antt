@@ -4,4 +4,4 @@ use Rattle.rules.proofs.rule_5.is_clear.Goals as goal
 
 pub returns : goal.returns
 unfolding clear_by
-returns c = rw c.apart_of.ensures refl
+returns c = rw c.abs_diff.ensures refl

@@ -4,4 +4,4 @@ use Rattle.rules.proofs.rule_5.is_counted.Goals as goal
 
 pub returns : goal.returns
 unfolding counts_by
-returns c = rw c.monus.ensures refl
+returns c = rw c.saturating_sub.ensures refl
