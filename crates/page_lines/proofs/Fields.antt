@@ -7,7 +7,7 @@ use Rattle.sizes.specs.Pages.{line_columns}
 use Rattle.text.specs.Text.{blank, line_feed}
 use Rattle.text.specs.Puts.{Puts}
 use Rattle.text.specs.declared.Text.{Text}
-use Rattle.text.proofs.Written.{puts-more}
+use Rattle.text.proofs.Puts.{puts-more}
 use Rattle.page_lines.specs.Columns.{Field, field_after, columns_after}
 
 -- a line's columns after so many, and its line feed

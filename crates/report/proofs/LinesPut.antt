@@ -8,7 +8,7 @@ use lib.Seq.{drop-cons}
 use Rattle.text.specs.Text.{ascii, decimal, blank, line_feed}
 use Rattle.text.specs.Puts.{Puts}
 use Rattle.text.specs.declared.Text.{Text}
-use Rattle.text.proofs.Written.{puts-more}
+use Rattle.text.proofs.Puts.{puts-more}
 use Rattle.sheet.specs.Sheet.{Site, Sheet}
 use Rattle.labelling.specs.Layout.{stated_count, stated_length}
 use Rattle.decoding.specs.Decoding.{colours_of}

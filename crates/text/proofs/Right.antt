@@ -7,7 +7,7 @@ use lib.ListN.{length, replicate, length-append, length-replicate}
 use Rattle.text.specs.Text.{blank, zero_digit, decimal, right_in}
 use Rattle.text.specs.Puts.{Puts}
 use Rattle.text.specs.declared.Text.{Text}
-use Rattle.text.proofs.Written.{puts-more}
+use Rattle.text.proofs.Puts.{puts-more}
 use Rattle.text.proofs.Decimal.{decimal-one, decimal-more}
 
 -- of no columns it is the text

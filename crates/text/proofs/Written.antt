@@ -7,8 +7,6 @@ use lib.ListN.{length, set, take, drop, length-set, length-append, take-append-d
 use lib.Seq.{set_out, take-suc-set, drop-set-lt}
 use Rattle.lists.proofs.Tests.{by_order}
 use Rattle.text.specs.Text.{written, past_of}
-use Rattle.text.specs.Puts.{Puts}
-use Rattle.text.specs.declared.Text.{Text}
 
 pub length-written : (l : List ℕ) (i : ℕ) (s : List ℕ) → length (written l i s) ≡ length l
 unfolding written
@@ -52,30 +50,3 @@ pub written-front : (l s : List ℕ) → length s ≤ length l → written l 0 s
 written-front l s h =
     let e : 0 + length s ≡ length s = omega arith in
     written_at l 0 s (omega arith) ∙ rw e refl
-
--- putting nothing
-pub puts-none : (a : Text) → Puts a a []
-unfolding written
-puts-none a = record { same = refl; past = omega arith; area = refl }
-
--- bytes, and then others
-pub puts-more : {a b c : Text} {s t : List ℕ} → Puts a b s → Puts b c t → Puts a c (s ++ t)
-puts-more {a = a} {s = s} {t = t} p q =
-    record {
-      same = q.same ∙ p.same;
-      past = q.past ∙ rw (p.past, p.area) (sym (past_more a.area.now a.past s t));
-      area = q.area ∙ rw (p.past, p.area) (sym (written-more a.area.now a.past s t));
-    }
-
--- THE INVARIANT of a loop that puts bytes: once what is left is put, all is put
-pub record Left (from : Text) (all : List ℕ) (now : Text) (rest : List ℕ) : Type 0 where
-  pub goes_on : (end : Text) → Puts now end rest → Puts from end all
-
-pub left-all : (a : Text) (all : List ℕ) → Left a all a all
-left-all a all = record { goes_on = λ end p. p }
-
-pub left-more : {a b c : Text} {all rest part : List ℕ} (rest' : List ℕ) → Left a all b rest → rest ≡ part ++ rest' → Puts b c part → Left a all c rest'
-left-more rest' f e p = record { goes_on = λ end q. f.goes_on end (rw e (puts-more p q)) }
-
-pub left-none : {a b : Text} {all rest : List ℕ} → Left a all b rest → rest ≡ [] → Puts a b all
-left-none {b = b} f e = f.goes_on b (rw e (puts-none b))

@@ -1,4 +1,4 @@
-use Rattle.text.proofs.Written.{puts-more}
+use Rattle.text.proofs.Puts.{puts-more}
 use Rattle.page_lines.proofs.columns.put_field.Goals as goal
 
 pub returns : goal.returns

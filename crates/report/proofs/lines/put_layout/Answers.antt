@@ -1,5 +1,5 @@
 use Rattle.report.specs.Lines.{layout_text_by}
-use Rattle.text.proofs.Written.{puts-more}
+use Rattle.text.proofs.Puts.{puts-more}
 use Rattle.report.proofs.lines.put_layout.Goals as goal
 
 pub returns : goal.returns

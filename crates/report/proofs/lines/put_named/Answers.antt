@@ -1,5 +1,5 @@
 use Rattle.text.proofs.Right.{right-none}
-use Rattle.text.proofs.Written.{puts-more}
+use Rattle.text.proofs.Puts.{puts-more}
 use Rattle.report.proofs.lines.put_named.Goals as goal
 
 pub returns : goal.returns

@@ -2,7 +2,7 @@ use mathlib.Core.Path.{refl}
 use lib.ListN.{drop_of_length-le}
 use Rattle.report.specs.Lines.{site_lines_by}
 use Rattle.report.proofs.LinesPut.{lines_at}
-use Rattle.text.proofs.Written.{left-more, left-none}
+use Rattle.text.proofs.Puts.{left-more, left-none}
 use Rattle.report.proofs.lines.put_site_lines.Goals as goal
 
 pub loop-site-preserved : goal.loop-site-preserved

@@ -1,6 +1,6 @@
 use lib.ListN.{drop}
 use Rattle.report.specs.Lines.{site_lines_by}
-use Rattle.text.proofs.Written.{Left}
+use Rattle.text.proofs.Puts.{Left}
 use Rattle.report.proofs.lines.put_site_lines.Given as goal
 
 abbrev pub invariant-loop-site : goal.invariant-loop-site

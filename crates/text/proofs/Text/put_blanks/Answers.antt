@@ -1,5 +1,5 @@
 use Rattle.text.specs.Text.{blank}
-use Rattle.text.proofs.Written.{left-more, left-none}
+use Rattle.text.proofs.Puts.{left-more, left-none}
 use lib.ListN.{replicate}
 use mathlib.Core.Path.{◌≡◌, ap}
 use Prim.Native.Nat.{suc, ◌+◌, ◌-◌}

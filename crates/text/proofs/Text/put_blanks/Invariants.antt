@@ -1,5 +1,5 @@
 use Rattle.text.specs.Text.{blank}
-use Rattle.text.proofs.Written.{Left}
+use Rattle.text.proofs.Puts.{Left}
 use Prim.Native.Nat.{◌-◌}
 use lib.ListN.{replicate}
 use Rattle.text.proofs.Text.put_blanks.Given as goal

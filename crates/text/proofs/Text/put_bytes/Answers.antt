@@ -1,4 +1,4 @@
-use Rattle.text.proofs.Written.{left-more, left-none}
+use Rattle.text.proofs.Puts.{left-more, left-none}
 use lib.Seq.{drop-cons}
 use lib.ListN.{drop_of_length-le}
 use mathlib.Core.Path.{refl}

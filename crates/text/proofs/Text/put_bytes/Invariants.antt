@@ -1,4 +1,4 @@
-use Rattle.text.proofs.Written.{Left}
+use Rattle.text.proofs.Puts.{Left}
 use lib.ListN.{drop}
 use Rattle.text.proofs.Text.put_bytes.Given as goal
 
