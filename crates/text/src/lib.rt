@@ -31,10 +31,10 @@ impl<'a> Text<'a> {
     pub fn put_byte(&mut self, byte: u8)
         ensures { Puts self.old self.new (byte ∷ []) }
     {
-        let past = self.past;
-        if past < self.area.len() {
-            self.area[past] = byte;
-            self.past = past + 1;
+        let Text { area, past } = self;
+        if *past < area.len() {
+            area[*past] = byte;
+            *past += 1;
         }
     }
 

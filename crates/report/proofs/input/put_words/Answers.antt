@@ -13,7 +13,7 @@ loop-i-preserved c =
     let low : c.loop-i.i < c.min-count.result = omega (arith, length-take {A = List ℕ}) in
     let found : c.loop-i.i < length c.args.bytes.now / 4 = omega (arith, c.as_chunks.ensures.front_len) in
     c.loop-i.invariant
-    ∙ word-put _ _ _ _ (rw (c.from_le_bytes.ensures, get_or-take, c.as_chunks.ensures.front) (words-at c.args.bytes.now c.loop-i.i found))
+    ∙ word-put _ _ _ c.from_le_bytes.result (rw (c.from_le_bytes.ensures, get_or-take, c.as_chunks.ensures.front) (words-at c.args.bytes.now c.loop-i.i found))
 
 pub returns-clause-value : goal.returns-clause-value
 returns-clause-value c = omega (arith, words-long c.args.bytes.now, c.as_chunks.ensures.front_len, c.min-count.ensures)
