@@ -1,5 +1,5 @@
 // A sheet's words as a list: those after the head and the charge, how many are of a kind, how many sites follow a colour at once.
-ghost use Rattle.std.specs.Prelude.{◌≡◌};
+ghost use Rattle.std.specs.Prelude.{◌≡◌, drop};
 ghost use Rattle.sheet.specs.Sheet.{body_at, body_of, sites_run};
 ghost use Rattle.sheet.specs.Words.{count_kind};
 ghost use Rattle.words.specs.Kinds.{kind_number};
@@ -29,14 +29,14 @@ pub fn count_kind(words: &[u32], kind: Kind) -> usize
     words.iter().filter(|w| is_kind(**w, kind)).count()
 }
 
-// How many sites stand at the front.
-pub fn sites_run(words: &[u32]) -> usize
-    ensures { result ≡ sites_run words.now }
+// How many sites follow at once from a place on; none from a place past the end.
+pub fn sites_run(words: &[u32], from: usize) -> usize
+    ensures { result ≡ sites_run (drop from words.now) }
 {
-    for (i, w) in words.iter().enumerate() {
-        if !is_kind(*w, Kind::Site) {
-            return i;
+    for i in from..words.len() {
+        if !is_kind(words[i], Kind::Site) {
+            return i - from;
         }
     }
-    words.len()
+    words.len().saturating_sub(from)
 }

@@ -10,12 +10,15 @@ pub mod tied;
 
 ghost use Rattle.std.specs.Prelude.{◌≡◌, cond, ◌&&◌, ◌||◌, not, ◌+◌, ◌-◌, ◌<◌, min, eqb, leb, ltb, get_or};
 ghost use Rattle.sheet.specs.Limits.{byte_top, top_word};
-ghost use Rattle.sheet.specs.Sheet.{bits, rank_by};
+ghost use Rattle.sheet.specs.Sheet.{bits, kind_of, rank_by};
 ghost use Rattle.sheet.specs.Words.{rank_in};
 ghost use Rattle.search.specs.Cost.{plus};
 
 // The cost of "none".
 pub const NONE: u32 = u32::MAX;
+
+// The number of the kind of a layout's first word.
+pub const LAYOUT: u32 = 8;
 
 // The place right after the head, where a charge may stand.
 pub const CHARGE_AT: u32 = 1;
@@ -56,6 +59,12 @@ pub const SPARE_TOP: u32 = 1048576;
 pub const SIDE_PLACE: u32 = 134217728;
 
 pub const AIM_PLACE: u32 = 67108864;
+
+pub fn kind_of(w: u32) -> u32
+    ensures { result ≡ kind_of w }
+{
+    w / KIND_TOP
+}
 
 // Bits 13 to 0: a height, a site's y, the width, a charge.
 pub fn low_field(w: u32) -> u32

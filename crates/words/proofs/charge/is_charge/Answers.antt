@@ -1,4 +1,4 @@
-use Rattle.std.proofs.Common.{rules, arith}
+use Rattle.std.proofs.Common.{arith}
 use Rattle.std.proofs.lemmas.Grind.{common_steps}
 use Rattle.sheet.specs.Sheet.{is_charge}
 use Rattle.words.proofs.charge.is_charge.Goals as goal
