@@ -1,8 +1,8 @@
 // A stored sheet opened: the words before its layout, the layout's, and the sheet's numbers. Every tool over stored sheets begins here.
 ghost use Rattle.std.specs.Prelude.{◌≡◌, true, IfOk};
 ghost use Rattle.sheet.specs.Sheet.{sheet_in, sheet_fault};
-ghost use Rattle.labelling.specs.Layout.{is_layout, broken_by, sheet_part, layout_part, judge_fault, stored_fault};
-ghost use Rattle.decoding.specs.Decoding.{numbers_by};
+ghost use Rattle.labelling.specs.Layout.{left_end, is_used, is_layout, layout_ties, broken_by, sheet_part, layout_part, judge_fault, stored_fault};
+ghost use Rattle.decoding.specs.Decoding.{numbers_by, sheet_by};
 ghost use Rattle.faults.specs.Refusals.{number_in};
 ghost use Rattle.layouts.specs.Broken.{broken_number};
 ghost use Rattle.judge.specs.Opened.{SitesRead, parts_fault};
@@ -11,8 +11,10 @@ use crate::refusal_11::{is_layout, layout_start};
 use decoding::Numbers;
 use faults::refusal::Refusal;
 use faults::stored::{layout_fault, rule_fault};
+use layouts::labels::{Among, is_taken};
 use layouts::least_broken::broken_by;
 use layouts::rule::Rule;
+use layouts::rule_6::left_end;
 use layouts::sites::TiedSites;
 use reader::opened::open_sheet;
 use words::TIES_AT;
@@ -43,12 +45,27 @@ impl Opened<'_> {
         }
     }
 
+    // Whether a slot is used: whether it has a label.
+    pub fn is_used(&self, slot: u32) -> bool
+        ensures { result ≡ is_used slot (layout_ties self.now.layout.now) }
+    {
+        let sites = self.sites();
+        is_taken(Among::All, &sites, slot, sites.count())
+    }
+
+    // The left end of a slot's label.
+    pub fn left_end(&self, slot: u32) -> u32
+        ensures { result ≡ left_end (sheet_by self.now.numbers) (layout_ties self.now.layout.now) slot }
+    {
+        left_end(&self.sites(), slot)
+    }
+
     // The least broken rule.
     pub fn broken_rule(&self) -> Option<Rule>
         ensures { broken_number result ≡ broken_by (sheet_in self.now.sheet.now) self.now.layout.now }
     {
-        let bounds = &self.numbers.bounds[..self.numbers.kinds];
-        broken_by(&self.sites(), self.layout[0], bounds)
+        let Numbers { kinds, bounds, .. } = self.numbers;
+        broken_by(&self.sites(), self.layout[0], &bounds[..kinds])
     }
 }
 
