@@ -1,2 +1,3 @@
 pub mod Found
 mod Ruled
+pub mod Tools
