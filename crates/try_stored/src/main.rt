@@ -4,6 +4,7 @@
 #![tactic(auto)]
 
 use cases::take_case;
+use faults::refusal::Refusal;
 use judge::{Verdict, judge_layout};
 use page::write_page;
 use points::in_points;
@@ -44,18 +45,18 @@ fn print_ends(rt: &impl Print, name: &str, first: End, second: End) -> io::Resul
 }
 
 // Prints a stroke, or a refusal; whether it is a stroke.
-fn print_stroke(rt: &impl Print, stroke: Stroke) -> io::Result<bool> {
+fn print_stroke(rt: &impl Print, stroke: Result<Stroke, Refusal>) -> io::Result<bool> {
     match stroke {
-        Stroke::Bone(first, second) => {
+        Ok(Stroke::Bone(first, second)) => {
             print_ends(rt, "bone", first, second)?;
             Ok(true)
         }
-        Stroke::Drop(first, second) => {
+        Ok(Stroke::Drop(first, second)) => {
             print_ends(rt, "drop", first, second)?;
             Ok(true)
         }
-        Stroke::Refused(refusal) => {
-            println!(rt; "  refused {refusal}")?;
+        Err(refusal) => {
+            println!(rt; "  refused {}", refusal.number())?;
             Ok(false)
         }
     }
