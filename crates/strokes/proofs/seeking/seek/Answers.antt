@@ -12,8 +12,8 @@ pub loop-i-preserved : goal.loop-i-preserved
 loop-i-preserved g c =
     let l = c.loop-i in
     elim c.if-is_listed.branch [
-      then-is_listed+else-left-eq0 w ↦ λ t h. rw w.left-is (turn-next t l.i _ l.left (l.invariant t h) c.loop-i-test.true (sym (h l.i _ c.loop-i-test.true c.is_listed.ensures) ∙ w.if-is_listed.true) w.if-left-eq0.false) |
-      else-is_listed w ↦ λ t h. rw w.left-is (turn-by t l.i _ l.left (l.invariant t h) c.loop-i-test.true (sym (h l.i _ c.loop-i-test.true c.is_listed.ensures) ∙ w.if-is_listed.false))
+      | then-is_listed+else-left-eq0 w ↦ λ t h. rw w.left-is (turn-next t l.i _ l.left (l.invariant t h) c.loop-i-test.true (sym (h l.i _ c.loop-i-test.true c.is_listed.ensures) ∙ w.if-is_listed.true) w.if-left-eq0.false)
+      | else-is_listed w ↦ λ t h. rw w.left-is (turn-by t l.i _ l.left (l.invariant t h) c.loop-i-test.true (sym (h l.i _ c.loop-i-test.true c.is_listed.ensures) ∙ w.if-is_listed.false))
     ]
 
 pub returns : goal.returns
