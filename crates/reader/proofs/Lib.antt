@@ -2,5 +2,4 @@ mod Decoded
 mod Eight
 pub mod Opening
 pub mod Reading
-mod Steps
 mod Wordwise

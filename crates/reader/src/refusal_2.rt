@@ -4,6 +4,7 @@ ghost use Rattle.sheet.specs.Sheet.{in_order};
 
 use forms::refusal_2::{Stage, stage_after};
 
+#[tactic(auto, unfolding(sheet::specs::Sheet::in_order))]
 pub fn in_order(body: &[u32]) -> bool
     ensures { result ≡ in_order 0 body.now }
 {

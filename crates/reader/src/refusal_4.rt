@@ -4,6 +4,7 @@ ghost use Rattle.sheet.specs.Sheet.{slots_in, rising};
 
 use refusals::refusal_4::{low_next, low_ok};
 
+#[tactic(auto, using(crate::proofs::Wordwise::rises), unfolding(refusals::specs::Wordwise::rises_from))]
 pub fn rises(body: &[u32]) -> bool
     ensures { result ≡ rising (slots_in body.now) }
 {

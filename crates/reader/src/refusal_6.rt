@@ -8,6 +8,7 @@ use words::kinds::{Kind, is_kind};
 use words::rank_of;
 
 // Some word is a site of this rank. No branch and no early end: several words are looked at at a time.
+#[tactic(auto, unfolding(refusals::specs::Wordwise::some_ranked))]
 fn some_ranked(words: &[u32], rank: u32) -> bool
     ensures { result ≡ some_ranked rank words.now }
 {
@@ -25,6 +26,7 @@ fn rank_new(w: u32, later: &[u32]) -> bool
     !is_kind(w, Kind::Site) || !some_ranked(later, rank_of(w))
 }
 
+#[tactic(auto, using(crate::proofs::Wordwise::differ), unfolding(refusals::specs::Wordwise::all_new))]
 pub fn ranks_differ(body: &[u32]) -> bool
     ensures { result ≡ ranks_differ (sites_in 0 body.now) }
 {

@@ -30,6 +30,7 @@ pub fn count_kind(words: &[u32], kind: Kind) -> usize
 }
 
 // How many sites follow at once from a place on; none from a place past the end.
+#[tactic(auto, unfolding(sheet::specs::Sheet::sites_run))]
 pub fn sites_run(words: &[u32], from: usize) -> usize
     ensures { result ≡ sites_run (drop from words.now) }
 {

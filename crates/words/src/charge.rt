@@ -7,6 +7,7 @@ use crate::kinds::{Kind, is_kind};
 use crate::{CHARGE_AT, get, high_field, low_field};
 
 // A word of kind 5 without a spare bit.
+#[tactic(auto, unfolding(sheet::specs::Sheet::is_charge))]
 pub fn is_charge(w: u32) -> bool
     ensures { result ≡ is_charge w }
 {

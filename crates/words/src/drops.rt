@@ -13,6 +13,7 @@ pub fn drop_of(h: u32, y: u32) -> i32
 
 // A site's share of the length, by the charge, the height of its slot and its own: none on its backbone, else its drop without the sign and the
 // charge.
+#[tactic(auto, unfolding(labelling::specs::Layout::share_by, labelling::specs::Layout::off_by))]
 pub fn share_of(charge: u32, h: u32, y: u32) -> u32
     requires { (charge < sign_top) × (h < sign_top) × (y < sign_top) }
     ensures { result ≡ share_by charge h y }

@@ -81,6 +81,7 @@ pub fn high_field(w: u32) -> u32
 }
 
 // A site's rank, by its numbers: its x.
+#[tactic(auto, unfolding(sheet::specs::Sheet::rank_by))]
 pub fn rank_by(x: u32, y: u32) -> u32
     ensures { result ≡ rank_by x y }
 {
@@ -195,6 +196,7 @@ pub fn lesser(a: u32, b: u32) -> u32
 }
 
 // The sum of two costs, capped at NONE.
+#[tactic(auto, unfolding(search::specs::Cost::plus))]
 pub fn plus_of(a: u32, b: u32) -> u32
     ensures { result ≡ plus top_word a b }
 {

@@ -3,8 +3,9 @@ use mathlib.Core.Path.{◌≡◌}
 use Prim.Native.Nat.{◌≤◌}
 use lib.ListN.{drop}
 use Rattle.sheet.specs.Limits.{number_top}
+use Rattle.sheet.specs.Sheet.{slots_in, rising}
 use Rattle.refusals.specs.Wordwise.{rises_from}
 use Rattle.reader.proofs.refusal_4.rises.Given as goal
 
 abbrev pub invariant-loop-w : goal.invariant-loop-w
-invariant-loop-w l = (l.low ≤ number_top) × (rises_from 0 l.body ≡ rises_from l.low (drop l.w-index l.body))
+invariant-loop-w l = (l.low ≤ number_top) × (rising (slots_in l.body) ≡ rises_from l.low (drop l.w-index l.body))
