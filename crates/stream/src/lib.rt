@@ -14,6 +14,7 @@ pub fn read_full<R: Read>(reader: &mut R, area: &mut [u8]) -> io::Result<usize>
     ensures end { IfOk result (λ n. n < length area.old → IsAtEnd (R.remaining reader.new)) }
 {
     let mut done = 0;
+    // A loop of reads, not of places: std's `read_exact` is an error where the reader ends before the area is full.
     while done < area.len() {
         let n = reader.read(&mut area[done..])?;
         if n == 0 {

@@ -1,10 +1,11 @@
 -- Bytes put after bytes are the bytes together, whether they fit or not. Assumes nothing.
 use mathlib.Core.Path.{◌≡◌, refl, sym, ◌∙◌}
 use mathlib.Core.List.{List, [], ◌∷◌, ◌++◌, append_assoc}
-use Prim.Native.Nat.{ℕ, suc, ◌+◌, ◌≤◌, max}
+use Prim.Native.Nat.{ℕ, suc, ◌+◌, ◌-◌, ◌<◌, ◌≤◌, min, max}
+use native.Mathlib.Numerals.{add-one}
 use native.Mathlib.Omega.{arith}
-use lib.ListN.{length, set, take, drop, length-set, length-append, take-append-drop}
-use lib.Seq.{set_out, take-suc-set, drop-set-lt}
+use lib.ListN.{length, get_or, set, take, drop, drop_of_length-le, length-set, length-append, take-append-drop}
+use lib.Seq.{drop-cons, set_out, take-suc-set, drop-set-lt}
 use Rattle.lists.proofs.Tests.{by_order}
 use Rattle.text.specs.Text.{written, past_of}
 
@@ -50,3 +51,18 @@ pub written-front : (l s : List ℕ) → length s ≤ length l → written l 0 s
 written-front l s h =
     let e : 0 + length s ≡ length s = omega arith in
     written_at l 0 s (omega arith) ∙ rw e refl
+
+-- A LOOP that puts bytes from a place on, as many as there is room for: the next byte
+pub written-next : (l s : List ℕ) (i k : ℕ) → k < length s → written l (i + k) (drop k s) ≡ written (set l (i + k) (get_or s k 0)) (i + (k + 1)) (drop (k + 1) s)
+unfolding written
+written-next l s i k h =
+    let e : i + (k + 1) ≡ suc (i + k) = omega arith in
+    rw (drop-cons s k 0 h, e, add-one k) refl
+
+-- no byte is left, or no room
+pub written-end : (l s : List ℕ) (i k : ℕ) → min (length s) (length l - i) ≤ k → written l (i + k) (drop k s) ≡ l
+unfolding written
+written-end l s i k h =
+    by_order (length s) k
+    (λ e. rw (drop_of_length-le s e) refl)
+    λ e. written_out l (i + k) (drop k s) (omega arith)

@@ -38,21 +38,30 @@ impl<'a> Text<'a> {
         }
     }
 
+    // As many as there is room for, in one loop: byte by byte through `put_byte` the lines of a page took a quarter longer.
     pub fn put_bytes(&mut self, bytes: &[u8])
         ensures { Puts self.old self.new bytes.now }
     {
-        for byte in bytes {
-            self.put_byte(*byte);
+        let Text { area, past } = self;
+        let from = *past;
+        let count = bytes.len().min(area.len().saturating_sub(from));
+        for (i, byte) in bytes[..count].iter().enumerate() {
+            area[from + i] = *byte;
         }
+        *past = from + count;
     }
 
     // So many blanks.
     pub fn put_blanks(&mut self, count: usize)
         ensures { Puts self.old self.new (replicate count blank) }
     {
-        for _ in 0..count {
-            self.put_byte(b' ');
+        let Text { area, past } = self;
+        let from = *past;
+        let fitting = count.min(area.len().saturating_sub(from));
+        for i in 0..fitting {
+            area[from + i] = b' ';
         }
+        *past = from + fitting;
     }
 
     // Bytes at the right of so many columns, or as they are where there are no more columns than bytes.

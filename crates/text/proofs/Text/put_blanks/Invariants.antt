@@ -1,8 +1,13 @@
-use Rattle.text.specs.Text.{blank}
-use Rattle.text.proofs.Puts.{Left}
-use Prim.Native.Nat.{◌-◌}
-use lib.ListN.{replicate}
+use mathlib.Core.Path.{◌≡◌}
+use Prim.Native.Nat.{◌+◌}
+use lib.ListN.{length, drop, replicate}
+use Rattle.text.specs.Text.{blank, written}
 use Rattle.text.proofs.Text.put_blanks.Given as goal
 
-abbrev pub invariant-loop : goal.invariant-loop
-invariant-loop l = Left l.initial.self (replicate l.count blank) l.self (replicate (l.count - l.counter) blank)
+-- the area is the same, and once the blanks that are left are put, all are
+abbrev pub invariant-loop-i : goal.invariant-loop-i
+invariant-loop-i l = record {
+  same : l.area.ghost_name ≡ l.initial.area.ghost_name;
+  long : length l.area.now ≡ length l.initial.area.now;
+  left : written l.initial.area.now l.from (replicate l.count blank) ≡ written l.area.now (l.from + l.i) (drop l.i (replicate l.count blank));
+}
