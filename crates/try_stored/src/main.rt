@@ -4,7 +4,6 @@
 #![tactic(auto)]
 
 use cases::take_case;
-use faults::refusal::Refusal;
 use judge::{Verdict, judge_layout};
 use page::write_page;
 use points::in_points;
@@ -44,28 +43,19 @@ fn print_ends(rt: &impl Print, name: &str, first: End, second: End) -> io::Resul
     println!(rt)
 }
 
-// Prints a stroke, or a refusal; whether it is a stroke.
-fn print_stroke(rt: &impl Print, stroke: Result<Stroke, Refusal>) -> io::Result<bool> {
+fn print_stroke(rt: &impl Print, stroke: Stroke) -> io::Result<()> {
     match stroke {
-        Ok(Stroke::Bone(first, second)) => {
-            print_ends(rt, "bone", first, second)?;
-            Ok(true)
-        }
-        Ok(Stroke::Drop(first, second)) => {
-            print_ends(rt, "drop", first, second)?;
-            Ok(true)
-        }
-        Err(refusal) => {
-            println!(rt; "  refused {}", refusal.number())?;
-            Ok(false)
-        }
+        Stroke::Bone(first, second) => print_ends(rt, "bone", first, second),
+        Stroke::Drop(first, second) => print_ends(rt, "drop", first, second),
     }
 }
 
+// Each stroke, up to the place that is refused.
 fn print_strokes(rt: &impl Print, stored: &[u32]) -> io::Result<()> {
     for place in 0..PLACES {
-        if !print_stroke(rt, stroke_at(stored, place))? {
-            return Ok(());
+        match stroke_at(stored, place) {
+            Ok(stroke) => print_stroke(rt, stroke)?,
+            Err(refusal) => return println!(rt; "  refused {}", refusal.number()),
         }
     }
     Ok(())
