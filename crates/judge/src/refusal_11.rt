@@ -6,7 +6,7 @@ ghost use Rattle.forms.specs.Forms.{tie_fits};
 ghost use Rattle.judge.specs.Opened.{layout_fits};
 
 use forms::refusal_11::is_tie;
-use words::{LAYOUT, kind_of};
+use words::kinds::{Kind, is_kind};
 
 // The place of the first word of kind 8, or the end.
 pub fn layout_start(stored: &[u32]) -> usize
@@ -14,7 +14,7 @@ pub fn layout_start(stored: &[u32]) -> usize
 {
     stored
         .iter()
-        .position(|w| kind_of(*w) == LAYOUT)
+        .position(|w| is_kind(*w, Kind::Layout))
         .unwrap_or(stored.len())
 }
 
@@ -29,7 +29,7 @@ pub fn is_layout(m: usize, n: usize, layout: &[u32]) -> bool
     ensures { result ≡ layout_fits m n layout.now }
 {
     match layout {
-        [first, ties @ ..] => ties.len() == n && kind_of(*first) == LAYOUT && are_ties(m, ties),
+        [first, ties @ ..] => ties.len() == n && is_kind(*first, Kind::Layout) && are_ties(m, ties),
         [] => false,
     }
 }

@@ -60,9 +60,6 @@ module _ {d : Numbers} {ls : List ℕ} (r : LayoutRead d ls) where
   abbrev ws : List ℕ
   ws = r.read.words
 
-  pub some_read : 0 < length ls
-  some_read = some ws ls r.read.accepted r.form
-
   pub fits_read : (ts : List ℕ) → ts ≡ layout_body ls → Fits d.heights d.xs d.ys d.colours ts
   fits_read ts e =
       fits ws ls r.read.accepted r.form _ _ _ _ _ (ap (λ (z : Numbers). z.heights) r.read.numbers) (ap (λ (z : Numbers). z.xs) r.read.numbers) (ap (λ (z : Numbers). z.ys) r.read.numbers) (ap (λ (z : Numbers). z.colours) r.read.numbers) e

@@ -40,18 +40,12 @@ module _ {d : Numbers} {ls : List ℕ} (p : LayoutRead d ls) where
   pub body-long : length (layout_body ls) ≡ length s.sites
   body-long = long p.read.words ls p.read.accepted p.form ∙ sym (ap (λ (z : Sheet). length z.sites) sheet-is)
 
-  pub body-sites : (ts : List ℕ) → ts ≡ layout_body ls → length ts ≡ d.sites
-  body-sites ts e = ap length e ∙ body-long ∙ sym sites_long
-
   pub ties-long : length (layout_ties ls) ≡ length s.sites
   ties-long = length-ties_in (layout_body ls) ∙ body-long
 
   -- THE LEFT END, as code finds it
   pub left-read : (ts : List ℕ) (k : ℕ) → ts ≡ layout_body ls → left_on d.head d.xs (ties_in ts) (length ts) k ≡ left_end s (layout_ties ls) k
   left-read ts k e = rw (e, body-long) (left_is s d.heights d.xs d.ys d.colours decoded-read (layout_ties ls) ties-long k)
-
-  pub left-found : (ts : List ℕ) (k : ℕ) {left : ℕ} → ts ≡ layout_body ls → left ≡ left_on d.head d.xs (ties_in ts) (length ts) k → left ≡ left_end s (layout_ties ls) k
-  left-found ts k e f = f ∙ left-read ts k e
 
   pub sites-few : d.sites ≤ most_sites
   sites-few = (few p.read).2

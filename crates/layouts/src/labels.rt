@@ -6,7 +6,7 @@ ghost use Rattle.layouts.specs.Model.{among_by, count_on};
 
 use crate::sites::TiedSites;
 
-// The sites that are counted: all, or a colour's.
+// The sites that are counted: all, or a colour's. What is promised of the judge's count names both (specs/Counts), so it is an enum and no closure.
 #[derive(Clone, Copy)]
 pub enum Among {
     All,
