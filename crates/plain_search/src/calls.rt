@@ -11,8 +11,8 @@ const TIE: u32 = 9 << 28;
 
 const LABELS_BIT: u32 = 21;
 
-// A place of an area is below this.
-const AREA_TOP: usize = 65536;
+// The low half of a word is below this.
+const HALF_TOP: usize = 65536;
 
 #[derive(Clone, Copy, Eq, PartialEq)]
 pub enum Refusal {
@@ -30,13 +30,14 @@ pub struct Call {
     answer: usize,
     // the areas' words before the call come from it
     areas: u32,
-    pub outcome: Result<Found, Refusal>,
+    pub(crate) outcome: Result<Found, Refusal>,
 }
 
-// What an area holds before a call.
+// What an area holds before a call: its place times 7 and the seed's upper half give the low half.
 fn old_word(place: usize, seed: u32) -> u32 {
-    let place = (place % AREA_TOP) as u32;
-    LAYOUT | (place * 7 + (seed >> 16)) % 65536
+    let place = (place % HALF_TOP) as u16;
+    let half = (seed >> 16) as u16;
+    LAYOUT | u32::from(place.wrapping_mul(7).wrapping_add(half))
 }
 
 fn area(alloc: Global, words: usize, seed: u32) -> Result<Vec<u32>, AllocError> {
