@@ -27,12 +27,7 @@ pub right-long : (w : ℕ) (t : List ℕ) → length t ≤ w → length (right_i
 unfolding right_in
 right-long w t h = omega (arith, length-append (replicate (w - length t) blank) t, length-replicate (w - length t) blank)
 
--- PUT: blanks, then the text
-pub right-put : {a b c : Text} (w : ℕ) (t : List ℕ) → Puts a b (replicate (w - length t) blank) → Puts b c t → Puts a c (right_in w t)
-unfolding right_in
-right-put w t p q = puts-more p q
-
--- a number: what comes before its last digit, then this digit
+-- PUT: a number, what comes before its last digit, then this digit
 pub number-one : {a b c : Text} (w : ℕ) (s : List ℕ) (n : ℕ) → n < 10 →
     Puts a b (right_in (w - 1) s) → Puts b c ((zero_digit + n % 10) ∷ []) → Puts a c (right_in w (s ++ decimal n))
 number-one w s n h p q = rw (decimal-one n h, right-last w s (zero_digit + n % 10)) (puts-more p q)
