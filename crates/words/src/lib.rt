@@ -1,4 +1,4 @@
-// Kind and fields of a word, and tests and sums as functions. Each is total: its contract is one equation and asks nothing.
+// The fields of a word, the number at a place of a list, and the sum of two costs. Each is total: its contract is one equation and asks nothing.
 #![tactic(auto)]
 
 pub mod arrays;
@@ -8,17 +8,14 @@ pub mod drops;
 pub mod kinds;
 pub mod tied;
 
-ghost use Rattle.std.specs.Prelude.{◌≡◌, cond, ◌&&◌, ◌||◌, not, ◌+◌, ◌-◌, ◌<◌, min, eqb, leb, ltb, get_or};
-ghost use Rattle.sheet.specs.Limits.{byte_top, top_word};
-ghost use Rattle.sheet.specs.Sheet.{bits, kind_of, rank_by};
+ghost use Rattle.std.specs.Prelude.{◌≡◌, get_or};
+ghost use Rattle.sheet.specs.Limits.{top_word};
+ghost use Rattle.sheet.specs.Sheet.{bits, rank_by};
 ghost use Rattle.sheet.specs.Words.{rank_in};
 ghost use Rattle.search.specs.Cost.{plus};
 
 // The cost of "none".
 pub const NONE: u32 = u32::MAX;
-
-// The number of the kind of a layout's first word.
-pub const LAYOUT: u32 = 8;
 
 // The place right after the head, where a charge may stand.
 pub const CHARGE_AT: u32 = 1;
@@ -59,12 +56,6 @@ pub const SPARE_TOP: u32 = 1048576;
 pub const SIDE_PLACE: u32 = 134217728;
 
 pub const AIM_PLACE: u32 = 67108864;
-
-pub fn kind_of(w: u32) -> u32
-    ensures { result ≡ kind_of w }
-{
-    w / KIND_TOP
-}
 
 // Bits 13 to 0: a height, a site's y, the width, a charge.
 pub fn low_field(w: u32) -> u32
@@ -144,55 +135,11 @@ pub fn aim_bit(w: u32) -> u32
     w / AIM_PLACE % 2
 }
 
-// A byte as a word.
-pub fn wide(b: u8) -> u32
-    ensures { (result ≡ b) × (result < byte_top) }
-{
-    u32::from(b)
-}
-
-pub fn both(a: bool, b: bool) -> bool
-    ensures { result ≡ a && b }
-{
-    a && b
-}
-
-pub fn is_not(a: bool) -> bool
-    ensures { result ≡ not a }
-{
-    !a
-}
-
-pub fn same(a: u32, b: u32) -> bool
-    ensures { result ≡ eqb a b }
-{
-    a == b
-}
-
-pub fn choose(t: bool, a: u32, b: u32) -> u32
-    ensures { result ≡ cond t a b }
-{
-    if t { a } else { b }
-}
-
 // The number at a place, 0 outside.
 pub fn get(s: &[u32], i: u32) -> u32
     ensures { result ≡ get_or s.now i 0 }
 {
     s.get(i as usize).copied().unwrap_or(0)
-}
-
-// A difference that stops at 0.
-pub fn monus(a: u32, b: u32) -> u32
-    ensures { result ≡ a - b }
-{
-    a.saturating_sub(b)
-}
-
-pub fn lesser(a: u32, b: u32) -> u32
-    ensures { result ≡ min a b }
-{
-    a.min(b)
 }
 
 // The sum of two costs, capped at NONE.
