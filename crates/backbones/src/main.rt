@@ -18,7 +18,8 @@ use stream::read_full;
 use text::Text;
 use words::MOST_SITES;
 
-// The program's areas: an input's bytes and one more, which tells that it is too long; its words; work and answer.
+// The program's areas, of fixed sizes since it has no heap: an input's bytes and one more, which tells that it is too long; its words; work
+// and answer.
 const INPUT_BYTES: usize = MOST_BYTES + 1;
 
 const INPUT_WORDS: usize = MOST_BYTES / WORD_BYTES;
