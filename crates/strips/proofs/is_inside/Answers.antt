@@ -4,4 +4,4 @@ use Rattle.strips.proofs.is_inside.Goals as goal
 
 pub returns : goal.returns
 unfolding inside
-returns c = λ q bs. rw (c.is_under.ensures q, c.is_over.ensures q) refl
+returns c = rw (c.is_under.ensures, c.is_over.ensures) refl

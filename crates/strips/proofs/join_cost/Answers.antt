@@ -3,8 +3,8 @@ use native.Mathlib.Omega.{arith}
 use Rattle.strips.proofs.join_cost.Goals as goal
 
 pub joining_cost-requires : goal.joining_cost-requires
-joining_cost-requires c = let p = c.requires in
-    (p.0.charge_low, omega (arith, c.get.ensures, p.0.height_low c.args.k), p.1.y_low)
+joining_cost-requires c = let o = c.args.sheet.now.of_sheet in
+    (o.charge_low, omega (arith, c.get.ensures, o.height_low c.args.k), c.requires.y_low)
 
 pub returns : goal.returns
 returns c = c.joining_cost.ensures ∙ rw c.get.ensures

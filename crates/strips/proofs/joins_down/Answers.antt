@@ -3,4 +3,4 @@ use mathlib.Core.Path.{refl}
 use Rattle.strips.proofs.joins_down.Goals as goal
 
 pub returns : goal.returns
-returns c = λ bs. rw (c.is_clear.ensures, joins-down-by) refl
+returns c = rw (c.is_clear.ensures, joins-down-by) refl

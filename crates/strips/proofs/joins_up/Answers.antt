@@ -5,4 +5,4 @@ use Rattle.strips.proofs.joins_up.Goals as goal
 
 pub returns : goal.returns
 unfolding joins_up
-returns c = λ bs. rw (← (add-one c.args.s.c), ← (add-one c.args.k), c.is_held.ensures, c.is_clear.ensures) refl
+returns c = rw (← (add-one c.args.s.c), ← (add-one c.args.k), c.is_held.ensures, c.is_clear.ensures) refl

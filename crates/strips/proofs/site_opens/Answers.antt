@@ -6,4 +6,4 @@ use Rattle.strips.proofs.site_opens.Goals as goal
 
 pub returns : goal.returns
 unfolding site_opens
-returns c = rw (c.is_held.ensures, c.is_clear-2.ensures, c.is_clear.ensures, default-any c.args.bounds.now c.args.s.c unbounded 0 c.requires) refl
+returns c = rw (c.is_held.ensures, c.is_clear-2.ensures, c.is_clear.ensures, default-any c.args.sheet.now.bounds.now c.args.s.c unbounded 0 c.requires) refl
