@@ -10,7 +10,9 @@ use Rattle.search.specs.Cost.{plus}
 use Rattle.optimum.specs.OneSided.{top_word, mark_count}
 use Rattle.optimum.specs.Strips.{Point, Strip}
 use Rattle.arrays.specs.declared.Measures.{Measures}
-use Rattle.rows.specs.Rows.{row_of, rows_of, row_in, most_place, Lies, upper_part, lower_part, LevelFits}
+use Rattle.arrays.specs.Given.{Given, OfSheet}
+use Rattle.rows.specs.Rows.{row_of, rows_of, level_of, row_in, most_place, Lies, upper_part, lower_part, LevelFits}
+use Rattle.rows.proofs.Levels.{level-fits}
 use Rattle.rows.proofs.Places.{row_fits, upper-lies, lower-lies}
 use Rattle.parts.specs.Parts.{parts_cost, Marked, Marking, PartsMarked}
 
@@ -80,8 +82,8 @@ module _ {q : Measures} {m low area : ℕ} (r : LevelFits q m low area) (p : Str
       (marking-join _ _ _ _ _ f g, record { upper = g.kept _ x; lower = y })
 
 -- the same, of what the code asks and finds
-pub parts_within : {q : Measures} {m low area : ℕ} {p : Strip} {upper lower : ℕ} (s : Point) (k d : ℕ) → LevelFits q m low area × Lies m q.colours p
-    → (s.c < q.colours) × (k + 1 < p.b) × (d < mark_count)
-    → (upper ≡ low + row_of m q.colours (upper_part d p s k) * q.budgets) × (lower ≡ low + row_of m q.colours (lower_part p s k) * q.budgets)
+pub parts_within : {g : Given} (o : OfSheet g) (low : ℕ) {area : ℕ} {p : Strip} {upper lower : ℕ} (s : Point) (k d : ℕ)
+    → (low + level_of g.measures g.heights ≤ area) × Lies (length g.heights) g.measures.colours p → (s.c < g.measures.colours) × (k + 1 < p.b) × (d < mark_count)
+    → (upper ≡ low + row_of (length g.heights) g.measures.colours (upper_part d p s k) * g.measures.budgets) × (lower ≡ low + row_of (length g.heights) g.measures.colours (lower_part p s k) * g.measures.budgets)
     → (upper < area) × (lower < area)
-parts_within s k d r c e = both-within r.0 _ s k d r.1 c.0 c.1 c.2 _ _ e.0 e.1
+parts_within o low s k d r c e = both-within (level-fits o r.0) _ s k d r.1 c.0 c.1 c.2 _ _ e.0 e.1
