@@ -10,9 +10,7 @@ use Rattle.search.specs.Cost.{plus}
 use Rattle.optimum.specs.OneSided.{top_word, mark_count}
 use Rattle.optimum.specs.Strips.{Point, Strip}
 use Rattle.arrays.specs.declared.Measures.{Measures}
-use Rattle.arrays.specs.Given.{Given, OfSheet}
-use Rattle.rows.specs.Rows.{row_of, rows_of, level_of, row_in, most_place, Lies, upper_part, lower_part, LevelFits}
-use Rattle.rows.proofs.Levels.{level-fits}
+use Rattle.rows.specs.Rows.{row_of, rows_of, row_in, most_place, Lies, upper_part, lower_part, LevelFits}
 use Rattle.rows.proofs.Places.{row_fits, upper-lies, lower-lies}
 use Rattle.parts.specs.Parts.{parts_cost, Marked, Marking, PartsMarked}
 
@@ -61,12 +59,6 @@ parts-kept q old new low m size p s f h = record { upper = f.kept _ h.upper; low
 -- the rows of the two parts that a label at slot k leaves of a strip
 module _ {q : Measures} {m low area : ℕ} (r : LevelFits q m low area) (p : Strip) (s : Point) (k d : ℕ) (l : Lies m q.colours p) (c : s.c < q.colours) (b : k + 1 < p.b) (dl : d < mark_count) (upper lower : ℕ)
     (u : upper ≡ low + row_of m q.colours (upper_part d p s k) * q.budgets) (w : lower ≡ low + row_of m q.colours (lower_part p s k) * q.budgets) where
-  pub both-within : (upper < area) × (lower < area)
-  both-within = (
-    omega (arith, u, own-within r (upper_part d p s k) (upper-lies m q.colours d p s k l c b dl)),
-    omega (arith, w, own-within r (lower_part p s k) (lower-lies m q.colours p s k l c b)),
-  )
-
   pub parts-cost : (work : List ℕ) (t : ℕ) → t ≡ plus top_word (get_or work upper 0) (get_or work lower 0) → t ≡ parts_cost (row_in work low m q.colours q.budgets) p s k d
   parts-cost work t f =
       f ∙ ap₂ (plus top_word) (ap (λ (z : ℕ). get_or work z 0) (u ∙ omega arith)) (ap (λ (z : ℕ). get_or work z 0) (w ∙ omega arith))
@@ -80,10 +72,3 @@ module _ {q : Measures} {m low area : ℕ} (r : LevelFits q m low area) (p : Str
       let g = own-marking r (lower_part p s k) (lower-lies m q.colours p s k l c b) (set old upper 1) lower e w in
       let y = own-marked r (lower_part p s k) (lower-lies m q.colours p s k l c b) (set old upper 1) lower e w in
       (marking-join _ _ _ _ _ f g, record { upper = g.kept _ x; lower = y })
-
--- the same, of what the code asks and finds
-pub parts_within : {g : Given} (o : OfSheet g) (low : ℕ) {area : ℕ} {p : Strip} {upper lower : ℕ} (s : Point) (k d : ℕ)
-    → (low + level_of g.measures g.heights ≤ area) × Lies (length g.heights) g.measures.colours p → (s.c < g.measures.colours) × (k + 1 < p.b) × (d < mark_count)
-    → (upper ≡ low + row_of (length g.heights) g.measures.colours (upper_part d p s k) * g.measures.budgets) × (lower ≡ low + row_of (length g.heights) g.measures.colours (lower_part p s k) * g.measures.budgets)
-    → (upper < area) × (lower < area)
-parts_within o low s k d r c e = both-within (level-fits o r.0) _ s k d r.1 c.0 c.1 c.2 _ _ e.0 e.1

@@ -20,6 +20,9 @@ const MARK_COUNT: usize = 1;
 
 pub const LAST_MARK: u32 = 0;
 
+// That a strip lies between edges or labels of a sheet (Lies) and that a site is a sheet's (SiteIn) ties two values, so each stays a clause
+// of the functions that take both.
+
 // A strip: the labels above and below it (0: the top edge, k + 1: slot k, m + 1: the bottom edge) and their colours (0: none, c + 1: colour c);
 // d is the mark that the last site tied in it left.
 #[derive(Clone, Copy)]
@@ -68,6 +71,7 @@ pub fn site_at(sheet: &RankedSheet, j: usize) -> Site
 }
 
 // How many rows a level has.
+#[tactic(auto, unfolding(optimum::specs::OneSided::mark_count))]
 pub fn rows_of(sheet: &RankedSheet) -> usize
     ensures { result ≡ rows_of (slots_of sheet.now) (colours_of sheet.now) }
 {
@@ -99,7 +103,8 @@ pub fn marked_by(p: Strip, d: u32) -> Strip
 pub fn part_places(sheet: &RankedSheet, p: Strip, s: Site, low: usize, k: u32, d: u32) -> PartRows
     requires level_fits { low + level_of sheet.now.measures sheet.now.heights.now ≤ most_place }
     requires lies { Lies (slots_of sheet.now) (colours_of sheet.now) (strip_of p) × (s.c < sheet.now.measures.colours) × (k + 1 < p.b) × (d < mark_count) }
-    ensures { (result.upper ≡ low + row_of (slots_of sheet.now) (colours_of sheet.now) (upper_part d (strip_of p) (point_of s) k) * sheet.now.measures.budgets) × (result.lower ≡ low + row_of (slots_of sheet.now) (colours_of sheet.now) (lower_part (strip_of p) (point_of s) k) * sheet.now.measures.budgets) }
+    ensures places { (result.upper ≡ low + row_of (slots_of sheet.now) (colours_of sheet.now) (upper_part d (strip_of p) (point_of s) k) * sheet.now.measures.budgets) × (result.lower ≡ low + row_of (slots_of sheet.now) (colours_of sheet.now) (lower_part (strip_of p) (point_of s) k) * sheet.now.measures.budgets) }
+    ensures within { (result.upper < low + level_of sheet.now.measures sheet.now.heights.now) × (result.lower < low + level_of sheet.now.measures sheet.now.heights.now) }
 {
     let c = s.c + 1;
     let upper = Strip {
@@ -138,6 +143,7 @@ pub fn next_end(colours: u32, e: End) -> End
 }
 
 // The strip below the same upper end whose row comes next: by the mark, then by the lower end.
+#[tactic(auto, unfolding(optimum::specs::OneSided::mark_count))]
 pub fn next_below(colours: u32, p: Strip) -> Strip
     requires { (colours ≤ most_colours) × (p.b ≤ most_slots + 2) × (p.cb ≤ colours) × (p.d < mark_count) }
     ensures { (result.a ≡ p.a) × (result.ca ≡ p.ca) × (result.cb ≤ colours) × (result.d < mark_count) × (low_place colours (strip_of result) ≡ low_place colours (strip_of p) + 1) }
@@ -158,6 +164,7 @@ pub fn next_below(colours: u32, p: Strip) -> Strip
     }
 }
 
+#[tactic(auto, unfolding(crate::specs::Rows::upper_end))]
 pub fn is_upper_end(e: End) -> bool
     ensures { result ≡ upper_end e.slot e.colour }
 {

@@ -2,15 +2,13 @@
 use mathlib.Core.Path.{◌≡◌, refl, sym, ap, ap₂, ◌∙◌}
 use mathlib.Core.Bool.{Bool, true, false, cond, ◌||◌}
 use mathlib.Core.List.{List}
-use Prim.Native.Nat.{ℕ, ◌-◌, ◌<◌}
+use Prim.Native.Nat.{ℕ, ◌-◌}
 use native.Mathlib.Omega.{arith}
 use lib.ListN.{get_or}
-use Rattle.sheet.specs.Limits.{most_colours}
 use Rattle.search.specs.Radix.{below}
 use Rattle.search.proofs.Radix.{below-splits}
 use Rattle.arrays.specs.declared.Measures.{Measures}
 use Rattle.arrays.specs.Arrays.{instance_by}
-use Rattle.arrays.specs.Given.{Given, OfSheet, SiteIn}
 use Rattle.optimum.specs.Strips.{Point, Strip, opens, joins_up, joins_down, cost, draw}
 use Rattle.optimum.specs.OneSided.{top_word}
 use Rattle.strips.specs.Strips.{instance_on, open_cost, join_cost}
@@ -40,7 +38,3 @@ module _ (q : Measures) (hs bs rs ds : List ℕ) (p : Strip) (s : Point) (k : �
   step-joins v c joins o e f =
       let w : cond joins c top_word ≡ cost (instance_by q hs bs rs ds) p s k = ap₂ (λ (t : Bool) (z : ℕ). cond t z top_word) e f ∙ sym (cost-joins q hs bs p s k o) ∙ sym (cost-on q hs bs rs ds p s k) in
       (omega (arith, draw-joins o), w ∙ sym (rw (draw-joins o, (below-splits rs).nothing v) refl))
-
--- what the decisions ask for
-pub colour-low : {g : Given} → OfSheet g → {s : Point} → SiteIn g.measures s → s.c < most_colours
-colour-low o i = omega (arith, o.few_colours, i.colour_low)

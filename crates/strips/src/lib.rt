@@ -36,6 +36,7 @@ pub struct Step {
 }
 
 // The site lies between the strip's ends.
+#[tactic(auto, unfolding(optimum::specs::Strips::inside))]
 pub fn is_inside(sheet: &RankedSheet, p: Strip, s: Site) -> bool
     ensures { result ≡ model.inside (instance_on sheet.now.measures sheet.now.heights.now sheet.now.bounds.now) (strip_of p) (point_of s) }
 {
@@ -82,6 +83,7 @@ pub fn open_window(sheet: &RankedSheet, p: Strip, s: Site) -> Window
 }
 
 // The mark that the site leaves in its strip where it is tied to slot k.
+#[tactic(auto, unfolding(arrays::specs::Arrays::turn_by))]
 pub fn turn_at(sheet: &RankedSheet, s: Site, k: u32) -> u32
     ensures { result ≡ turn_by sheet.now.heights.now (point_of s) k }
 {
@@ -89,6 +91,7 @@ pub fn turn_at(sheet: &RankedSheet, s: Site, k: u32) -> u32
 }
 
 // By its mark the strip holds the site to the label below.
+#[tactic(auto, unfolding(arrays::specs::Arrays::held_by))]
 fn is_held(sheet: &RankedSheet, p: Strip, s: Site) -> bool
     ensures { result ≡ held_by sheet.now.heights.now (strip_of p) (point_of s) }
 {
@@ -96,6 +99,7 @@ fn is_held(sheet: &RankedSheet, p: Strip, s: Site) -> bool
 }
 
 // Of what opening a label asks, that which does not turn on the slot.
+#[tactic(auto, unfolding(crate::specs::Strips::site_opens))]
 pub fn site_opens(sheet: &RankedSheet, p: Strip, s: Site) -> bool
     requires { s.c < length sheet.now.bounds.now }
     ensures { result ≡ site_opens (instance_on sheet.now.measures sheet.now.heights.now sheet.now.bounds.now) (strip_of p) (point_of s) }
@@ -106,6 +110,7 @@ pub fn site_opens(sheet: &RankedSheet, p: Strip, s: Site) -> bool
 }
 
 // The site may open no label at slot k.
+#[tactic(auto, unfolding(optimum::specs::OneSided::has_slot))]
 pub fn is_barred(s: Site, k: u32) -> bool
     requires { k ≤ most_slots }
     ensures { result ≡ has_slot s.barred k }
@@ -127,6 +132,7 @@ fn opens(sheet: &RankedSheet, p: Strip, s: Site, k: u32) -> bool
 }
 
 // It may join the label above, at slot k; the label below.
+#[tactic(auto, unfolding(optimum::specs::Strips::joins_up))]
 fn joins_up(sheet: &RankedSheet, p: Strip, s: Site, k: u32) -> bool
     requires { (s.c < most_colours) × (k ≤ most_slots) }
     ensures { result ≡ model.joins_up (instance_on sheet.now.measures sheet.now.heights.now sheet.now.bounds.now) (strip_of p) (point_of s) k }
@@ -135,6 +141,7 @@ fn joins_up(sheet: &RankedSheet, p: Strip, s: Site, k: u32) -> bool
     own & is_clear(sheet, p.b, s.y) & !is_held(sheet, p, s)
 }
 
+#[tactic(auto, unfolding(optimum::specs::Strips::joins_down))]
 fn joins_down(sheet: &RankedSheet, p: Strip, s: Site, k: u32) -> bool
     requires { (s.c < most_colours) × (k ≤ most_slots) }
     ensures { result ≡ model.joins_down (instance_on sheet.now.measures sheet.now.heights.now sheet.now.bounds.now) (strip_of p) (point_of s) k }
@@ -164,6 +171,7 @@ fn join_cost(sheet: &RankedSheet, s: Site, k: u32) -> u32
 }
 
 // What it costs to join the label above, and the label below; NONE if that is not lawful.
+#[tactic(auto, unfolding(crate::specs::Strips::rise_cost))]
 pub fn rise_cost(sheet: &RankedSheet, p: Strip, s: Site) -> u32
     requires { SiteIn sheet.now.measures (point_of s) × Lies (slots_of sheet.now) (colours_of sheet.now) (strip_of p) }
     ensures { result ≡ rise_cost sheet.now.measures sheet.now.heights.now sheet.now.bounds.now (strip_of p) (point_of s) }
@@ -177,6 +185,7 @@ pub fn rise_cost(sheet: &RankedSheet, p: Strip, s: Site) -> u32
     }
 }
 
+#[tactic(auto, unfolding(crate::specs::Strips::fall_cost))]
 pub fn fall_cost(sheet: &RankedSheet, p: Strip, s: Site) -> u32
     requires { SiteIn sheet.now.measures (point_of s) × Lies (slots_of sheet.now) (colours_of sheet.now) (strip_of p) }
     ensures { result ≡ fall_cost sheet.now.measures sheet.now.heights.now sheet.now.bounds.now (strip_of p) (point_of s) }

@@ -1,13 +1,6 @@
 use Rattle.rows.specs.Rows.{strip_of, point_of}
 use Rattle.strips.proofs.Windows.{window-of}
-use Rattle.strips.proofs.Steps.{colour-low}
 use Rattle.strips.proofs.open_window.Goals as goal
-
-pub first_far-from-requires : goal.first_far-from-requires
-first_far-from-requires c = colour-low c.args.sheet.now.of_sheet c.requires.0
-
-pub far_end-to-requires : goal.far_end-to-requires
-far_end-to-requires c = colour-low c.args.sheet.now.of_sheet c.requires.0
 
 pub returns : goal.returns
 returns c = let s = c.args.sheet.now in
