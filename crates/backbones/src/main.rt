@@ -3,7 +3,7 @@
 
 ghost use Rattle.std.specs.Prelude.{◌≡◌, cond, ◌++◌, ◌≤◌, eqb, length, drop};
 ghost use Rattle.sheet.specs.Sheet.{sheet_in, sheet_fault};
-ghost use Rattle.text.specs.Text.{written, past_of};
+ghost use Rattle.text.specs.Puts.{Puts};
 ghost use Rattle.report.specs.Lines.{refused_line, layout_text};
 ghost use Rattle.report.specs.Report.{program_sheet_text, program_text, text_bound};
 
@@ -14,6 +14,7 @@ use report::input::put_words;
 use report::lines::{put_layout, put_refused};
 use std::io;
 use stream::read_full;
+use text::Text;
 use words::MOST_SITES;
 
 // The program's areas: an input's bytes and one more, which tells that it is too long; its words; work and answer.
@@ -29,51 +30,49 @@ const ANSWER_WORDS: usize = MOST_SITES + 1;
 const TEXT_BOUND: usize = 36 + MOST_SITES * 50;
 
 // A refusal, or the layout in an answer; only a sheet that is accepted has one.
-fn put_answer(text: &mut [u8], sheet: &[u32], answer: &[u32], fault: u8) -> usize
+fn put_answer(text: &mut Text, sheet: &[u32], answer: &[u32], fault: u8)
     requires { fault ≡ 0 → sheet_fault sheet.now ≡ 0 }
-    ensures value { result ≡ past_of text.old 0 (cond (eqb fault 0) (layout_text (sheet_in sheet.now) answer.now) (refused_line fault)) }
-    ensures text_after { text.new ≡ written text.old 0 (cond (eqb fault 0) (layout_text (sheet_in sheet.now) answer.now) (refused_line fault)) }
+    ensures { Puts text.old text.new (cond (eqb fault 0) (layout_text (sheet_in sheet.now) answer.now) (refused_line fault)) }
 {
     if fault != 0 {
-        let number = fault as u64;
-        return put_refused(text, 0, number);
+        return put_refused(text, u64::from(fault));
     }
     let numbers = numbers_of(sheet);
     let sites = numbers.sites;
     let colours = numbers.colours;
-    put_layout(text, answer, &colours[..sites])
+    put_layout(text, answer, &colours[..sites]);
 }
 
 // What the layout maker says of a sheet, with the program's areas for its work and its answer.
-fn put_program_sheet(text: &mut [u8], sheet: &[u32]) -> usize
-    ensures value { result ≡ past_of text.old 0 (program_sheet_text sheet.now) }
-    ensures text_after { text.new ≡ written text.old 0 (program_sheet_text sheet.now) }
+fn put_program_sheet(text: &mut Text, sheet: &[u32])
+    ensures { Puts text.old text.new (program_sheet_text sheet.now) }
 {
     let mut work = [0u32; WORK_WORDS];
     let mut answer = [0u32; ANSWER_WORDS];
     let fault = make_layout(sheet, &mut work, &mut answer);
-    put_answer(text, sheet, &answer, fault)
+    put_answer(text, sheet, &answer, fault);
 }
 
-fn put_program(text: &mut [u8], input: &[u8]) -> usize
-    ensures value { result ≡ past_of text.old 0 (program_text input.now) }
-    ensures text_after { text.new ≡ written text.old 0 (program_text input.now) }
+fn put_program(text: &mut Text, input: &[u8])
+    ensures { Puts text.old text.new (program_text input.now) }
 {
     if is_unfit(input.len()) {
-        return put_refused(text, 0, 12);
+        return put_refused(text, 12);
     }
     let mut words = [0u32; INPUT_WORDS];
     let n = put_words(&mut words, input);
-    put_program_sheet(text, &words[..n])
+    put_program_sheet(text, &words[..n]);
 }
 
 // Puts the program's text for an input at the start of an area that holds every text, and answers its number of bytes.
-fn report(input: &[u8], text: &mut [u8]) -> usize
-    requires { text_bound ≤ length text.old }
+fn report(input: &[u8], area: &mut [u8]) -> usize
+    requires { text_bound ≤ length area.old }
     ensures value { result ≡ length (program_text input.now) }
-    ensures text_after { text.new ≡ program_text input.now ++ drop (length (program_text input.now)) text.old }
+    ensures area_after { area.new ≡ program_text input.now ++ drop (length (program_text input.now)) area.old }
 {
-    put_program(text, input)
+    let mut text = Text::new(area);
+    put_program(&mut text, input);
+    text.past()
 }
 
 // Reads an input and writes the text for it.

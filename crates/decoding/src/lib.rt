@@ -9,14 +9,16 @@ ghost use Rattle.sheet.specs.Sheet.{colours_in, sites_in, sheet_in, sheet_fault}
 ghost use Rattle.sheet.specs.Words.{count_kind};
 ghost use Rattle.decoding.specs.Decoding.{numbers_by, no_numbers, head_by, site_counts_of, colours_of, of_kind};
 ghost use Rattle.lists.specs.Arrays.{padded};
+ghost use Rattle.words.specs.Kinds.{kind_number};
 
 use words::arrays::padded;
 use words::body::{body_of, count_kind, sites_run};
 use words::charge::charge_of;
+use words::kinds::{Kind, is_kind};
 use words::tied::Head;
 use words::{
-    COLOUR, MOST_COLOURS, MOST_SITES, MOST_SLOTS, SITE, SLOT, aim_bit, byte_field, gap_field, get,
-    high_field, kind_of, low_field, side_bit,
+    MOST_COLOURS, MOST_SITES, MOST_SLOTS, aim_bit, byte_field, gap_field, get, high_field,
+    low_field, side_bit,
 };
 
 // Side, aim, gap, width and charge: after the refusals the head is taken apart nowhere else.
@@ -36,15 +38,15 @@ fn head_of(sheet: &[u32]) -> Head
 // A field of each word of a kind, in an array: zeros past the last.
 fn fields_of<const N: usize, F: FnMut(u32) -> u32 + Drop>(
     body: &[u32],
-    kind: u32,
+    kind: Kind,
     field: F,
 ) -> [u32; N]
     requires callable { (f : _) (w : _) → F.pre f w }
-    requires few { count_kind kind body.now ≤ N }
-    ensures { (of : ℕ → ℕ) → ActsAs F.FnMut field of → result ≡ padded N (map of (of_kind kind body.now)) }
+    requires few { count_kind (kind_number kind) body.now ≤ N }
+    ensures { (of : ℕ → ℕ) → ActsAs F.FnMut field of → result ≡ padded N (map of (of_kind (kind_number kind) body.now)) }
 {
     let words = body.iter().copied();
-    padded(words.filter(|w| kind_of(*w) == kind).map(field))
+    padded(words.filter(|w| is_kind(*w, kind)).map(field))
 }
 
 // How many sites each colour has.
@@ -54,7 +56,7 @@ fn site_counts_of(body: &[u32]) -> [u32; MOST_COLOURS]
     ensures { result ≡ padded most_colours (site_counts_of (colours_in body.now)) }
 {
     let words = body.iter().enumerate();
-    let colours = words.filter(|(_, w)| kind_of(**w) == COLOUR);
+    let colours = words.filter(|(_, w)| is_kind(**w, Kind::Colour));
     padded(colours.map(|(place, _)| sites_run(body, place + 1) as u32))
 }
 
@@ -68,13 +70,11 @@ fn colours_of(body: &[u32]) -> [u32; MOST_SITES]
     let mut colours: u32 = 0;
     let mut sites = 0;
     for w in body {
-        match kind_of(*w) {
-            COLOUR => colours += 1,
-            SITE => {
-                array[sites] = colours.saturating_sub(1);
-                sites += 1;
-            }
-            _ => {}
+        if is_kind(*w, Kind::Colour) {
+            colours += 1;
+        } else if is_kind(*w, Kind::Site) {
+            array[sites] = colours.saturating_sub(1);
+            sites += 1;
         }
     }
     array
@@ -130,14 +130,14 @@ pub fn numbers_of(sheet: &[u32]) -> Numbers
     let body = body_of(sheet);
     Numbers {
         head: head_of(sheet),
-        slots: count_kind(body, SLOT),
-        kinds: count_kind(body, COLOUR),
-        sites: count_kind(body, SITE),
-        heights: fields_of(body, SLOT, low_field),
-        bounds: fields_of(body, COLOUR, byte_field),
+        slots: count_kind(body, Kind::Slot),
+        kinds: count_kind(body, Kind::Colour),
+        sites: count_kind(body, Kind::Site),
+        heights: fields_of(body, Kind::Slot, low_field),
+        bounds: fields_of(body, Kind::Colour, byte_field),
         site_counts: site_counts_of(body),
-        xs: fields_of(body, SITE, high_field),
-        ys: fields_of(body, SITE, low_field),
+        xs: fields_of(body, Kind::Site, high_field),
+        ys: fields_of(body, Kind::Site, low_field),
         colours: colours_of(body),
     }
 }

@@ -2,13 +2,11 @@
 ghost use Rattle.std.specs.Prelude.{◌≡◌};
 ghost use Rattle.forms.specs.Forms.{is_head_word};
 
-use words::{HEAD, gap_field, kind_of, low_field};
+use words::kinds::{Kind, is_kind};
+use words::{gap_field, low_field};
 
 pub fn is_head_word(w: u32) -> bool
     ensures { result ≡ is_head_word w }
 {
-    let first = kind_of(w) == HEAD;
-    let wide = low_field(w) != 0;
-    let apart = gap_field(w) != 0;
-    (first & wide) & apart
+    is_kind(w, Kind::Head) && low_field(w) != 0 && gap_field(w) != 0
 }

@@ -2,14 +2,12 @@
 ghost use Rattle.std.specs.Prelude.{◌≡◌};
 ghost use Rattle.forms.specs.Forms.{tie_fits};
 
-use words::{TIE, byte_field, kind_of, spare_field};
+use words::kinds::{Kind, is_kind};
+use words::{byte_field, spare_field};
 
 // A word of kind 9 without a spare bit, its slot below m.
 pub fn is_tie(m: usize, w: u32) -> bool
     ensures { result ≡ tie_fits m w }
 {
-    let tie = kind_of(w) == TIE;
-    let whole = spare_field(w) == 0;
-    let slot = byte_field(w) as usize;
-    (tie & whole) & (slot < m)
+    is_kind(w, Kind::Tie) && spare_field(w) == 0 && (byte_field(w) as usize) < m
 }

@@ -2,46 +2,41 @@
 ghost use Rattle.std.specs.Prelude.{◌≡◌};
 ghost use Rattle.sheet.specs.Sheet.{has_spare};
 ghost use Rattle.forms.specs.Forms.{stage_after};
+ghost use Rattle.forms.specs.Stages.{stage_number, stage_number_in};
 
-use words::{COLOUR, SITE, SLOT, choose, high_field, kind_of, spare_field};
+use words::kinds::{Kind, is_kind};
+use words::{high_field, spare_field};
 
-// The stages: slots may come; a colour has come; a word was out of its order.
-pub const SLOTS: u32 = 0;
-
-const COLOURS: u32 = 1;
-
-pub const WRONG: u32 = 2;
+// What the words so far allow: slots may come; or a colour has come, and its sites or another may.
+#[derive(Clone, Copy, PartialEq, Eq)]
+pub enum Stage {
+    Slots,
+    Colours,
+}
 
 // A bit that has no name.
 fn has_spare(w: u32) -> bool
     ensures { result ≡ has_spare w }
 {
-    let k = kind_of(w);
-    if k == SLOT {
+    if is_kind(w, Kind::Slot) {
         return high_field(w) != 0;
     }
-    if k == COLOUR {
-        return spare_field(w) != 0;
-    }
-    false
+    is_kind(w, Kind::Colour) && spare_field(w) != 0
 }
 
-// The stage after a word.
-pub fn stage_after(z: u32, w: u32) -> u32
-    ensures { result ≡ stage_after z w }
+// The stage after a word; none after one that is out of its order.
+pub fn stage_after(stage: Stage, w: u32) -> Option<Stage>
+    ensures { stage_number_in result ≡ stage_after (stage_number stage) w }
 {
     if has_spare(w) {
-        return WRONG;
+        return None;
     }
-    let k = kind_of(w);
-    if k == SLOT {
-        return choose(z == SLOTS, SLOTS, WRONG);
+    if is_kind(w, Kind::Colour) {
+        return Some(Stage::Colours);
     }
-    if k == COLOUR {
-        return COLOURS;
-    }
-    if k == SITE {
-        return choose(z == COLOURS, COLOURS, WRONG);
-    }
-    WRONG
+    let fits = match stage {
+        Stage::Slots => is_kind(w, Kind::Slot),
+        Stage::Colours => is_kind(w, Kind::Site),
+    };
+    if fits { Some(stage) } else { None }
 }

@@ -6,7 +6,9 @@ use Prim.Native.Nat.{ℕ, suc, ◌+◌, ◌-◌, ◌<◌, ◌≤◌}
 use native.Mathlib.Omega.{arith}
 use Rattle.lists.proofs.Tests.{by-test}
 use Rattle.labelling.specs.Layout.{is_used, used_from}
-use Rattle.text.proofs.Written.{Put, put-more}
+use Rattle.text.specs.Puts.{Puts}
+use Rattle.text.specs.declared.Text.{Text}
+use Rattle.text.proofs.Puts.{puts-more}
 use Rattle.page.specs.Page.{numbers_from, joined}
 
 -- THE LINES of the used slots among m, from slot k on; of n sites, from site i on
@@ -57,12 +59,10 @@ unfolding joined
 joined-one l = append-nil l
 
 -- three parts, one after the other
-pub parts-put : {m o e : List ℕ} {p q r : ℕ} (l : List ℕ) (at : ℕ) (ks bs : List (List ℕ)) (c d : List ℕ) → d ≡ c → Put l m at p (joined ks) → Put m o p q (joined bs) → Put o e q r d →
-    Put l e at r (joined (ks ++ (bs ++ (c ∷ []))))
-parts-put {e = e} {r = r} l at ks bs c d same x y z =
-    subst (λ (t : List ℕ). Put l e at r t) all (put-more l at (joined ks) (joined bs ++ d) x (put-more _ _ (joined bs) d y z))
+pub parts-put : {a b c d : Text} (ks bs : List (List ℕ)) (l m : List ℕ) → m ≡ l → Puts a b (joined ks) → Puts b c (joined bs) → Puts c d m → Puts a d (joined (ks ++ (bs ++ (l ∷ []))))
+parts-put {a} {d = d} ks bs l m same x y z = subst (Puts a d) all (puts-more x (puts-more y z))
   where
-    all : joined ks ++ (joined bs ++ d) ≡ joined (ks ++ (bs ++ (c ∷ [])))
+    all : joined ks ++ (joined bs ++ m) ≡ joined (ks ++ (bs ++ (l ∷ [])))
     all =
         ap (λ (t : List ℕ). joined ks ++ (joined bs ++ t)) same ∙
-        sym (joined-more ks (bs ++ (c ∷ [])) ∙ ap (λ (t : List ℕ). joined ks ++ t) (joined-more bs (c ∷ []) ∙ ap (λ (t : List ℕ). joined bs ++ t) (joined-one c)))
+        sym (joined-more ks (bs ++ (l ∷ [])) ∙ ap (λ (t : List ℕ). joined ks ++ t) (joined-more bs (l ∷ []) ∙ ap (λ (t : List ℕ). joined bs ++ t) (joined-one l)))

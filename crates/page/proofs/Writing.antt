@@ -1,5 +1,5 @@
 -- The page of a stored sheet of which nothing is refused, as code finds and puts it. Assumes nothing.
-use mathlib.Core.Path.{◌≡◌, sym, ◌∙◌, ap, ap₂, subst, subst⁻¹}
+use mathlib.Core.Path.{◌≡◌, sym, ◌∙◌, ap, ap₂, subst⁻¹}
 use mathlib.Core.List.{List, ◌++◌}
 use Prim.Native.Nat.{ℕ, ◌≤◌}
 use native.Mathlib.Omega.{arith}
@@ -16,7 +16,8 @@ use Rattle.decoding.proofs.Places.{sheet-read}
 use Rattle.judge.specs.declared.opened.Opened.{Opened}
 use Rattle.judge.specs.Opened.{stored_opened}
 use Rattle.judge.proofs.opened.Opening.{stored-numbers, stored-read}
-use Rattle.text.proofs.Written.{Put, written-front}
+use Rattle.text.specs.Text.{written, past_of}
+use Rattle.text.proofs.Written.{written-front}
 use Rattle.sizes.specs.Pages.{bytes_for}
 use Rattle.page.specs.Page.{page_of, page_in, page_size, page_fault}
 use Rattle.page.proofs.Promise.{size_of, stored-long}
@@ -42,9 +43,10 @@ module _ (ws : List ℕ) {v : Opened} (e : v ≡ stored_opened ws) (z : stored_f
   fault-found o q f = f ∙ ap₂ (λ (g n : ℕ). written_fault g n (length o)) (sym z) (size-found q) ∙ sym (tool-chain ws (page_size ws) (length o))
 
   -- the page is put
-  pub page-put : (o : List ℕ) {p : ℕ} {o' : List ℕ} → page_size ws ≤ length o → Put o o' 0 p (page_of (sheet_by d) (layout_ties ls)) → (p ≡ page_size ws) × (o' ≡ page_in ws ++ drop (page_size ws) o)
+  pub page-put : (o : List ℕ) {p : ℕ} {o' : List ℕ} → page_size ws ≤ length o → (p ≡ past_of o 0 (page_of (sheet_by d) (layout_ties ls))) × (o' ≡ written o 0 (page_of (sheet_by d) (layout_ties ls))) →
+      (p ≡ page_size ws) × (o' ≡ page_in ws ++ drop (page_size ws) o)
   page-put o {p} {o'} h a =
       let t : page_of (sheet_by d) (layout_ties ls) ≡ page_in ws = ap₂ (λ (s : Sheet) (l : List ℕ). page_of s (layout_ties l)) sheet-is part in
       let n : length (page_in ws) ≡ page_size ws = stored-long ws z in
-      let b : Put o o' 0 p (page_in ws) = subst (λ (l : List ℕ). Put o o' 0 p l) t a in
+      let b : (p ≡ past_of o 0 (page_in ws)) × (o' ≡ written o 0 (page_in ws)) = rw t at a in
       (b.0 ∙ omega (arith, n), b.1 ∙ written-front o (page_in ws) (omega (arith, n)) ∙ ap (λ (k : ℕ). page_in ws ++ drop k o) n)

@@ -16,6 +16,7 @@ use decoding::Numbers;
 use faults::written::{Written, written_fault};
 use judge::opened::open_stored;
 use sizes::page::bytes_for;
+use text::Text;
 use words::count_field;
 
 // How many bytes the page has. The labels are as many as the layout states, which is true.
@@ -49,8 +50,9 @@ pub fn write_page(stored: &[u32], page: &mut [u8]) -> Written
             written: 0,
         };
     }
-    let past = put_page(page, numbers, &stored[at..]);
-    let written = past as u32;
+    let mut text = Text::new(page);
+    put_page(&mut text, numbers, &stored[at..]);
+    let written = text.past() as u32;
     Written {
         refusal: 0,
         written: written,

@@ -1,13 +1,11 @@
 // A line of each sort: of a used slot, of a site, and the last.
-ghost use Rattle.std.specs.Prelude.{◌≡◌, ◌<◌};
-ghost use Rattle.lists.specs.Signs.{sign_top};
-ghost use Rattle.text.specs.Text.{written, past_of};
+ghost use Rattle.text.specs.Puts.{Puts};
 ghost use Rattle.page_lines.specs.Columns.{field, field_after};
 ghost use Rattle.page_lines.specs.Lines.{slot_line, drop_text, site_line, total_line};
 
 use crate::columns::{Columns, put_end, put_field, put_plain};
-use text::put_bytes;
-use words::drops::{drop_of, magnitude};
+use std::cmp::Ordering;
+use text::Text;
 
 // The columns of a label's line.
 const SLOT: Columns = Columns {
@@ -82,53 +80,44 @@ pub struct Label {
     pub length: u32,
 }
 
-pub fn put_slot_line(text: &mut [u8], at: usize, label: Label) -> usize
-    ensures value { result ≡ past_of text.old at (slot_line label.slot label.colour label.sites label.height label.length) }
-    ensures text_after { text.new ≡ written text.old at (slot_line label.slot label.colour label.sites label.height label.length) }
+pub fn put_slot_line(text: &mut Text, label: Label)
+    ensures { Puts text.old text.new (slot_line label.slot label.colour label.sites label.height label.length) }
 {
-    let mut past = put_plain(text, at, SLOT, label.slot as u64);
-    past = put_plain(text, past, COLOUR, label.colour as u64);
-    past = put_plain(text, past, SITES, label.sites as u64);
-    past = put_plain(text, past, HEIGHT, label.height as u64);
-    past = put_plain(text, past, LENGTH, label.length as u64);
-    put_end(text, past, LENGTH.to)
+    put_plain(text, SLOT, label.slot);
+    put_plain(text, COLOUR, label.colour);
+    put_plain(text, SITES, label.sites);
+    put_plain(text, HEIGHT, label.height);
+    put_plain(text, LENGTH, label.length);
+    put_end(text, LENGTH.to);
 }
 
 // A drop, by the height of its slot and its own: + or - just before its digits, none at zero.
-fn put_drop(text: &mut [u8], at: usize, columns: Columns, height: u32, y: u32) -> usize
-    requires { (height < sign_top) × (y < sign_top) }
-    ensures value { result ≡ past_of text.old at (field_after columns.after (field columns.from columns.to (drop_text height y))) }
-    ensures text_after { text.new ≡ written text.old at (field_after columns.after (field columns.from columns.to (drop_text height y))) }
+fn put_drop(text: &mut Text, columns: Columns, height: u32, y: u32)
+    ensures { Puts text.old text.new (field_after columns.after (field columns.from columns.to (drop_text height y))) }
 {
-    let drop = drop_of(height, y);
-    let size = magnitude(drop) as u64;
-    if size == 0 {
-        return put_field(text, at, columns, b"", size);
-    }
-    if drop < 0 {
-        return put_field(text, at, columns, b"-", size);
-    }
-    put_field(text, at, columns, b"+", size)
+    let sign: &[u8] = match height.cmp(&y) {
+        Ordering::Greater => b"+",
+        Ordering::Less => b"-",
+        Ordering::Equal => b"",
+    };
+    put_field(text, columns, sign, u64::from(height.abs_diff(y)));
 }
 
-pub fn put_site_line(text: &mut [u8], at: usize, site: u32, slot: u32, height: u32, y: u32) -> usize
-    requires { (height < sign_top) × (y < sign_top) }
-    ensures value { result ≡ past_of text.old at (site_line site slot height y) }
-    ensures text_after { text.new ≡ written text.old at (site_line site slot height y) }
+pub fn put_site_line(text: &mut Text, site: u32, slot: u32, height: u32, y: u32)
+    ensures { Puts text.old text.new (site_line site slot height y) }
 {
-    let mut past = put_bytes(text, at, b"  drop");
-    past = put_plain(text, past, SITE, site as u64);
-    past = put_plain(text, past, TIE, slot as u64);
-    past = put_drop(text, past, DROP, height, y);
-    put_end(text, past, DROP.to)
+    text.put_bytes(b"  drop");
+    put_plain(text, SITE, site);
+    put_plain(text, TIE, slot);
+    put_drop(text, DROP, height, y);
+    put_end(text, DROP.to);
 }
 
-pub fn put_total_line(text: &mut [u8], at: usize, count: u32, length: u32) -> usize
-    ensures value { result ≡ past_of text.old at (total_line count length) }
-    ensures text_after { text.new ≡ written text.old at (total_line count length) }
+pub fn put_total_line(text: &mut Text, count: u32, length: u32)
+    ensures { Puts text.old text.new (total_line count length) }
 {
-    let mut past = put_bytes(text, at, b"total");
-    past = put_plain(text, past, COUNT, count as u64);
-    past = put_plain(text, past, TOTAL, length as u64);
-    put_end(text, past, TOTAL.to)
+    text.put_bytes(b"total");
+    put_plain(text, COUNT, count);
+    put_plain(text, TOTAL, length);
+    put_end(text, TOTAL.to);
 }

@@ -13,7 +13,7 @@ mod refusal_7;
 ghost use Rattle.std.specs.Prelude.{◌≡◌, ℕ, ◌<◌, ◌≤◌, length, get_or};
 ghost use Rattle.sheet.specs.Limits.{most_colours, byte_top};
 ghost use Rattle.decoding.specs.Decoding.{colours_by, sheet_by, SheetRead};
-ghost use Rattle.reader.specs.Read.{absent, eight_of, read_of, refused_of, read_post};
+ghost use Rattle.reader.specs.Read.{eight_of, read_of, refused_of, read_post};
 
 use crate::opened::open_sheet;
 use decoding::Numbers;
@@ -39,11 +39,8 @@ pub struct Sizes {
     pub colours: [ColourSize; MOST_COLOURS],
 }
 
-fn no_colour() -> ColourSize
-    ensures { result ≡ absent }
-{
-    ColourSize { bound: 0, sites: 0 }
-}
+// What stands for a colour that the sheet does not have.
+const ABSENT: ColourSize = ColourSize { bound: 0, sites: 0 };
 
 fn colour_sizes(bounds: &[u32], counts: &[u32]) -> [ColourSize; MOST_COLOURS]
     requires bounds_len_bound { length bounds.now ≤ most_colours }
@@ -52,16 +49,11 @@ fn colour_sizes(bounds: &[u32], counts: &[u32]) -> [ColourSize; MOST_COLOURS]
     requires counts_low { (i : ℕ) → get_or counts.now i 0 < byte_top }
     ensures { result ≡ eight_of (colours_by bounds.now counts.now) }
 {
-    let mut colours = [no_colour(); MOST_COLOURS];
-    let mut c: usize = 0;
-    while c < bounds.len() {
+    let mut colours = [ABSENT; MOST_COLOURS];
+    for c in 0..bounds.len() {
         let bound = bounds[c] as u8;
         let sites = counts[c] as u8;
-        colours[c] = ColourSize {
-            bound: bound,
-            sites: sites,
-        };
-        c += 1;
+        colours[c] = ColourSize { bound, sites };
     }
     colours
 }
@@ -70,13 +62,13 @@ fn refused(refusal: u8) -> Sizes
     ensures { result ≡ refused_of refusal }
 {
     Sizes {
-        refusal: refusal,
+        refusal,
         n: 0,
         m: 0,
         c: 0,
         p: 0,
         work: 0,
-        colours: [no_colour(); MOST_COLOURS],
+        colours: [ABSENT; MOST_COLOURS],
     }
 }
 
@@ -100,8 +92,8 @@ pub fn sizes_of(numbers: Numbers) -> Sizes
         m: m as u8,
         c: c as u8,
         p: p as u8,
-        work: work,
-        colours: colours,
+        work,
+        colours,
     }
 }
 

@@ -7,8 +7,5 @@ use forms::refusal_1::is_head_word;
 pub fn is_head(sheet: &[u32]) -> bool
     ensures { result ≡ is_head sheet.now }
 {
-    if sheet.len() == 0 {
-        return false;
-    }
-    is_head_word(sheet[0])
+    sheet.first().is_some_and(|w| is_head_word(*w))
 }

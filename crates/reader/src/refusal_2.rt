@@ -2,19 +2,17 @@
 ghost use Rattle.std.specs.Prelude.{◌≡◌};
 ghost use Rattle.sheet.specs.Sheet.{in_order};
 
-use forms::refusal_2::{SLOTS, WRONG, stage_after};
+use forms::refusal_2::{Stage, stage_after};
 
 pub fn in_order(body: &[u32]) -> bool
     ensures { result ≡ in_order 0 body.now }
 {
-    let mut z: u32 = SLOTS;
-    let mut i: usize = 0;
-    while i < body.len() {
-        z = stage_after(z, body[i]);
-        if z == WRONG {
+    let mut stage = Stage::Slots;
+    for w in body {
+        let Some(next) = stage_after(stage, *w) else {
             return false;
-        }
-        i += 1;
+        };
+        stage = next;
     }
     true
 }

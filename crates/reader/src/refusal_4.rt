@@ -7,15 +7,12 @@ use refusals::refusal_4::{low_next, low_ok};
 pub fn rises(body: &[u32]) -> bool
     ensures { result ≡ rising (slots_in body.now) }
 {
-    let mut low: u32 = 0;
-    let mut i: usize = 0;
-    while i < body.len() {
-        let w = body[i];
-        if !low_ok(low, w) {
+    let mut low = 0;
+    for w in body {
+        if !low_ok(low, *w) {
             return false;
         }
-        low = low_next(low, w);
-        i += 1;
+        low = low_next(low, *w);
     }
     true
 }

@@ -7,12 +7,5 @@ use refusals::refusal_5::width_ok;
 pub fn all_inside(body: &[u32], width: u32) -> bool
     ensures { result ≡ all (inside_by width) (sites_in 0 body.now) }
 {
-    let mut i: usize = 0;
-    while i < body.len() {
-        if !width_ok(width, body[i]) {
-            return false;
-        }
-        i += 1;
-    }
-    true
+    body.iter().all(|w| width_ok(width, *w))
 }

@@ -11,14 +11,12 @@ use words::MOST_BUDGETS;
 fn product(body: &[u32]) -> u32
     ensures { result ≡ capped (product_of (colours_in body.now)) }
 {
-    let mut p: u32 = 1;
-    let mut i: usize = 0;
-    while i < body.len() {
-        p = p * factor(body[i]);
+    let mut p = 1;
+    for w in body {
+        p *= factor(*w);
         if MOST_BUDGETS < p {
             return MOST_BUDGETS + 1;
         }
-        i += 1;
     }
     p
 }

@@ -10,8 +10,5 @@ pub const WORD_BYTES: usize = 4;
 pub fn is_unfit(size: usize) -> bool
     ensures { result ≡ is_unfit size }
 {
-    if MOST_BYTES < size {
-        return true;
-    }
-    size % WORD_BYTES != 0
+    MOST_BYTES < size || size % WORD_BYTES != 0
 }

@@ -2,9 +2,11 @@
 ghost use Rattle.std.specs.Prelude.{◌≡◌};
 ghost use Rattle.sheet.specs.Sheet.{sheet_in};
 
+use words::{get, side_bit};
+
 // Whether the head says two-sided.
 pub fn is_two_sided(sheet: &[u32]) -> bool
     ensures { result ≡ (sheet_in sheet.now).is_two_sided }
 {
-    words::same(words::side_bit(words::get(sheet, 0)), 1)
+    side_bit(get(sheet, 0)) == 1
 }

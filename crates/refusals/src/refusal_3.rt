@@ -3,13 +3,13 @@ ghost use Rattle.std.specs.Prelude.{◌≡◌};
 ghost use Rattle.refusals.specs.Wordwise.{counts_fit_in};
 
 use words::body::count_kind;
-use words::{COLOUR, MOST_COLOURS, MOST_SITES, MOST_SLOTS, SITE, SLOT};
+use words::kinds::Kind;
+use words::{MOST_COLOURS, MOST_SITES, MOST_SLOTS};
 
 pub fn counts_fit(body: &[u32]) -> bool
     ensures { result ≡ counts_fit_in body.now }
 {
-    let slots = count_kind(body, SLOT) <= MOST_SLOTS;
-    let colours = count_kind(body, COLOUR) <= MOST_COLOURS;
-    let sites = count_kind(body, SITE) <= MOST_SITES;
-    (slots & colours) & sites
+    count_kind(body, Kind::Slot) <= MOST_SLOTS
+        && count_kind(body, Kind::Colour) <= MOST_COLOURS
+        && count_kind(body, Kind::Site) <= MOST_SITES
 }

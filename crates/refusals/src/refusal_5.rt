@@ -2,13 +2,12 @@
 ghost use Rattle.std.specs.Prelude.{◌≡◌};
 ghost use Rattle.refusals.specs.Wordwise.{width_ok};
 
-use words::{SITE, high_field, kind_of};
+use words::high_field;
+use words::kinds::{Kind, is_kind};
 
 // Whether a word is no site, or one within the width.
 pub fn width_ok(width: u32, w: u32) -> bool
     ensures { result ≡ width_ok width w }
 {
-    let other = kind_of(w) != SITE;
-    let inside = high_field(w) <= width;
-    other | inside
+    !is_kind(w, Kind::Site) || high_field(w) <= width
 }

@@ -2,13 +2,12 @@
 ghost use Rattle.std.specs.Prelude.{◌≡◌};
 ghost use Rattle.refusals.specs.Wordwise.{is_ranked};
 
-use words::{SITE, kind_of, rank_of};
+use words::kinds::{Kind, is_kind};
+use words::rank_of;
 
-// A word is a site of this rank. Asked of every two sites: one test, no branch.
+// A word is a site of this rank. Asked of every two sites: `&` and no branch, so that several words are looked at at a time.
 pub fn is_ranked(rank: u32, w: u32) -> bool
     ensures { result ≡ is_ranked rank w }
 {
-    let site = kind_of(w) == SITE;
-    let equal = rank_of(w) == rank;
-    site & equal
+    is_kind(w, Kind::Site) & (rank_of(w) == rank)
 }

@@ -3,16 +3,18 @@ ghost use Rattle.std.specs.Prelude.{◌≡◌, ltb};
 ghost use Rattle.sheet.specs.Limits.{most_budgets};
 ghost use Rattle.refusals.specs.Wordwise.{factor_of};
 
-use words::{COLOUR, MOST_BUDGETS, UNBOUNDED, choose, kind_of};
+use words::kinds::{Kind, is_kind};
+use words::{MOST_BUDGETS, UNBOUNDED, byte_field};
 
 // What a word multiplies P by.
 pub fn factor(w: u32) -> u32
     ensures { result ≡ factor_of w }
 {
-    let bound = w % words::BYTE_TOP;
-    let times = choose(bound == UNBOUNDED, 1, bound + 1);
-    let colour = kind_of(w) == COLOUR;
-    choose(colour, times, 1)
+    if !is_kind(w, Kind::Colour) {
+        return 1;
+    }
+    let bound = byte_field(w);
+    if bound == UNBOUNDED { 1 } else { bound + 1 }
 }
 
 // Whether P is above what is served.

@@ -6,7 +6,9 @@ use native.Mathlib.Numerals.{add-one}
 use lib.ListN.{length, get_or, drop}
 use lib.Seq.{drop-cons}
 use Rattle.text.specs.Text.{ascii, decimal, blank, line_feed}
-use Rattle.text.proofs.Written.{Put, put-more}
+use Rattle.text.specs.Puts.{Puts}
+use Rattle.text.specs.declared.Text.{Text}
+use Rattle.text.proofs.Puts.{puts-more}
 use Rattle.sheet.specs.Sheet.{Site, Sheet}
 use Rattle.labelling.specs.Layout.{stated_count, stated_length}
 use Rattle.decoding.specs.Decoding.{colours_of}
@@ -31,17 +33,17 @@ lines_at ls cs i h = rw (drop-cons cs i 0 h, add-one i) refl
 abbrev pub Part : (name : List ℕ) (number last : ℕ) → List ℕ
 Part s n b = s ++ decimal n ++ (b ∷ [])
 
-part-more : {m o : List ℕ} {p q : ℕ} (l : List ℕ) (at : ℕ) (s x name n y : List ℕ) → Put l m at p (s ++ x) → Put m o p q (name ++ n ++ y) → Put l o at q (s ++ (x ++ name) ++ n ++ y)
-part-more {m} {o} {p} {q} l at s x name n y a b = subst (λ (t : List ℕ). Put l o at q t) e (put-more l at (s ++ x) (name ++ n ++ y) a b)
+part-more : {a b c : Text} (s x name n y : List ℕ) → Puts a b (s ++ x) → Puts b c (name ++ n ++ y) → Puts a c (s ++ (x ++ name) ++ n ++ y)
+part-more {a} {c = c} s x name n y p q = subst (Puts a c) e (puts-more p q)
   where
     e : (s ++ x) ++ (name ++ n ++ y) ≡ s ++ (x ++ name) ++ n ++ y
     e = simp append_assoc
 
-pub layout-put : {m o : List ℕ} {p q : ℕ} (l : List ℕ) (at c s : ℕ) → Put l m at p (Part (ascii "labels ") c blank) → Put m o p q (Part (ascii "length ") s line_feed) → Put l o at q (layout_line c s)
-layout-put l at c s = part-more l at (ascii "labels " ++ decimal c) (blank ∷ []) (ascii "length ") (decimal s) (line_feed ∷ [])
+pub layout-put : {a b c : Text} (count size : ℕ) → Puts a b (Part (ascii "labels ") count blank) → Puts b c (Part (ascii "length ") size line_feed) → Puts a c (layout_line count size)
+layout-put count size p q = part-more (ascii "labels " ++ decimal count) (blank ∷ []) (ascii "length ") (decimal size) (line_feed ∷ []) p q
 
-pub site-put : {m o e : List ℕ} {p q r : ℕ} (l : List ℕ) (at i c k : ℕ) → Put l m at p (Part (ascii "site ") i blank) → Put m o p q (Part (ascii "colour ") c blank) →
-    Put o e q r (Part (ascii "slot ") k line_feed) → Put l e at r (site_line i c k)
-site-put l at i c k x y z =
-    part-more l at (ascii "site " ++ decimal i ++ ascii " colour " ++ decimal c) (blank ∷ []) (ascii "slot ") (decimal k) (line_feed ∷ [])
-    (part-more l at (ascii "site " ++ decimal i) (blank ∷ []) (ascii "colour ") (decimal c) (blank ∷ []) x y) z
+pub site-put : {a b c d : Text} (site colour slot : ℕ) → Puts a b (Part (ascii "site ") site blank) → Puts b c (Part (ascii "colour ") colour blank) →
+    Puts c d (Part (ascii "slot ") slot line_feed) → Puts a d (site_line site colour slot)
+site-put site colour slot p q r =
+    part-more (ascii "site " ++ decimal site ++ ascii " colour " ++ decimal colour) (blank ∷ []) (ascii "slot ") (decimal slot) (line_feed ∷ [])
+    (part-more (ascii "site " ++ decimal site) (blank ∷ []) (ascii "colour ") (decimal colour) (blank ∷ []) p q) r

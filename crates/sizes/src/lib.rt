@@ -10,16 +10,14 @@ ghost use Rattle.sheet.specs.Binding.{binding_bound};
 ghost use Rattle.sizes.specs.Work.{work_of};
 ghost use Rattle.sizes.specs.Budgets.{radix_by, product_by, binding_bounds};
 
+use words::arrays::padded;
 use words::{MOST_COLOURS, UNBOUNDED};
 
 // A bound over so many sites: none where it is at least as many.
 pub fn binding_bound(bound: u32, sites: u32) -> u32
     ensures { result ≡ binding_bound bound sites }
 {
-    if bound < sites {
-        return bound;
-    }
-    UNBOUNDED
+    if bound < sites { bound } else { UNBOUNDED }
 }
 
 // All bounds so, by each colour's count of sites: zeros past them.
@@ -28,13 +26,8 @@ pub fn binding_bounds(bounds: &[u32], counts: &[u32]) -> [u32; MOST_COLOURS]
     requires counts_len { length counts.now ≡ length bounds.now }
     ensures { result ≡ padded most_colours (binding_bounds bounds.now counts.now) }
 {
-    let mut out = [0u32; MOST_COLOURS];
-    let mut i: usize = 0;
-    while i < bounds.len() {
-        out[i] = binding_bound(bounds[i], counts[i]);
-        i += 1;
-    }
-    out
+    let colours = bounds.iter().zip(counts);
+    padded(colours.map(|(bound, sites)| binding_bound(*bound, *sites)))
 }
 
 // The radix of a bound: 1 if it is none.
@@ -42,10 +35,7 @@ pub fn radix(bound: u32) -> u32
     requires { bound < byte_top }
     ensures { result ≡ radix_by bound }
 {
-    if bound == UNBOUNDED {
-        return 1;
-    }
-    bound + 1
+    if bound == UNBOUNDED { 1 } else { bound + 1 }
 }
 
 // P: the product of the radices. That of an accepted sheet is within the limit, so that no product is too large.
@@ -54,13 +44,7 @@ pub fn product_of(bounds: &[u32]) -> u32
     requires bounds_bound { product_by bounds.now ≤ most_budgets }
     ensures { result ≡ product_by bounds.now }
 {
-    let mut p: u32 = 1;
-    let mut i: usize = 0;
-    while i < bounds.len() {
-        p = p * radix(bounds[i]);
-        i += 1;
-    }
-    p
+    bounds.iter().map(|bound| radix(*bound)).product()
 }
 
 // The work words by side, m, C, n and P. Those of an accepted sheet are within the limits, so that the product fits.

@@ -1,3 +1,4 @@
 pub mod Written
 pub mod Decimal
 pub mod Right
+pub mod Puts

@@ -5,7 +5,9 @@ use Prim.Native.Nat.{ℕ, ◌+◌, ◌-◌, ◌/◌, ◌%◌, ◌<◌, ◌≤◌
 use native.Mathlib.Omega.{arith}
 use lib.ListN.{length, replicate, length-append, length-replicate}
 use Rattle.text.specs.Text.{blank, zero_digit, decimal, right_in}
-use Rattle.text.proofs.Written.{Put, put-more}
+use Rattle.text.specs.Puts.{Puts}
+use Rattle.text.specs.declared.Text.{Text}
+use Rattle.text.proofs.Puts.{puts-more}
 use Rattle.text.proofs.Decimal.{decimal-one, decimal-more}
 
 -- of no columns it is the text
@@ -26,19 +28,18 @@ unfolding right_in
 right-long w t h = omega (arith, length-append (replicate (w - length t) blank) t, length-replicate (w - length t) blank)
 
 -- PUT: blanks, then the text
-pub right-put : {m o : List ℕ} {p q : ℕ} (l : List ℕ) (at w : ℕ) (t : List ℕ) → Put l m at p (replicate (w - length t) blank) → Put m o p q t → Put l o at q (right_in w t)
+pub right-put : {a b c : Text} (w : ℕ) (t : List ℕ) → Puts a b (replicate (w - length t) blank) → Puts b c t → Puts a c (right_in w t)
 unfolding right_in
-right-put l at w t a b = put-more l at (replicate (w - length t) blank) t a b
+right-put w t p q = puts-more p q
 
 -- a number: what comes before its last digit, then this digit
-pub number-one : {m o : List ℕ} {p q : ℕ} (l : List ℕ) (at w : ℕ) (s : List ℕ) (n : ℕ) → n < 10 →
-    Put l m at p (right_in (w - 1) s) → Put m o p q ((zero_digit + n % 10) ∷ []) → Put l o at q (right_in w (s ++ decimal n))
-number-one l at w s n h a b = rw (decimal-one n h, right-last w s (zero_digit + n % 10)) (put-more l at (right_in (w - 1) s) ((zero_digit + n % 10) ∷ []) a b)
+pub number-one : {a b c : Text} (w : ℕ) (s : List ℕ) (n : ℕ) → n < 10 →
+    Puts a b (right_in (w - 1) s) → Puts b c ((zero_digit + n % 10) ∷ []) → Puts a c (right_in w (s ++ decimal n))
+number-one w s n h p q = rw (decimal-one n h, right-last w s (zero_digit + n % 10)) (puts-more p q)
 
-pub number_more : {m o : List ℕ} {p q : ℕ} (l : List ℕ) (at w : ℕ) (s : List ℕ) (n : ℕ) → 10 ≤ n →
-    Put l m at p (right_in (w - 1) (s ++ decimal (n / 10))) → Put m o p q ((zero_digit + n % 10) ∷ []) → Put l o at q (right_in w (s ++ decimal n))
-number_more {m} {o} {p} {q} l at w s n h a b =
-    subst (λ (t : List ℕ). Put l o at q t) e (put-more l at (right_in (w - 1) (s ++ decimal (n / 10))) ((zero_digit + n % 10) ∷ []) a b)
+pub number_more : {a b c : Text} (w : ℕ) (s : List ℕ) (n : ℕ) → 10 ≤ n →
+    Puts a b (right_in (w - 1) (s ++ decimal (n / 10))) → Puts b c ((zero_digit + n % 10) ∷ []) → Puts a c (right_in w (s ++ decimal n))
+number_more {a} {b} {c} w s n h p q = subst (Puts a c) e (puts-more p q)
   where
     e : right_in (w - 1) (s ++ decimal (n / 10)) ++ ((zero_digit + n % 10) ∷ []) ≡ right_in w (s ++ decimal n)
     e = sym (right-last w (s ++ decimal (n / 10)) (zero_digit + n % 10)) ∙ rw (decimal-more n h, append_assoc s (decimal (n / 10)) ((zero_digit + n % 10) ∷ [])) refl

@@ -1,5 +1,5 @@
 -- Bytes put after bytes are the bytes together, whether they fit or not. Assumes nothing.
-use mathlib.Core.Path.{◌≡◌, refl, sym, ap, ◌∙◌}
+use mathlib.Core.Path.{◌≡◌, refl, sym, ◌∙◌}
 use mathlib.Core.List.{List, [], ◌∷◌, ◌++◌, append_assoc}
 use Prim.Native.Nat.{ℕ, suc, ◌+◌, ◌≤◌, max}
 use native.Mathlib.Omega.{arith}
@@ -50,34 +50,3 @@ pub written-front : (l s : List ℕ) → length s ≤ length l → written l 0 s
 written-front l s h =
     let e : 0 + length s ≡ length s = omega arith in
     written_at l 0 s (omega arith) ∙ rw e refl
-
--- what a call leaves and answers that puts bytes s into an area l at i
-abbrev pub Put : (l out : List ℕ) (i past : ℕ) (s : List ℕ) → Type 0
-Put l out i past s = (past ≡ past_of l i s) × (out ≡ written l i s)
-
--- two such calls, one after the other
-pub put-more : {m o : List ℕ} {p q : ℕ} (l : List ℕ) (i : ℕ) (s t : List ℕ) → Put l m i p s → Put m o p q t → Put l o i q (s ++ t)
-put-more l i s t a b =
-    (b.0 ∙ rw (a.0, a.1) (sym (past_more l i s t)), b.1 ∙ rw (a.0, a.1) (sym (written-more l i s t)))
-
--- THE INVARIANT of a loop that puts bytes: what is left to put after those put so far
-pub record Left (l₀ : List ℕ) (i₀ : ℕ) (all : List ℕ) (l : List ℕ) (i : ℕ) (rest : List ℕ) : Type 0 where
-  pub long : length l ≡ length l₀
-  pub past : past_of l₀ i₀ all ≡ past_of l i rest
-  pub area : written l₀ i₀ all ≡ written l i rest
-
-pub left-all : (l : List ℕ) (i : ℕ) (all : List ℕ) → Left l i all l i all
-left-all l i all = record { long = refl; past = refl; area = refl }
-
-pub left-more : {l₀ : List ℕ} {i₀ : ℕ} {all l : List ℕ} {i : ℕ} {rest m : List ℕ} {p : ℕ} (part rest' : List ℕ) →
-    Left l₀ i₀ all l i rest → rest ≡ part ++ rest' → Put l m i p part → Left l₀ i₀ all m p rest'
-left-more {l = l} {i = i} part rest' f e a =
-    record {
-      long = ap length a.1 ∙ length-written l i part ∙ f.long;
-      past = f.past ∙ rw (e, a.0, a.1) (past_more l i part rest');
-      area = f.area ∙ rw (e, a.0, a.1) (written-more l i part rest');
-    }
-
-pub left-none : {l₀ : List ℕ} {i₀ : ℕ} {all l : List ℕ} {i : ℕ} {rest : List ℕ} → Left l₀ i₀ all l i rest → rest ≡ [] → Put l₀ l i₀ i all
-unfolding written
-left-none {l = l} {i = i} f e = (sym (f.past ∙ rw e (omega arith)), sym (f.area ∙ rw e refl))

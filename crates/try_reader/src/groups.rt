@@ -1,6 +1,6 @@
 // Groups of cases as text: > and a mark, the group's name, then a line for each case; after the mark * the lines are of sets of faults.
 use crate::compare::{compare, say};
-use crate::faults::read_sets;
+use crate::sets::read_sets;
 use cases::{CASE_WORDS, place_of, take_words};
 use std::io;
 use std::num::wrapping_add_u32;

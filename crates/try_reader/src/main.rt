@@ -2,8 +2,8 @@
 #![tactic(auto)]
 
 mod compare;
-mod faults;
 mod groups;
+mod sets;
 
 use cases::TEXT_BYTES;
 use compare::say;

@@ -3,13 +3,14 @@
 ghost use Rattle.std.specs.Prelude.{◌≡◌};
 ghost use Rattle.sheet.specs.Sheet.{is_charge, has_charge, charge_in};
 
-use crate::{CHARGE, CHARGE_AT, choose, get, high_field, kind_of, low_field};
+use crate::kinds::{Kind, is_kind};
+use crate::{CHARGE_AT, get, high_field, low_field};
 
 // A word of kind 5 without a spare bit.
 pub fn is_charge(w: u32) -> bool
     ensures { result ≡ is_charge w }
 {
-    (kind_of(w) == CHARGE) & (high_field(w) == 0)
+    is_kind(w, Kind::Charge) && high_field(w) == 0
 }
 
 pub fn has_charge(sheet: &[u32]) -> bool
@@ -23,5 +24,5 @@ pub fn charge_of(sheet: &[u32]) -> u32
     ensures { result ≡ charge_in sheet.now }
 {
     let w = get(sheet, CHARGE_AT);
-    choose(is_charge(w), low_field(w), 0)
+    if is_charge(w) { low_field(w) } else { 0 }
 }

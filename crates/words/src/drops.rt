@@ -7,10 +7,7 @@ ghost use Rattle.lists.specs.Signs.{sign_top};
 pub fn apart_of(a: u32, b: u32) -> u32
     ensures { result ≡ apart a b }
 {
-    if a < b {
-        return b - a;
-    }
-    a - b
+    a.abs_diff(b)
 }
 
 // A site's drop: its slot's height less its own, below zero when the backbone lies above it.
@@ -26,10 +23,7 @@ pub fn magnitude(d: i32) -> u32
     requires { nat_abs d < sign_top }
     ensures { result ≡ nat_abs d }
 {
-    if d < 0 {
-        return (-d) as u32;
-    }
-    d as u32
+    d.unsigned_abs()
 }
 
 // A site's share of the length, by the charge, the height of its slot and its own: none on its backbone, else its drop without the sign and the
@@ -41,5 +35,5 @@ pub fn share_of(charge: u32, h: u32, y: u32) -> u32
     if h == y {
         return 0;
     }
-    magnitude(drop_of(h, y)) + charge
+    h.abs_diff(y) + charge
 }

@@ -5,33 +5,20 @@ pub mod arrays;
 pub mod body;
 pub mod charge;
 pub mod drops;
+pub mod kinds;
 pub mod tied;
 
 ghost use Rattle.std.specs.Prelude.{◌≡◌, cond, ◌&&◌, ◌||◌, not, ◌+◌, ◌-◌, ◌<◌, min, eqb, leb, ltb, get_or};
 ghost use Rattle.sheet.specs.Limits.{byte_top, top_word};
-ghost use Rattle.sheet.specs.Sheet.{kind_of, bits, rank_by};
+ghost use Rattle.sheet.specs.Sheet.{bits, kind_of, rank_by};
 ghost use Rattle.sheet.specs.Words.{rank_in};
 ghost use Rattle.search.specs.Cost.{plus};
 
 // The cost of "none".
-pub const NONE: u32 = 4294967295;
+pub const NONE: u32 = u32::MAX;
 
-const NONE_WIDE: u64 = 4294967295;
-
-// The kinds of words: document 01, "The sheet"; a charge is document 02's.
-pub const HEAD: u32 = 1;
-
-pub const SLOT: u32 = 2;
-
-pub const COLOUR: u32 = 3;
-
-pub const SITE: u32 = 4;
-
-pub const CHARGE: u32 = 5;
-
+// The number of the kind of a layout's first word.
 pub const LAYOUT: u32 = 8;
-
-pub const TIE: u32 = 9;
 
 // The place right after the head, where a charge may stand.
 pub const CHARGE_AT: u32 = 1;
@@ -160,25 +147,19 @@ pub fn aim_bit(w: u32) -> u32
 pub fn wide(b: u8) -> u32
     ensures { (result ≡ b) × (result < byte_top) }
 {
-    b as u32
+    u32::from(b)
 }
 
 pub fn both(a: bool, b: bool) -> bool
     ensures { result ≡ a && b }
 {
-    if a {
-        return b;
-    }
-    false
+    a && b
 }
 
 pub fn either(a: bool, b: bool) -> bool
     ensures { result ≡ a || b }
 {
-    if a {
-        return true;
-    }
-    b
+    a || b
 }
 
 pub fn is_not(a: bool) -> bool
@@ -209,58 +190,38 @@ pub fn less(a: u32, b: u32) -> bool
 pub fn bit_of(t: bool) -> u64
     ensures { result ≡ cond t 1 0 }
 {
-    if t {
-        return 1;
-    }
-    0
+    u64::from(t)
 }
 
 pub fn choose(t: bool, a: u32, b: u32) -> u32
     ensures { result ≡ cond t a b }
 {
-    if t {
-        return a;
-    }
-    b
+    if t { a } else { b }
 }
 
 // The number at a place, 0 outside.
 pub fn get(s: &[u32], i: u32) -> u32
     ensures { result ≡ get_or s.now i 0 }
 {
-    let k = i as usize;
-    if k < s.len() {
-        return s[k];
-    }
-    0
+    s.get(i as usize).copied().unwrap_or(0)
 }
 
 // A difference that stops at 0.
 pub fn monus(a: u32, b: u32) -> u32
     ensures { result ≡ a - b }
 {
-    if a < b {
-        return 0;
-    }
-    a - b
+    a.saturating_sub(b)
 }
 
 pub fn lesser(a: u32, b: u32) -> u32
     ensures { result ≡ min a b }
 {
-    if b < a {
-        return b;
-    }
-    a
+    a.min(b)
 }
 
 // The sum of two costs, capped at NONE.
 pub fn plus_of(a: u32, b: u32) -> u32
     ensures { result ≡ plus top_word a b }
 {
-    let s = (a as u64) + (b as u64);
-    if s < NONE_WIDE {
-        return s as u32;
-    }
-    NONE
+    a.saturating_add(b)
 }

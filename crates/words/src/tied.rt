@@ -2,8 +2,6 @@
 ghost use Rattle.std.specs.Prelude.{◌≡◌};
 ghost use Rattle.words.specs.Starts.{start_of};
 
-use crate::choose;
-
 // A site with its colour, its slot and the slot's height.
 #[derive(Clone, Copy)]
 pub struct TiedSite {
@@ -28,5 +26,5 @@ pub struct Head {
 pub fn start_of(h: Head, u: TiedSite) -> u32
     ensures { result ≡ start_of h u }
 {
-    choose(h.twosided, 0, u.x)
+    if h.twosided { 0 } else { u.x }
 }

@@ -31,4 +31,4 @@ returns c =
     let s = sheet_in a.sheet.now in
     let e = ap (λ (cs : List ℕ). layout_text_by cs a.answer.now) (shown s c.numbers_of-numbers.ensures).0 ∙ text-by s a.answer.now in
     let is = text-layout a.fault (layout_text s a.answer.now) (refused_line a.fault) c.if-fault-ne0.false in
-    record { value = rw (← is, ← e) c.put_layout.ensures.value; text_after = rw (← is, ← e) c.put_layout.ensures.text_after }
+    rw (← is, ← e) c.put_layout.ensures

@@ -11,7 +11,4 @@ put_answer-requires c =
 
 pub returns : goal.returns
 unfolding program_sheet_text sheet_text
-returns c =
-    let made = c.make_layout-fault.ensures in
-    let put = c.put_answer.ensures in
-    record { value = rw (made.value, made.out_after) at put.value; text_after = rw (made.value, made.out_after) at put.text_after }
+returns c = let made = c.make_layout-fault.ensures in rw (made.value, made.out_after) at c.put_answer.ensures

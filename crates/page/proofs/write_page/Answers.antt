@@ -7,13 +7,15 @@ use Rattle.decoding.specs.Decoding.{sheet_by, LayoutRead}
 use Rattle.faults.specs.Faults.{written_fault}
 use Rattle.faults.proofs.Results.{post-refused, post-written}
 use Rattle.sizes.specs.Pages.{bytes_for}
-use Rattle.text.proofs.Written.{Put}
+use Rattle.text.specs.Text.{written, past_of}
+use Rattle.text.proofs.Puts.{filled}
 use Rattle.judge.specs.declared.opened.Opened.{Opened}
 use Rattle.judge.specs.Opened.{stored_opened}
 use Rattle.judge.proofs.opened.Opening.{stored-refusal, stored-start, stored-part}
 use Rattle.page.specs.Page.{page_of, page_in, page_size, page_fault}
 use Rattle.page.proofs.Writing.{asked, fault-found, page-put}
 use mathlib.Core.Path.{◌≡◌, sym, ◌∙◌}
+use Rattle.std.proofs.Common.{rules}
 use mathlib.Core.List.{List, ◌++◌}
 use Prim.Native.Nat.{ℕ, ◌-◌, ◌≤◌}
 use native.Mathlib.Omega.{arith}
@@ -44,7 +46,8 @@ module _ (ws : List ℕ) {o : Opened} (e : o ≡ stored_opened ws) (z : o.refusa
     short-is = fault-found ws e unrefused (stored-part ws e) page q f
 
     -- if it has, the page is put
-    put_is : {past : ℕ} {new : List ℕ} → r ≡ 0 → Put page new 0 past (page_of (sheet_by o.numbers) (layout_ties rest))
+    put_is : {past : ℕ} {new : List ℕ} → r ≡ 0 →
+        (past ≡ past_of page 0 (page_of (sheet_by o.numbers) (layout_ties rest))) × (new ≡ written page 0 (page_of (sheet_by o.numbers) (layout_ties rest)))
         → (page_fault ws page ≡ 0) × (past ≡ page_size ws) × (new ≡ page_in ws ++ drop (page_size ws) page)
     put_is y put =
         let none_is : page_fault ws page ≡ 0 = sym short-is ∙ y in
@@ -96,29 +99,28 @@ slice_bounds-put_page-count c = starts c.args.stored.now c.open_stored-opened.en
 pub slice_bounds-put_page-start : goal.slice_bounds-put_page-start
 slice_bounds-put_page-start c = starts c.args.stored.now c.open_stored-opened.ensures c.if-refusal-ne0.false
 
-pub put_page-past-requires : goal.put_page-past-requires
-put_page-past-requires c = read c.args.stored.now c.open_stored-opened.ensures c.if-refusal-ne0.false
+pub put_page-requires : goal.put_page-requires
+put_page-requires c = read c.args.stored.now c.open_stored-opened.ensures c.if-refusal-ne0.false
 
 pub overflow_cast-written : goal.overflow_cast-written
 overflow_cast-written c =
     let s = c.args.stored.now in
     let e = c.open_stored-opened.ensures in
     let z = c.if-refusal-ne0.false in
-    let put = c.put_page-past.ensures in
-    let t = put_is s e z c.args.page.now c.page_size.ensures c.written_fault-short.ensures c.if-short-ne0.false
-    (put.value, put.page_after) in
-    omega (arith, t.1, size_fits s (unrefused s e z))
+    let text = filled c.new-text.ensures c.put_page.ensures in
+    let t = put_is s e z c.args.page.now c.page_size.ensures c.written_fault-short.ensures c.if-short-ne0.false (text.past, text.after) in
+    omega (arith, c.past-written.ensures, t.1, size_fits s (unrefused s e z))
 
 pub returns : goal.returns
 returns c =
-    let a = c.args in
-    let s = a.stored.now in
+    let page = c.args.page.now in
+    let s = c.args.stored.now in
     let e = c.open_stored-opened.ensures in
     let z = c.if-refusal-ne0.false in
-    let put = c.put_page-past.ensures in
-    let t = put_is s e z a.page.now c.page_size.ensures c.written_fault-short.ensures c.if-short-ne0.false
-    (put.value, put.page_after) in
+    let text = filled c.new-text.ensures c.put_page.ensures in
+    let same = text.same in
+    let t = put_is s e z page c.page_size.ensures c.written_fault-short.ensures c.if-short-ne0.false (text.past, text.after) in
     record {
-      value = post-written _ (page_size s) _ t.0 t.1;
-      page_after = t.2 ∙ sym (area-written _ (page_size s) (page_in s) a.page.now t.0);
+      value = post-written _ (page_size s) _ t.0 (c.past-written.ensures ∙ t.1);
+      page_after = search rules ∙ t.2 ∙ sym (area-written _ (page_size s) (page_in s) page t.0);
     }

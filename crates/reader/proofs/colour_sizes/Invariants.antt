@@ -1,6 +1,5 @@
 -- `reader::colour_sizes` meets its contract.
-use Prim.Native.Nat.{◌-◌}
-use lib.ListN.{length, replicate}
+use lib.ListN.{replicate}
 use Rattle.lists.proofs.Grown.{Grown}
 use Rattle.sheet.specs.Limits.{most_colours}
 use Rattle.reader.specs.Read.{absent}
@@ -9,6 +8,3 @@ use Rattle.reader.proofs.colour_sizes.Given as goal
 
 abbrev pub invariant-loop-c : goal.invariant-loop-c
 invariant-loop-c l = Grown (replicate most_colours absent) l.colours (sizes_from l.bounds l.counts 0) (sizes_from l.bounds l.counts l.c) l.c
-
-abbrev pub decreases-loop-c : goal.decreases-loop-c
-decreases-loop-c l = length l.bounds - l.c

@@ -1,34 +1,27 @@
-use native.Mathlib.Nat.{one-mul, mul-one, mul-le-mul}
-use lib.ListN.{drop_of_length-le}
-use Rattle.sheet.specs.Limits.{byte_top, most_budgets}
-use Rattle.sizes.specs.Budgets.{product_by}
-use Rattle.sizes.proofs.Budgets.{product_at, product-positive, part_low, radix-low}
-use mathlib.Core.Path.{sym, ◌∙◌}
-use Prim.Native.Nat.{◌≤◌}
+use Rattle.std.proofs.Common.{◌*◌, rules}
+use Rattle.std.proofs.lemmas.Iterator.{YieldsList-from_slice, YieldsList-from_map}
+use Rattle.std.proofs.lemmas.Iterator.Consumers.{YieldsList-at}
+use Rattle.std.proofs.lemmas.Iterator.Adapters.{serves_from_places, total_from_yields_List}
+use mathlib.Core.Path.{◌∙◌}
+use native.Mathlib.Nat.{one-mul}
 use native.Mathlib.Omega.{arith}
-use lib.ListN.{get_or, drop}
+use Rattle.lists.proofs.Places.{default-any}
+use Rattle.sizes.specs.Budgets.{radix_by}
+use Rattle.sizes.proofs.Budgets.{product-is, product-fits}
 use Rattle.sizes.proofs.product_of.Goals as goal
 
-pub loop-i-init : goal.loop-i-init
-loop-i-init c = (omega arith, one-mul _)
-
-pub radix-p-requires : goal.radix-p-requires
-radix-p-requires c = c.requires.by_index c.loop-i.i
-
-pub overflow_mul-p : goal.overflow_mul-p
-overflow_mul-p c = let b = c.args.bounds.now in
-    let l = c.loop-i in
-    let q = part_low l.p (product_by (drop l.i b)) (product_by b) l.invariant.1 (product-positive _) c.requires.bounds_bound in
-    let r : c.radix-p.result ≤ byte_top = rw c.radix-p.ensures (radix-low (get_or b l.i 0) (c.requires.by_index l.i)) in
-    omega (arith, mul-le-mul {n₂ = most_budgets} {m₂ = byte_top} q r)
-
-pub loop-i-preserved : goal.loop-i-preserved
-loop-i-preserved c = let b = c.args.bounds.now in
-    let l = c.loop-i in
-    (omega arith, rw c.radix-p.ensures (sym (product_at b l.i c.loop-i-test.true l.p) ∙ l.invariant.1))
+pub product-requires : goal.product-requires
+product-requires c =
+    let bs = c.args.bounds.now in
+    let bounds = YieldsList-at c.map.ensures.source (YieldsList-from_slice bs c.iter.ensures.rest) in
+    record {
+      can = (tt, serves_from_places bounds (λ x q k. search rules) (λ x k l e κ r g h fits u. omega (arith, e ∙ default-any bs k x.now 0 l, c.requires.by_index k)));
+      finite = tt;
+      fits = product-fits bs (YieldsList-from_map _ radix_by bounds c.map.ensures.closure (λ x r q k. search rules)) c.requires.bounds_bound;
+    }
 
 pub returns : goal.returns
-unfolding product_by
-returns c = let b = c.args.bounds.now in
-    let l = c.loop-i in
-    sym (mul-one l.p) ∙ (rw (drop_of_length-le b c.loop-i-test.false) at l.invariant.1)
+returns c =
+    let bs = c.args.bounds.now in
+    total_from_yields_List (λ a x. a * x) 1 _ c.product.ensures.ran (YieldsList-from_map _ radix_by (YieldsList-at c.map.ensures.source (YieldsList-from_slice bs c.iter.ensures.rest)) c.map.ensures.closure (λ x r q k. search rules))
+    ∙ product-is 1 bs ∙ one-mul _

@@ -7,13 +7,9 @@ use Rattle.page.proofs.lines.put_page.Goals as goal
 
 pub returns : goal.returns
 returns c =
-    let a = c.args in
     let p = c.requires in
-    let s = sheet_by a.numbers in
-    let js = layout_ties a.layout.now in
-    let facts = parts-put a.page.now 0 (slot_lines s js) (site_lines s js) (last_line_of s js) _
+    let s = sheet_by c.args.numbers in
+    let js = layout_ties c.args.layout.now in
+    parts-put (slot_lines s js) (site_lines s js) (last_line_of s js) _
     (last-line-is p.0 _ _ p.1 c.count_field.ensures c.length_field.ensures)
-    (c.put_slots-past.ensures.value, c.put_slots-past.ensures.page_after)
-    (c.put_sites-past.ensures.value, c.put_sites-past.ensures.page_after)
-    (c.put_total_line.ensures.value, c.put_total_line.ensures.text_after) in
-    record { value = facts.0; page_after = facts.1 }
+    c.put_slots.ensures c.put_sites.ensures c.put_total_line.ensures

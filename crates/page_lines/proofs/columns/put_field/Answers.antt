@@ -1,7 +1,7 @@
-use mathlib.Core.Path.{sym}
-use Rattle.text.proofs.Written.{written-more}
+use Rattle.text.proofs.Puts.{puts-more}
 use Rattle.page_lines.proofs.columns.put_field.Goals as goal
 
-pub returns-clause-text_after : goal.returns-clause-text_after
-returns-clause-text_after c =
-    rw (c.put_number.ensures.text_after, c.put_blanks-past.ensures.text_after, c.put_blanks-past.ensures.value, c.monus.ensures, c.monus-2.ensures, c.monus-start.ensures) (sym (written-more c.args.text.now c.args.at _ _))
+pub returns : goal.returns
+returns c =
+    puts-more (rw (c.saturating_sub.ensures, c.saturating_sub-start.ensures) at c.put_blanks.ensures)
+    (rw (c.saturating_sub-2.ensures, c.saturating_sub-start.ensures) at c.put_number.ensures)

@@ -1,12 +1,9 @@
 -- `refusal_2::in_order` meets its contract.
 use mathlib.Core.Path.{◌≡◌}
-use Prim.Native.Nat.{◌-◌}
-use lib.ListN.{length, drop}
+use lib.ListN.{drop}
 use Rattle.sheet.specs.Sheet.{in_order}
+use Rattle.forms.specs.Stages.{stage_number}
 use Rattle.reader.proofs.refusal_2.in_order.Given as goal
 
-abbrev pub invariant-loop-i : goal.invariant-loop-i
-invariant-loop-i l = in_order 0 l.body ≡ in_order l.z (drop l.i l.body)
-
-abbrev pub decreases-loop-i : goal.decreases-loop-i
-decreases-loop-i l = length l.body - l.i
+abbrev pub invariant-loop-w : goal.invariant-loop-w
+invariant-loop-w l = in_order 0 l.body ≡ in_order (stage_number l.stage) (drop l.w-index l.body)

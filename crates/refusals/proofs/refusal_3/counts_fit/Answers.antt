@@ -1,7 +1,11 @@
-use mathlib.Core.Path.{refl}
+-- `refusals::refusal_3::counts_fit` meets its contract.
+use Rattle.std.proofs.Common.{arith}
+use Rattle.std.proofs.lemmas.Grind.{common_steps}
 use Rattle.sheet.proofs.Counts.{slots-count, colours-count, sites-count}
 use Rattle.refusals.proofs.refusal_3.counts_fit.Goals as goal
 
-pub returns : goal.returns
-returns c = let s = c.args.body.now in
-    rw (c.count_kind-sites.ensures, c.count_kind-colours.ensures, c.count_kind-slots.ensures, slots-count s, colours-count s, sites-count 0 s) refl
+pub returns-then-count_kind-le-MOST_COLOURS : goal.returns-then-count_kind-le-MOST_COLOURS
+returns-then-count_kind-le-MOST_COLOURS c = let s = c.args.body.now in grind (arith, common_steps, slots-count s, colours-count s, sites-count 0 s)
+
+pub returns-else-count_kind-le-MOST_COLOURS : goal.returns-else-count_kind-le-MOST_COLOURS
+returns-else-count_kind-le-MOST_COLOURS c = let s = c.args.body.now in grind (arith, common_steps, slots-count s, colours-count s, sites-count 0 s)

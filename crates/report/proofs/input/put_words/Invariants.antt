@@ -1,11 +1,9 @@
+use mathlib.Core.Path.{◌≡◌}
+use lib.ListN.{drop}
 use Rattle.report.specs.Input.{words_in}
-use Rattle.text.proofs.Written.{Left}
-use Prim.Native.Nat.{◌-◌, ◌≤◌}
-use lib.ListN.{length, drop}
+use Rattle.text.specs.Text.{written}
 use Rattle.report.proofs.input.put_words.Given as goal
 
+-- once the words that are left are put, all are
 abbrev pub invariant-loop-i : goal.invariant-loop-i
-invariant-loop-i l = (l.i ≤ length l.bytes) × Left l.initial.words 0 (words_in l.bytes) l.words l.past (words_in (drop l.i l.bytes))
-
-abbrev pub decreases-loop-i : goal.decreases-loop-i
-decreases-loop-i l = length l.bytes - l.i
+invariant-loop-i l = written l.initial.words 0 (words_in l.bytes) ≡ written l.words l.i (drop l.i (words_in l.bytes))
