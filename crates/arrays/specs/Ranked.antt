@@ -7,8 +7,8 @@ abbrev pub given_of : RankedSheet → Given
 given_of s = given s.measures s.heights.now s.bounds.now s.radices.list.now s.draws.now s.xs.now s.ys.now s.colours.now s.order.now s.splits.now.parts s.splits.now.counts
 
 -- how many slots and colours it has
-abbrev pub slots_of : RankedSheet → ℕ
-slots_of s = length s.heights.now
+abbrev pub slot_count : RankedSheet → ℕ
+slot_count s = length s.heights.now
 
-abbrev pub colours_of : RankedSheet → ℕ
-colours_of s = s.measures.colours
+abbrev pub colour_count : RankedSheet → ℕ
+colour_count s = s.measures.colours

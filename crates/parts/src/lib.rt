@@ -3,7 +3,7 @@
 
 ghost use Rattle.std.specs.Prelude.{◌≡◌, ◌+◌, ◌<◌, ◌≤◌, length};
 ghost use Rattle.optimum.specs.OneSided.{mark_count};
-ghost use Rattle.arrays.specs.Ranked.{slots_of, colours_of};
+ghost use Rattle.arrays.specs.Ranked.{slot_count, colour_count};
 ghost use Rattle.rows.specs.Rows.{strip_of, point_of, level_of, row_in, Lies};
 ghost use Rattle.parts.specs.Parts.{parts_cost, Marking, PartsMarked};
 
@@ -20,9 +20,9 @@ pub fn parts_cost(
     k: u32,
     d: u32,
 ) -> u32
-    requires level_fits { (low + level_of sheet.now.measures sheet.now.heights.now ≤ length work.now) × Lies (slots_of sheet.now) (colours_of sheet.now) (strip_of p) }
-    requires c_lt_colours { (s.c < colours_of sheet.now) × (k + 1 < p.b) × (d < mark_count) }
-    ensures { result ≡ parts_cost (row_in work.now low (slots_of sheet.now) (colours_of sheet.now) sheet.now.measures.budgets) (strip_of p) (point_of s) k d }
+    requires level_fits { (low + level_of sheet.now.measures sheet.now.heights.now ≤ length work.now) × Lies (slot_count sheet.now) (colour_count sheet.now) (strip_of p) }
+    requires c_lt_colours { (s.c < colour_count sheet.now) × (k + 1 < p.b) × (d < mark_count) }
+    ensures { result ≡ parts_cost (row_in work.now low (slot_count sheet.now) (colour_count sheet.now) sheet.now.measures.budgets) (strip_of p) (point_of s) k d }
 {
     let PartRows { upper, lower } = part_places(sheet, p, s, low, k, d);
     words::plus_of(work[upper], work[lower])
@@ -38,10 +38,10 @@ pub fn mark_parts(
     k: u32,
     d: u32,
 )
-    requires level_fits { (low + level_of sheet.now.measures sheet.now.heights.now ≤ length work.old) × Lies (slots_of sheet.now) (colours_of sheet.now) (strip_of p) }
-    requires c_lt_colours { (s.c < colours_of sheet.now) × (k + 1 < p.b) × (d < mark_count) }
+    requires level_fits { (low + level_of sheet.now.measures sheet.now.heights.now ≤ length work.old) × Lies (slot_count sheet.now) (colour_count sheet.now) (strip_of p) }
+    requires c_lt_colours { (s.c < colour_count sheet.now) × (k + 1 < p.b) × (d < mark_count) }
     ensures marking { Marking work.old work.new low (level_of sheet.now.measures sheet.now.heights.now) }
-    ensures parts_marked { PartsMarked sheet.now.measures work.new low (slots_of sheet.now) (strip_of p) (point_of s) k d }
+    ensures parts_marked { PartsMarked sheet.now.measures work.new low (slot_count sheet.now) (strip_of p) (point_of s) k d }
 {
     let PartRows { upper, lower } = part_places(sheet, p, s, low, k, d);
     work[upper] = 1;

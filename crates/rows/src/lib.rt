@@ -9,7 +9,7 @@ ghost use Rattle.sheet.specs.Limits.{most_slots, most_colours};
 ghost use Rattle.optimum.specs.Strips as model;
 ghost use Rattle.optimum.specs.OneSided.{mark_count};
 ghost use Rattle.arrays.specs.Given.{instance_of, point_in};
-ghost use Rattle.arrays.specs.Ranked.{given_of, slots_of, colours_of};
+ghost use Rattle.arrays.specs.Ranked.{given_of, slot_count, colour_count};
 ghost use Rattle.rows.specs.Rows.{strip_of, point_of, row_of, rows_of, level_of, most_place, Lies, marked_by, upper_part, lower_part, end_place, low_place, upper_end};
 
 use arrays::ranked::RankedSheet;
@@ -73,7 +73,7 @@ pub fn site_at(sheet: &RankedSheet, j: usize) -> Site
 // How many rows a level has.
 #[tactic(auto, unfolding(optimum::specs::OneSided::mark_count))]
 pub fn rows_of(sheet: &RankedSheet) -> usize
-    ensures { result ≡ rows_of (slots_of sheet.now) (colours_of sheet.now) }
+    ensures { result ≡ rows_of (slot_count sheet.now) (colour_count sheet.now) }
 {
     let colours = sheet.measures.colours as usize + 1;
     let ends = sheet.heights.len() + 2;
@@ -82,8 +82,8 @@ pub fn rows_of(sheet: &RankedSheet) -> usize
 
 // The place of a strip's row in its level.
 pub fn row_place(sheet: &RankedSheet, p: Strip) -> usize
-    requires { Lies (slots_of sheet.now) (colours_of sheet.now) (strip_of p) }
-    ensures { result ≡ row_of (slots_of sheet.now) (colours_of sheet.now) (strip_of p) * sheet.now.measures.budgets }
+    requires { Lies (slot_count sheet.now) (colour_count sheet.now) (strip_of p) }
+    ensures { result ≡ row_of (slot_count sheet.now) (colour_count sheet.now) (strip_of p) * sheet.now.measures.budgets }
 {
     let colours = sheet.measures.colours as usize + 1;
     let ends = sheet.heights.len() + 2;
@@ -102,8 +102,8 @@ pub fn marked_by(p: Strip, d: u32) -> Strip
 // The places of the rows of the two parts that a label at slot k leaves of a strip; the site leaves the mark d in the upper one.
 pub fn part_places(sheet: &RankedSheet, p: Strip, s: Site, low: usize, k: u32, d: u32) -> PartRows
     requires level_fits { low + level_of sheet.now.measures sheet.now.heights.now ≤ most_place }
-    requires lies { Lies (slots_of sheet.now) (colours_of sheet.now) (strip_of p) × (s.c < sheet.now.measures.colours) × (k + 1 < p.b) × (d < mark_count) }
-    ensures places { (result.upper ≡ low + row_of (slots_of sheet.now) (colours_of sheet.now) (upper_part d (strip_of p) (point_of s) k) * sheet.now.measures.budgets) × (result.lower ≡ low + row_of (slots_of sheet.now) (colours_of sheet.now) (lower_part (strip_of p) (point_of s) k) * sheet.now.measures.budgets) }
+    requires lies { Lies (slot_count sheet.now) (colour_count sheet.now) (strip_of p) × (s.c < sheet.now.measures.colours) × (k + 1 < p.b) × (d < mark_count) }
+    ensures places { (result.upper ≡ low + row_of (slot_count sheet.now) (colour_count sheet.now) (upper_part d (strip_of p) (point_of s) k) * sheet.now.measures.budgets) × (result.lower ≡ low + row_of (slot_count sheet.now) (colour_count sheet.now) (lower_part (strip_of p) (point_of s) k) * sheet.now.measures.budgets) }
     ensures within { (result.upper < low + level_of sheet.now.measures sheet.now.heights.now) × (result.lower < low + level_of sheet.now.measures sheet.now.heights.now) }
 {
     let c = s.c + 1;

@@ -1,7 +1,7 @@
 // REST: the least cost of tying the sites of a level in the strips of the open labels, which share the budget.
 ghost use Rattle.std.specs.Prelude.{◌≡◌, ◌+◌, ◌*◌, ◌<◌, ◌≤◌, length, get_or};
 ghost use Rattle.sheet.specs.Limits.{most_budgets};
-ghost use Rattle.arrays.specs.Ranked.{given_of, slots_of, colours_of};
+ghost use Rattle.arrays.specs.Ranked.{given_of, slot_count, colour_count};
 ghost use Rattle.rows.specs.Rows.{level_size};
 ghost use Rattle.rows.specs.Rest.{LevelIn, join_row, fold_rows, rest_rows};
 
@@ -13,7 +13,7 @@ use words::{NONE, get};
 
 // The words of a level.
 pub fn level_size(sheet: &RankedSheet) -> usize
-    ensures { result ≡ level_size (slots_of sheet.now) (colours_of sheet.now) sheet.now.measures.budgets }
+    ensures { result ≡ level_size (slot_count sheet.now) (colour_count sheet.now) sheet.now.measures.budgets }
 {
     rows_of(sheet) * sheet.measures.budgets as usize
 }
@@ -40,7 +40,7 @@ fn fold_rows(
 ) -> u32
     requires level_in { LevelIn (given_of sheet.now) work.now base labels.now marks.now }
     requires acc_len { (length acc.old ≡ sheet.now.measures.budgets) × (v < sheet.now.measures.budgets) }
-    ensures { result ≡ get_or (fold_rows sheet.now.splits.now.parts sheet.now.splits.now.counts work.now base (length labels.now) (colours_of sheet.now) sheet.now.measures.budgets (length labels.now) 0 0 0 labels.now marks.now acc.old) v 0 }
+    ensures { result ≡ get_or (fold_rows sheet.now.splits.now.parts sheet.now.splits.now.counts work.now base (length labels.now) (colour_count sheet.now) sheet.now.measures.budgets (length labels.now) 0 0 0 labels.now marks.now acc.old) v 0 }
 {
     let mut a: u32 = 0;
     let mut ca: u32 = 0;
@@ -72,7 +72,7 @@ pub fn rest_of(
 ) -> u32
     requires level_in { LevelIn (given_of sheet.now) work.now base labels.now marks.now }
     requires v_lt_budgets { v < sheet.now.measures.budgets }
-    ensures { result ≡ rest_rows sheet.now.splits.now.parts sheet.now.splits.now.counts work.now base (length labels.now) (colours_of sheet.now) sheet.now.measures.budgets labels.now marks.now v }
+    ensures { result ≡ rest_rows sheet.now.splits.now.parts sheet.now.splits.now.counts work.now base (length labels.now) (colour_count sheet.now) sheet.now.measures.budgets labels.now marks.now v }
 {
     let budgets = sheet.measures.budgets as usize;
     let mut acc = [NONE; BUDGETS_LENGTH];

@@ -11,7 +11,7 @@ ghost use Rattle.strips.specs.Strips.{rise_cost, fall_cost, risen, fallen, insta
 ghost use Rattle.rows.specs.Rows.{strip_of, point_of, Lies};
 ghost use Rattle.arrays.specs.Arrays.{slots_by, turn_by, held_by};
 ghost use Rattle.arrays.specs.Given.{instance_of, SiteIn};
-ghost use Rattle.arrays.specs.Ranked.{given_of, slots_of, colours_of};
+ghost use Rattle.arrays.specs.Ranked.{given_of, slot_count, colour_count};
 ghost use Rattle.strips.specs.Steps.{price_in, budget_left};
 
 use arrays::places::{is_clear, is_far, is_over, is_under};
@@ -28,7 +28,8 @@ pub struct Window {
     pub to: u32,
 }
 
-// A step: what it leaves of the budget, and its price, NONE if it is not lawful or not to be had.
+// A step: what it leaves of the budget, and its price, NONE if it is not lawful or not to be had. A price is no Option: costs stand in the
+// table's words, where NONE is above all others, and are added and compared with it (words::plus_of).
 #[derive(Drop)]
 pub struct Step {
     pub left: u32,
@@ -74,7 +75,7 @@ fn far_end(sheet: &RankedSheet, p: Strip, s: Site, from: u32) -> u32
 
 // The slots between the strip's ends that both ends let open a label: few steps where the gap spans few slots.
 pub fn open_window(sheet: &RankedSheet, p: Strip, s: Site) -> Window
-    requires { SiteIn sheet.now.measures (point_of s) × (p.b < slots_of sheet.now + 2) }
+    requires { SiteIn sheet.now.measures (point_of s) × (p.b < slot_count sheet.now + 2) }
     ensures { WindowOf (slots_by sheet.now.measures sheet.now.heights.now) (strip_of p) (point_of s) result }
 {
     let from = first_far(sheet, p, s);
@@ -173,7 +174,7 @@ fn join_cost(sheet: &RankedSheet, s: Site, k: u32) -> u32
 // What it costs to join the label above, and the label below; NONE if that is not lawful.
 #[tactic(auto, unfolding(crate::specs::Strips::rise_cost))]
 pub fn rise_cost(sheet: &RankedSheet, p: Strip, s: Site) -> u32
-    requires { SiteIn sheet.now.measures (point_of s) × Lies (slots_of sheet.now) (colours_of sheet.now) (strip_of p) }
+    requires { SiteIn sheet.now.measures (point_of s) × Lies (slot_count sheet.now) (colour_count sheet.now) (strip_of p) }
     ensures { result ≡ rise_cost sheet.now.measures sheet.now.heights.now sheet.now.bounds.now (strip_of p) (point_of s) }
 {
     let up = p.a.saturating_sub(1);
@@ -187,7 +188,7 @@ pub fn rise_cost(sheet: &RankedSheet, p: Strip, s: Site) -> u32
 
 #[tactic(auto, unfolding(crate::specs::Strips::fall_cost))]
 pub fn fall_cost(sheet: &RankedSheet, p: Strip, s: Site) -> u32
-    requires { SiteIn sheet.now.measures (point_of s) × Lies (slots_of sheet.now) (colours_of sheet.now) (strip_of p) }
+    requires { SiteIn sheet.now.measures (point_of s) × Lies (slot_count sheet.now) (colour_count sheet.now) (strip_of p) }
     ensures { result ≡ fall_cost sheet.now.measures sheet.now.heights.now sheet.now.bounds.now (strip_of p) (point_of s) }
 {
     let down = p.b.saturating_sub(1);
