@@ -33,8 +33,8 @@ loop-i-preserved c =
     elim c.if-cb-ne0.branch [
       | then-cb-ne0 w ↦
           rw (w.acc-is, w.a-is, w.ca-is, w.join_row.ensures, w.row_place.ensures, w.get-d.ensures, ← p.long)
-          (folding-join _ _ _ _ _ _ _ _ _ _ _ _ _ f c.loop-i-test.true w.if-cb-ne0.true (omega (arith, p.coloured c.loop-i.i)))
-      | else-cb-ne0 w ↦ rw (w.acc-is, w.a-is, w.ca-is) (folding-skip _ _ _ _ _ _ _ _ _ _ _ _ _ f c.loop-i-test.true w.if-cb-ne0.false)
+          (folding-join f c.loop-i-test.true w.if-cb-ne0.true (omega (arith, p.coloured c.loop-i.i)))
+      | else-cb-ne0 w ↦ rw (w.acc-is, w.a-is, w.ca-is) (folding-skip f c.loop-i-test.true w.if-cb-ne0.false)
     ]
 
 pub row_place-requires-2 : goal.row_place-requires-2
@@ -54,4 +54,4 @@ join_row-requires-2 c =
 pub returns : goal.returns
 returns c =
     let e = rw (c.row_place-2.ensures, c.get-d-2.ensures, ← c.requires.level_in.long) at c.join_row-2.ensures in
-    ap (λ (l : List ℕ). get_or l c.args.v 0) (e ∙ folding-all _ _ _ _ _ _ _ _ _ _ _ _ _ c.loop-i.invariant c.loop-i-test.false)
+    ap (λ (l : List ℕ). get_or l c.args.v 0) (e ∙ folding-all c.loop-i.invariant c.loop-i-test.false)
