@@ -1,13 +1,14 @@
 // The program's text, from the bytes of its input; and its run, which reads, calls and writes.
 #![tactic(auto)]
 
-ghost use Rattle.std.specs.Prelude.{◌≡◌, cond, ◌++◌, ◌≤◌, eqb, length, drop};
+ghost use Rattle.std.specs.Prelude.{◌≡◌, ◌++◌, ◌≤◌, length, drop};
 ghost use Rattle.sheet.specs.Sheet.{sheet_in, sheet_fault};
 ghost use Rattle.text.specs.Puts.{Puts};
-ghost use Rattle.report.specs.Lines.{refused_line, layout_text};
+ghost use Rattle.report.specs.Lines.{layout_text};
 ghost use Rattle.report.specs.Report.{program_sheet_text, program_text, text_bound};
 
 use decoding::numbers_of;
+use faults::refusal::Refusal;
 use maker::make_layout;
 use refusals::refusal_12::{MOST_BYTES, WORD_BYTES, is_unfit};
 use report::input::put_words;
@@ -29,14 +30,11 @@ const ANSWER_WORDS: usize = MOST_SITES + 1;
 // A bound on the text's length: a first line of at most 36 bytes, and a line of at most 50 for each site.
 const TEXT_BOUND: usize = 36 + MOST_SITES * 50;
 
-// A refusal, or the layout in an answer; only a sheet that is accepted has one.
-fn put_answer(text: &mut Text, sheet: &[u32], answer: &[u32], fault: u8)
-    requires { fault ≡ 0 → sheet_fault sheet.now ≡ 0 }
-    ensures { Puts text.old text.new (cond (eqb fault 0) (layout_text (sheet_in sheet.now) answer.now) (refused_line fault)) }
+// The layout in an answer, of a sheet that is accepted.
+fn put_answer(text: &mut Text, sheet: &[u32], answer: &[u32])
+    requires { sheet_fault sheet.now ≡ 0 }
+    ensures { Puts text.old text.new (layout_text (sheet_in sheet.now) answer.now) }
 {
-    if fault != 0 {
-        return put_refused(text, u64::from(fault));
-    }
     let numbers = numbers_of(sheet);
     let sites = numbers.sites;
     let colours = numbers.colours;
@@ -49,15 +47,17 @@ fn put_program_sheet(text: &mut Text, sheet: &[u32])
 {
     let mut work = [0u32; WORK_WORDS];
     let mut answer = [0u32; ANSWER_WORDS];
-    let fault = make_layout(sheet, &mut work, &mut answer);
-    put_answer(text, sheet, &answer, fault);
+    match make_layout(sheet, &mut work, &mut answer) {
+        0 => put_answer(text, sheet, &answer),
+        number => put_refused(text, number),
+    }
 }
 
 fn put_program(text: &mut Text, input: &[u8])
     ensures { Puts text.old text.new (program_text input.now) }
 {
     if is_unfit(input.len()) {
-        return put_refused(text, 12);
+        return put_refused(text, Refusal::NotWords.number());
     }
     let mut words = [0u32; INPUT_WORDS];
     let n = put_words(&mut words, input);

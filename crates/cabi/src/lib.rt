@@ -16,7 +16,7 @@ ghost use Rattle.demands.specs.Demands.{ServedByReader, ServedByJudge, TrueVerdi
 
 use faults::written::Written;
 use judge::Verdict;
-use points::flat::{FlatStroke, flat_stroke};
+use points::flat::FlatStroke;
 use reader::Sizes;
 
 #[unsafe(no_mangle)]
@@ -74,5 +74,5 @@ pub extern "C" fn backbone_stroke_at(stored: &[u32], place: usize) -> FlatStroke
     ensures value { result ≡ flat_of (stroke_post stored.now place) }
     ensures served_by_strokes { ServedByStrokes stored.entry.now place result stored.exit.now }
 {
-    flat_stroke(strokes::stroke_at(stored, place))
+    FlatStroke::from(strokes::stroke_at(stored, place))
 }

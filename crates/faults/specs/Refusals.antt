@@ -24,3 +24,8 @@ number_of TwoSided = 18
 abbrev pub number_in : {T : Type 0} → Result T Refusal → ℕ
 number_in (Ok _) = 0
 number_in (Err r) = number_of r
+
+-- an outcome with its refusal's number
+abbrev pub numbered : {T : Type 0} → Result T Refusal → Result T ℕ
+numbered (Ok x) = Ok x
+numbered (Err r) = Err (number_of r)

@@ -1,26 +1,28 @@
 // Refusals 11 and 13 of a stored sheet, after those of the sheet.
 ghost use Rattle.std.specs.Prelude.{◌≡◌};
 ghost use Rattle.faults.specs.Faults.{layout_fault, rule_fault};
+ghost use Rattle.faults.specs.Refusals.{number_in};
 
-// The sheet's refusal; 11, what follows is not a layout of it; or 0.
-pub fn layout_fault(refusal: u8, fits: bool) -> u8
-    ensures { result ≡ layout_fault refusal fits }
+use crate::refusal::Refusal;
+
+// 11, what follows an accepted sheet is not a layout of it.
+pub fn layout_fault(fits: bool) -> Result<(), Refusal>
+    ensures { number_in result ≡ layout_fault fits }
 {
-    if refusal != 0 {
-        return refusal;
+    if fits {
+        Ok(())
+    } else {
+        Err(Refusal::NotALayout)
     }
-    if !fits {
-        return 11;
-    }
-    0
 }
 
-// 13, a rule is broken; or 0.
-pub fn rule_fault(rule: u8) -> u8
-    ensures { result ≡ rule_fault rule }
+// 13, a rule is broken.
+pub fn rule_fault(lawful: bool) -> Result<(), Refusal>
+    ensures { number_in result ≡ rule_fault lawful }
 {
-    if rule != 0 {
-        return 13;
+    if lawful {
+        Ok(())
+    } else {
+        Err(Refusal::BrokenRule)
     }
-    0
 }

@@ -1,6 +1,10 @@
 // What a tool gives that writes into an area, and its refusal 9, after those of what it is given.
 ghost use Rattle.std.specs.Prelude.{◌≡◌};
-ghost use Rattle.faults.specs.Faults.{written_fault};
+ghost use Rattle.faults.specs.Faults.{area_fault};
+ghost use Rattle.faults.specs.Refusals.{number_in};
+ghost use Rattle.faults.specs.Results.{written_of};
+
+use crate::refusal::Refusal;
 
 // refusal: that of what the tool is given, or 9; 0 for none. written: how many places of the area, words or bytes, 0 beside a refusal.
 #[repr(C)]
@@ -10,15 +14,30 @@ pub struct Written {
     pub written: u32,
 }
 
-// The refusal of what the tool is given; 9, fewer places are lent than it writes; or 0.
-pub fn written_fault(refusal: u8, size: usize, lent: usize) -> u8
-    ensures { result ≡ written_fault refusal size lent }
+impl From<Result<u32, Refusal>> for Written {
+    ghost from_gives = { λ outcome written. written ≡ written_of outcome };
+
+    fn from(outcome: Result<u32, Refusal>) -> Written {
+        match outcome {
+            Ok(written) => Written {
+                refusal: 0,
+                written,
+            },
+            Err(refusal) => Written {
+                refusal: refusal.number(),
+                written: 0,
+            },
+        }
+    }
+}
+
+// 9, fewer places are lent than a tool writes.
+pub fn area_fault(size: usize, lent: usize) -> Result<(), Refusal>
+    ensures { number_in result ≡ area_fault size lent }
 {
-    if refusal != 0 {
-        return refusal;
-    }
     if lent < size {
-        return 9;
+        Err(Refusal::AnswerArea)
+    } else {
+        Ok(())
     }
-    0
 }

@@ -1,1 +1,3 @@
+pub mod Found
 mod Ruled
+pub mod Tools

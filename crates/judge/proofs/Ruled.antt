@@ -1,5 +1,5 @@
 -- What the rule tests find on the decoded numbers of an accepted sheet with a layout is the least broken rule. Assumes nothing.
-use mathlib.Core.Path.{◌≡◌, refl, sym, ap, ◌∙◌}
+use mathlib.Core.Path.{◌≡◌, refl, ap, ◌∙◌}
 use mathlib.Core.Bool.{true}
 use mathlib.Core.List.{List}
 use Prim.Native.Nat.{ℕ}
@@ -9,15 +9,21 @@ use Rattle.sheet.specs.Sheet.{Sheet, sheet_in, sheet_fault}
 use Rattle.sheet.proofs.Accepted.{sound}
 use Rattle.labelling.specs.Layout.{ties_in, layout_body, layout_ties, is_layout, broken_by}
 use Rattle.labelling.proofs.Words.{formed, length-ties_in, ties-low}
-use Rattle.decoding.specs.Decoding.{head_by, bounds_of, xs_of, ys_of, colours_of, sheet_by, LayoutRead}
+use Rattle.decoding.specs.Decoding.{head_by, numbers_by, bounds_of, xs_of, ys_of, colours_of, SheetRead}
 use Rattle.decoding.specs.declared.Numbers.{Numbers}
 use Rattle.decoding.proofs.Fronts.{bounds}
-use Rattle.decoding.proofs.Places.{decoded, sheet-read}
+use Rattle.decoding.proofs.Places.{decoded}
 use Rattle.lists.specs.Arrays.{padded}
 use Rattle.words.specs.declared.tied.Head.{Head}
 use Rattle.layouts.specs.Model.{broken_on}
+use Rattle.judge.specs.Opened.{SitesRead}
 use Rattle.layouts.proofs.RulesKept.{broken-is}
 use Rattle.layouts.proofs.Fitting.{long}
+
+module _ (ss : List ℕ) (ok : sheet_fault ss ≡ 0) where
+  -- the colours' bounds are a front of the array
+  pub kinds-front : {d : Numbers} → d ≡ numbers_by (sheet_in ss) → d.kinds ≡ length (take d.kinds d.bounds)
+  kinds-front {d} e = let read : SheetRead d = record { words = ss; accepted = ok; numbers = e } in (bounds read).1
 
 module _ (ss ls : List ℕ) (ok : sheet_fault ss ≡ 0) (form : is_layout (sheet_in ss) ls ≡ true) where
   abbrev s : Sheet
@@ -32,11 +38,10 @@ module _ (ss ls : List ℕ) (ok : sheet_fault ss ≡ 0) (form : is_layout (sheet
       q ∙ ap (broken_on (head_by s) (get_or ls 0 0) (padded most_slots s.slots) (bounds_of s.colours) (padded most_sites (xs_of s.sites)) (padded most_sites (ys_of s.sites)) (padded most_sites (colours_of s.sites)) (layout_ties ls)) (long ss ls ok form) ∙
       broken-is s _ _ _ _ (decoded s most_slots most_sites) (layout_ties ls) (length-ties_in (layout_body ls) ∙ long ss ls ok form) (ties-low s (layout_body ls) (formed s ls form).ties) (sound ss ok).inside ls refl
 
--- BY NUMBERS that were read
-module _ {d : Numbers} {ls : List ℕ} (p : LayoutRead d ls) where
-  pub rule_found : (w r : ℕ) (ts : List ℕ) → w ≡ get_or ls 0 0 → ts ≡ layout_body ls →
-      r ≡ broken_on d.head w d.heights (take d.kinds d.bounds) d.xs d.ys d.colours (ties_in ts) (length ts) → r ≡ broken_by (sheet_by d) ls
-  rule_found w r ts ew et e =
-      ruled p.read.words ls p.read.accepted p.form _ w r _ _ _ _ _ ts (ap (λ (z : Numbers). z.head) p.read.numbers) ew (ap (λ (z : Numbers). z.heights) p.read.numbers) (bounds p.read).0
-      (ap (λ (z : Numbers). z.xs) p.read.numbers) (ap (λ (z : Numbers). z.ys) p.read.numbers) (ap (λ (z : Numbers). z.colours) p.read.numbers) et e ∙
-      ap (λ (z : Sheet). broken_by z ls) (sym (sheet-read p.read.numbers))
+  -- on the sites that were opened
+  pub rule-found : {d : Numbers} {h : Head} {hs us vs cs ts : List ℕ} (w r : ℕ) → d ≡ numbers_by s → SitesRead d ls h hs us vs cs ts → w ≡ get_or ls 0 0 →
+      r ≡ broken_on h w hs (take d.kinds d.bounds) us vs cs (ties_in ts) (length ts) → r ≡ broken_by s ls
+  rule-found {d} w r e t ew q =
+      let read : SheetRead d = record { words = ss; accepted = ok; numbers = e } in
+      ruled _ w r _ _ _ _ _ _ (t.head ∙ ap (λ (z : Numbers). z.head) e) ew (t.heights ∙ ap (λ (z : Numbers). z.heights) e) (bounds read).0
+      (t.xs ∙ ap (λ (z : Numbers). z.xs) e) (t.ys ∙ ap (λ (z : Numbers). z.ys) e) (t.colours ∙ ap (λ (z : Numbers). z.colours) e) t.ties q

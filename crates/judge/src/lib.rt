@@ -3,12 +3,12 @@
 
 pub mod opened;
 pub mod refusal_11;
-mod ruling;
 
 ghost use Rattle.std.specs.Prelude.{◌≡◌};
 ghost use Rattle.judge.specs.Judge.{judge_post};
 
-use crate::opened::{open_layout, rule_in};
+use crate::opened::open_layout;
+use layouts::rule::Rule;
 
 // refusal: 1 to 7 or 11, 0 for none. rule: the least broken one, 0 for none and beside a refusal.
 #[repr(C)]
@@ -21,17 +21,14 @@ pub struct Verdict {
 pub fn judge_layout(stored: &[u32]) -> Verdict
     ensures { result ≡ judge_post stored.now }
 {
-    let opened = open_layout(stored);
-    let refusal = opened.refusal;
-    if refusal != 0 {
-        return Verdict {
-            refusal: refusal,
+    match open_layout(stored) {
+        Ok(opened) => Verdict {
+            refusal: 0,
+            rule: opened.broken_rule().map_or(0, Rule::number),
+        },
+        Err(refusal) => Verdict {
+            refusal: refusal.number(),
             rule: 0,
-        };
-    }
-    let rule = rule_in(stored, opened);
-    Verdict {
-        refusal: 0,
-        rule: rule,
+        },
     }
 }

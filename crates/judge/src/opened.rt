@@ -1,84 +1,103 @@
-// A stored sheet opened: its refusal, where its layout begins, and the sheet's numbers. Every tool over stored sheets begins here.
-ghost use Rattle.std.specs.Prelude.{◌≡◌};
-ghost use Rattle.labelling.specs.Layout.{judge_fault, judged};
-ghost use Rattle.judge.specs.Opened.{refused_at, parts_fault, opened_by, layout_opened, stored_opened};
+// A stored sheet opened: the words before its layout, the layout's, and the sheet's numbers. Every tool over stored sheets begins here.
+ghost use Rattle.std.specs.Prelude.{◌≡◌, true, IfOk};
+ghost use Rattle.sheet.specs.Sheet.{sheet_in, sheet_fault};
+ghost use Rattle.labelling.specs.Layout.{left_end, is_used, is_layout, layout_ties, broken_by, sheet_part, layout_part, judge_fault, stored_fault};
+ghost use Rattle.decoding.specs.Decoding.{numbers_by, sheet_by};
+ghost use Rattle.faults.specs.Refusals.{number_in};
+ghost use Rattle.layouts.specs.Broken.{broken_number};
+ghost use Rattle.judge.specs.Opened.{SitesRead, parts_fault};
 
 use crate::refusal_11::{is_layout, layout_start};
-use crate::ruling::rule_on;
-use decoding::{Numbers, no_numbers};
+use decoding::Numbers;
+use faults::refusal::Refusal;
 use faults::stored::{layout_fault, rule_fault};
+use layouts::labels::{Among, is_taken};
+use layouts::least_broken::broken_by;
+use layouts::rule::Rule;
+use layouts::rule_6::left_end;
+use layouts::sites::TiedSites;
 use reader::opened::open_sheet;
+use words::TIES_AT;
 
-// refusal: 1 to 7, 11 or 13, 0 for none. at: where the layout begins. numbers: the sheet's, all zeros beside a refusal.
+// The words of an accepted sheet, those of a layout of it, and the sheet's numbers.
 #[derive(Clone, Copy)]
-pub struct Opened {
-    pub refusal: u8,
-    pub at: usize,
+pub struct Opened<'a> {
+    pub sheet: &'a [u32],
+    pub layout: &'a [u32],
     pub numbers: Numbers,
+    pub ghost accepted: { sheet_fault sheet.now ≡ 0 },
+    pub ghost read: { numbers ≡ numbers_by (sheet_in sheet.now) },
+    pub ghost formed: { is_layout (sheet_in sheet.now) layout.now ≡ true },
 }
 
-fn refused(refusal: u8, at: usize) -> Opened
-    ensures { result ≡ refused_at refusal at }
-{
-    let numbers = no_numbers();
-    Opened {
-        refusal: refusal,
-        at: at,
-        numbers: numbers,
+impl Opened<'_> {
+    // The sites with their ties.
+    pub fn sites(&self) -> TiedSites<'_>
+        ensures { SitesRead self.entry.now.numbers self.entry.now.layout.now result.head result.heights.now result.xs.now result.ys.now result.colours.now result.ties.now }
+    {
+        TiedSites {
+            head: self.numbers.head,
+            heights: &self.numbers.heights,
+            xs: &self.numbers.xs,
+            ys: &self.numbers.ys,
+            colours: &self.numbers.colours,
+            ties: &self.layout[TIES_AT..],
+        }
+    }
+
+    // Whether a slot is used: whether it has a label.
+    pub fn is_used(&self, slot: u32) -> bool
+        ensures { result ≡ is_used slot (layout_ties self.now.layout.now) }
+    {
+        let sites = self.sites();
+        is_taken(Among::All, &sites, slot, sites.count())
+    }
+
+    // The left end of a slot's label.
+    pub fn left_end(&self, slot: u32) -> u32
+        ensures { result ≡ left_end (sheet_by self.now.numbers) (layout_ties self.now.layout.now) slot }
+    {
+        left_end(&self.sites(), slot)
+    }
+
+    // The least broken rule.
+    pub fn broken_rule(&self) -> Option<Rule>
+        ensures { broken_number result ≡ broken_by (sheet_in self.now.sheet.now) self.now.layout.now }
+    {
+        let Numbers { kinds, bounds, .. } = self.numbers;
+        broken_by(&self.sites(), self.layout[0], &bounds[..kinds])
     }
 }
 
 // A sheet and the words from the first of kind 8 on.
-fn open_parts(sheet: &[u32], layout: &[u32]) -> Opened
-    ensures { result ≡ opened_by (parts_fault sheet.now layout.now) sheet.now }
+fn open_parts<'a>(sheet: &'a [u32], layout: &'a [u32]) -> Result<Opened<'a>, Refusal>
+    ensures refusal { number_in result ≡ parts_fault sheet.entry.now layout.entry.now }
+    ensures parts { IfOk result (λ o. (o.sheet.now ≡ sheet.entry.now) × (o.layout.now ≡ layout.entry.now)) }
 {
-    let at = sheet.len();
-    let numbers = match open_sheet(sheet) {
-        Ok(numbers) => numbers,
-        Err(refusal) => return refused(refusal.number(), at),
-    };
-    let fits = is_layout(numbers.slots, numbers.sites, layout);
-    let refusal = layout_fault(0, fits);
-    if refusal != 0 {
-        return refused(refusal, at);
-    }
-    Opened {
-        refusal: 0,
-        at: at,
-        numbers: numbers,
-    }
+    let numbers = open_sheet(sheet)?;
+    layout_fault(is_layout(numbers.slots, numbers.sites, layout))?;
+    Ok(Opened {
+        sheet,
+        layout,
+        numbers,
+    })
 }
 
 // Refusals 1 to 7 and 11: what the judge asks.
-pub fn open_layout(stored: &[u32]) -> Opened
-    ensures { result ≡ layout_opened stored.now }
+pub fn open_layout(stored: &[u32]) -> Result<Opened<'_>, Refusal>
+    ensures refusal { number_in result ≡ judge_fault stored.entry.now }
+    ensures parts { IfOk result (λ o. (o.sheet.now ≡ sheet_part stored.entry.now) × (o.layout.now ≡ layout_part stored.entry.now)) }
 {
-    let at = layout_start(stored);
-    open_parts(&stored[..at], &stored[at..])
-}
-
-// The least broken rule of a stored sheet that was opened for the judge, or 0.
-pub fn rule_in(stored: &[u32], opened: Opened) -> u8
-    requires opened_value { opened ≡ layout_opened stored.now }
-    requires stored_value { judge_fault stored.now ≡ 0 }
-    ensures { result ≡ judged stored.now }
-{
-    let at = opened.at;
-    let numbers = opened.numbers;
-    rule_on(numbers, &stored[at..])
+    let (sheet, layout) = stored.split_at(layout_start(stored));
+    open_parts(sheet, layout)
 }
 
 // Refusals 1 to 7 and 11, and 13 where the layout is not lawful: what a tool over lawful stored sheets asks.
-pub fn open_stored(stored: &[u32]) -> Opened
-    ensures { result ≡ stored_opened stored.now }
+pub fn open_stored(stored: &[u32]) -> Result<Opened<'_>, Refusal>
+    ensures refusal { number_in result ≡ stored_fault stored.entry.now }
+    ensures parts { IfOk result (λ o. (o.sheet.now ≡ sheet_part stored.entry.now) × (o.layout.now ≡ layout_part stored.entry.now)) }
 {
-    let opened = open_layout(stored);
-    if opened.refusal != 0 {
-        return opened;
-    }
-    let refusal = rule_fault(rule_in(stored, opened));
-    if refusal != 0 {
-        return refused(refusal, opened.at);
-    }
-    opened
+    let opened = open_layout(stored)?;
+    rule_fault(opened.broken_rule().is_none())?;
+    Ok(opened)
 }

@@ -12,10 +12,7 @@ use Rattle.layouts.specs.Flaws.{passes_both, passes_one, flaw_of}
 use Rattle.rules.specs.Rules.{colours_pass, gaps_pass, misses_pass, clears_pass}
 use Rattle.words.specs.declared.tied.TiedSite.{TiedSite}
 use Rattle.words.specs.declared.tied.Head.{Head}
-use Rattle.layouts.specs.declared.pairs.Test.{Test}
-use Rattle.layouts.specs.declared.pairs.Test.TheVariants.{Colours, Gaps, Misses, Clears}
-use Rattle.layouts.specs.Pairs.{passes}
-use Rattle.layouts.specs.Model.{flaws_at, pairs_pass}
+use Rattle.layouts.specs.Model.{PairTest, flaws_at, pairs_pass, AllPairsPass}
 
 -- A PAIR
 turned : (h : Head) (t u : TiedSite) → passes_both h t u ≡ passes_both h u t
@@ -23,16 +20,20 @@ turned h t u =
     ap₂ ◌&&◌ (ap₂ (λ (a b : Bool). not a || b) (eqb-sym t.slot u.slot) (eqb-sym t.colour u.colour))
     (ap₂ ◌||◌ (eqb-sym t.slot u.slot) (same_test (far_by h.gap t.height u.height) (far_by h.gap u.height t.height) (far-sym h.gap t.height u.height) (far-sym h.gap u.height t.height)))
 
-passes-all : (h : Head) (t u : TiedSite) → passes_both h t u ≡ true → passes_one h t u ≡ true → (k : Test) → passes k h t u ≡ true
-passes-all h t u a b = go (and_both (colours_pass t u) (gaps_pass h t u) a) (and_both (misses_pass h t u) (clears_pass h t u) b)
-  where
-    go : (colours_pass t u ≡ true) × (gaps_pass h t u ≡ true) → (misses_pass h t u ≡ true) × (clears_pass h t u ≡ true) → (k : Test) → passes k h t u ≡ true
-    go b c Colours = b.0
-    go b c Gaps = b.1
-    go b c Misses = c.0
-    go b c Clears = c.1
+-- all that is asked of one beside the other
+record Beside (h : Head) (t u : TiedSite) : Type 0 where
+  colours : colours_pass t u ≡ true
+  gaps : gaps_pass h t u ≡ true
+  misses : misses_pass h t u ≡ true
+  clears : clears_pass h t u ≡ true
 
-pub flawless : (h : Head) (t u : TiedSite) → flaw_of h t u ≡ 0 → ((k : Test) → passes k h t u ≡ true) × ((k : Test) → passes k h u t ≡ true)
+passes-all : (h : Head) (t u : TiedSite) → passes_both h t u ≡ true → passes_one h t u ≡ true → Beside h t u
+passes-all h t u a b =
+    let p = and_both (colours_pass t u) (gaps_pass h t u) a in
+    let q = and_both (misses_pass h t u) (clears_pass h t u) b in
+    record { colours = p.0; gaps = p.1; misses = q.0; clears = q.1 }
+
+flawless : (h : Head) (t u : TiedSite) → flaw_of h t u ≡ 0 → Beside h t u × Beside h u t
 unfolding flaw_of
 flawless h t u e =
     let a = and_both (passes_both h t u) (passes_one h t u && passes_one h u t) (by-test (passes_both h t u && (passes_one h t u && passes_one h u t)) (λ q. q) (λ q. absurd (omega (arith, fails _ q e)))) in
@@ -43,11 +44,8 @@ flawless h t u e =
     fails b q e = rw q at e
 
 -- beside itself a site passes
-self : (h : Head) (t : TiedSite) (k : Test) → passes k h t t ≡ true
-self h t Colours = rw (eqb-self t.slot, eqb-self t.colour)
-self h t Gaps = rw (eqb-self t.slot)
-self h t Misses = rw (eqb-self t.slot)
-self h t Clears = rw (eqb-self t.slot)
+self : (h : Head) (t : TiedSite) → Beside h t t
+self h t = record { colours = rw (eqb-self t.slot, eqb-self t.colour); gaps = rw (eqb-self t.slot); misses = rw (eqb-self t.slot); clears = rw (eqb-self t.slot) }
 
 -- A SUM that comes to nothing
 zero-at : (f : ℕ → ℕ) (n : ℕ) → sum_before f n ≡ 0 → (i : ℕ) → i < n → f i ≡ 0
@@ -65,12 +63,24 @@ flaw-low h t u {n} q = omega (arith, one (passes_both h t u && (passes_one h t u
     one false = omega arith
 
 -- EVERY PAIR
-pub every-pair : (h : Head) (ts : ℕ → TiedSite) (n : ℕ) → ((i : ℕ) → i < n → flaws_at h ts i ≡ 0) → (k : Test) → pairs_pass k h ts n ≡ true
-every-pair h ts n f k =
-    before-all _ n λ i l. before-all _ n λ j m.
-    by_order i j
-    (λ o. by_equal i j (λ q. subst (λ (z : ℕ). passes k h (ts i) (ts z) ≡ true) q (self h (ts i) k)) (λ q. (at j i m (omega arith)).1 k))
-    (λ o. (at i j l o).0 k)
-  where
-    at : (i j : ℕ) → i < n → j < i → ((k : Test) → passes k h (ts i) (ts j) ≡ true) × ((k : Test) → passes k h (ts j) (ts i) ≡ true)
-    at i j l o = flawless h (ts i) (ts j) (zero-at (λ j. flaw_of h (ts i) (ts j)) i (f i l) j o)
+module _ (h : Head) (ts : ℕ → TiedSite) (n : ℕ) (f : (i : ℕ) → i < n → flaws_at h ts i ≡ 0) where
+  at : (i j : ℕ) → i < n → j < i → Beside h (ts i) (ts j) × Beside h (ts j) (ts i)
+  at i j l o = flawless h (ts i) (ts j) (zero-at (λ j. flaw_of h (ts i) (ts j)) i (f i l) j o)
+
+  each : (i j : ℕ) → i < n → j < n → Beside h (ts i) (ts j)
+  each i j l m =
+      by_order i j
+      (λ o. by_equal i j (λ q. subst (λ (z : ℕ). Beside h (ts i) (ts z)) q (self h (ts i))) (λ q. (at j i m (omega arith)).1))
+      (λ o. (at i j l o).0)
+
+  test : (r : PairTest) → ((t u : TiedSite) → Beside h t u → r h t u ≡ true) → pairs_pass r h ts n ≡ true
+  test r p = before-all _ n λ i l. before-all _ n λ j m. p (ts i) (ts j) (each i j l m)
+
+  pub every-pair : AllPairsPass h ts n
+  every-pair =
+      record {
+        colours = test (λ h t u. colours_pass t u) (λ t u b. b.colours);
+        gaps = test gaps_pass (λ t u b. b.gaps);
+        misses = test misses_pass (λ t u b. b.misses);
+        clears = test clears_pass (λ t u b. b.clears);
+      }

@@ -1,35 +1,71 @@
 -- Loops over numbers: a test of all, a sum, the least. Assumes nothing.
-use mathlib.Core.Path.{◌≡◌, refl, sym, ap, ◌∙◌}
+use mathlib.Core.Path.{◌≡◌, refl, sym, ap, ap₂, ◌∙◌, fun_ext}
 use mathlib.Core.Bool.{Bool, true, false, ◌&&◌, ◌||◌, cond}
 use mathlib.Core.List.{List, [], ◌∷◌}
-use Prim.Native.Nat.{ℕ, zero, suc, ◌+◌, ◌-◌, ◌<◌, ◌≤◌, min}
+use Prim.Native.Nat.{ℕ, zero, suc, ◌+◌, ◌-◌, ◌≤◌, min}
 use native.Mathlib.Numerals.{add-one}
 use native.Mathlib.Omega.{arith}
 use lib.Dec.{eqb}
-use lib.ListN.{get_or}
-use Rattle.lists.proofs.Tests.{clash, and_i, is_false}
+use borrow.Author.Tests.{eq-eqb, ne_eqb}
+use lib.ListN.{length, get_or}
+use Rattle.std.specs.List.{list_all, sum_by, count_by, range_with_len, enumerate_from}
+use Rattle.std.proofs.lemmas.List.Sums.{sum_by-cons}
 use Rattle.sheet.specs.Limits.{most_share}
 use Rattle.sheet.specs.Sheet.{bits}
 use Rattle.labelling.specs.Layout.{ties_in, share_by}
 use Rattle.labelling.proofs.Distances.{share-le}
 use Rattle.labelling.specs.Counted.{all_before, sum_before, is_taken, is_first}
-use Rattle.labelling.proofs.Counted.{all-before}
 use Rattle.words.specs.declared.tied.Head.{Head}
 use Rattle.layouts.specs.declared.labels.Among.TheVariants.{All}
 use Rattle.layouts.specs.Model.{one_if, among_by, Low, least_before, left_on, length_at, most_added}
 
--- A TEST OF ALL
-pub all_none : (f : ℕ → Bool) → all_before f 0 ≡ true
+-- THE FRONT of a test of all, and of a sum
+pub all-front : (f : ℕ → Bool) (n : ℕ) → all_before f (suc n) ≡ (f 0 && all_before (λ i. f (suc i)) n)
 unfolding all_before
-all_none f = refl
+all-front f zero = swap (f 0)
+  where
+    swap : (b : Bool) → (true && b) ≡ (b && true)
+    swap true = refl
+    swap false = refl
+all-front f (suc n) = ap (λ (b : Bool). b && f (suc n)) (all-front f n) ∙ assoc (f 0) (all_before (λ i. f (suc i)) n) (f (suc n))
+  where
+    assoc : (a b c : Bool) → (a && b && c) ≡ (a && (b && c))
+    assoc true b c = refl
+    assoc false b c = refl
 
--- by what a callee found of the next
-pub all_more : (f : ℕ → Bool) (i : ℕ) {r : Bool} → r ≡ f i → r ≡ true → all_before f i ≡ true → all_before f (i + 1) ≡ true
-unfolding all_before
-all_more f i e k h = rw (add-one i) (and_i h (sym e ∙ k))
+sum-front : (f : ℕ → ℕ) (n : ℕ) → sum_before f (suc n) ≡ f 0 + sum_before (λ i. f (suc i)) n
+unfolding sum_before
+sum-front f zero = omega arith
+sum-front f (suc n) = omega (arith, sum-front f n)
 
-pub all-stop : (f : ℕ → Bool) (n i : ℕ) {r : Bool} → i < n → r ≡ f i → r ≡ false → false ≡ all_before f n
-all-stop f n i l e k = sym (is_false (all_before f n) λ h. clash (all-before f n h i l) (sym e ∙ k))
+-- A CHAIN over a range, and over a list with its places
+all-from : (f : ℕ → Bool) (a n : ℕ) → list_all f (range_with_len a n) ≡ all_before (λ i. f (a + i)) n
+all-from f a zero = unfold all_before in refl
+all-from f a (suc n) =
+    ap₂ ◌&&◌ (ap f (let e : a ≡ a + 0 = omega arith in e)) (all-from f (a + 1) n ∙ ap (λ (g : ℕ → Bool). all_before g n) (fun_ext λ i. ap f (let e : a + 1 + i ≡ a + suc i = omega arith in e))) ∙
+    sym (all-front (λ i. f (a + i)) n)
+
+pub all-range : (f : ℕ → Bool) (n : ℕ) → list_all f (range_with_len 0 n) ≡ all_before f n
+all-range f n = all-from f 0 n ∙ ap (λ (g : ℕ → Bool). all_before g n) (fun_ext λ i. ap f (let e : 0 + i ≡ i = omega arith in e))
+
+sum-from : (f : ℕ → ℕ) (a n : ℕ) → sum_by f (range_with_len a n) ≡ sum_before (λ i. f (a + i)) n
+sum-from f a zero = unfold sum_before in refl
+sum-from f a (suc n) =
+    sum_by-cons f a (range_with_len (a + 1) n) ∙
+    ap₂ ◌+◌ (ap f (let e : a ≡ a + 0 = omega arith in e)) (sum-from f (a + 1) n ∙ ap (λ (g : ℕ → ℕ). sum_before g n) (fun_ext λ i. ap f (let e : a + 1 + i ≡ a + suc i = omega arith in e))) ∙
+    sym (sum-front (λ i. f (a + i)) n)
+
+pub count-range : (p : ℕ → Bool) (n : ℕ) → count_by p (range_with_len 0 n) ≡ sum_before (λ i. one_if (p i)) n
+count-range p n = sum-from (λ i. one_if (p i)) 0 n ∙ ap (λ (g : ℕ → ℕ). sum_before g n) (fun_ext λ i. ap (λ (k : ℕ). one_if (p k)) (let e : 0 + i ≡ i = omega arith in e))
+
+all-places_from : (f : ℕ → ℕ → Bool) (a : ℕ) (xs : List ℕ) → list_all (λ (p : ℕ × ℕ). f p.0 p.1) (enumerate_from a xs) ≡ all_before (λ i. f (a + i) (get_or xs i 0)) (length xs)
+all-places_from f a [] = unfold all_before in refl
+all-places_from f a (x ∷ xs) =
+    ap₂ ◌&&◌ (ap (λ (k : ℕ). f k x) (let e : a ≡ a + 0 = omega arith in e)) (all-places_from f (a + 1) xs ∙ ap (λ (g : ℕ → Bool). all_before g (length xs)) (fun_ext λ i. ap (λ (k : ℕ). f k (get_or xs i 0)) (let e : a + 1 + i ≡ a + suc i = omega arith in e))) ∙
+    sym (all-front (λ i. f (a + i) (get_or (x ∷ xs) i 0)) (length xs))
+
+pub all-places : (f : ℕ → ℕ → Bool) (xs : List ℕ) → list_all (λ (p : ℕ × ℕ). f p.0 p.1) (enumerate_from 0 xs) ≡ all_before (λ i. f i (get_or xs i 0)) (length xs)
+all-places f xs = all-places_from f 0 xs ∙ ap (λ (g : ℕ → Bool). all_before g (length xs)) (fun_ext λ i. ap (λ (k : ℕ). f k (get_or xs i 0)) (let e : 0 + i ≡ i = omega arith in e))
 
 -- A SUM
 pub sum-none : (f : ℕ → ℕ) → 0 ≡ sum_before f 0
@@ -55,9 +91,15 @@ unfolding is_taken
 taken_more p js k i e f g = rw (add-one i, e, f, g) refl
 
 -- THE LEAST
-pub least_more : (k w : ℕ) (f g : ℕ → ℕ) (i l : ℕ) → l ≡ least_before k w f g i → cond (eqb (f i) k) (min l (g i)) l ≡ least_before k w f g (i + 1)
-unfolding least_before
-least_more k w f g i l e = rw (add-one i, e) refl
+-- by what was found at the next
+module _ (k w : ℕ) (f g : ℕ → ℕ) (i : ℕ) {l : ℕ} (e : l ≡ least_before k w f g i) where
+  pub least-same : {m : ℕ} → f i ≡ k → m ≡ min l (g i) → m ≡ least_before k w f g (i + 1)
+  unfolding least_before
+  least-same q h = rw (add-one i, eq-eqb (f i) k q) (h ∙ ap (λ (z : ℕ). min z (g i)) e)
+
+  pub least-other : (f i ≡ k → ⊥) → l ≡ least_before k w f g (i + 1)
+  unfolding least_before
+  least-other n = rw (add-one i, ne_eqb (f i) k n) e
 
 pub least-none : (k w : ℕ) (f g : ℕ → ℕ) → w ≡ least_before k w f g 0
 unfolding least_before

@@ -19,27 +19,12 @@ use Rattle.labelling.proofs.Rules.{lesser-min}
 use Rattle.decoding.specs.Decoding.{Decoded, head_by, bounds_of}
 use Rattle.decoding.proofs.Fields.{bounds-long}
 use Rattle.words.specs.declared.tied.TiedSite.{TiedSite}
-use Rattle.rules.specs.Rules.{bound_kept}
-use Rattle.layouts.specs.declared.pairs.Test.{Test}
-use Rattle.layouts.specs.declared.pairs.Test.TheVariants.{Colours, Gaps, Misses, Clears}
+use Rattle.rules.specs.Rules.{colours_pass, bound_kept, gaps_pass, misses_pass, clears_pass}
 use Rattle.layouts.specs.declared.labels.Among.TheVariants.{All, Of}
-use Rattle.layouts.specs.Pairs.{passes}
-use Rattle.layouts.specs.Model.{tied_at, pairs_pass, count_on, bounds_on, least_before, left_on, length_on, first_broken, broken_on}
+use Rattle.layouts.proofs.Loops.{all-front}
+use Rattle.layouts.specs.Model.{PairTest, tied_at, pairs_pass, count_on, bounds_on, least_before, left_on, length_on, first_broken, broken_on}
 
--- THE FRONT of a test of all, and of the least
-all-front : (f : ℕ → Bool) (n : ℕ) → all_before f (suc n) ≡ (f 0 && all_before (λ i. f (suc i)) n)
-unfolding all_before
-all-front f zero = swap (f 0)
-  where
-    swap : (b : Bool) → (true && b) ≡ (b && true)
-    swap true = refl
-    swap false = refl
-all-front f (suc n) = ap (λ (b : Bool). b && f (suc n)) (all-front f n) ∙ assoc (f 0) (all_before (λ i. f (suc i)) n) (f (suc n))
-  where
-    assoc : (a b c : Bool) → (a && b && c) ≡ (a && (b && c))
-    assoc true b c = refl
-    assoc false b c = refl
-
+-- THE FRONT of the least
 least-front : (k w : ℕ) (f g : ℕ → ℕ) (n : ℕ) →
     least_before k w f g (suc n) ≡ cond (eqb (f 0) k) (min (g 0) (least_before k w (λ i. f (suc i)) (λ i. g (suc i)) n)) (least_before k w (λ i. f (suc i)) (λ i. g (suc i)) n)
 unfolding least_before
@@ -104,18 +89,18 @@ module _ (s : Sheet) (hs xs ys cs : List ℕ) (d : Decoded s hs xs ys cs) (js : 
   site-is i = λ p. record { x = d.xs i p; y = d.ys i p; colour = d.colours i p; slot = get_or js i 0; height = d.heights (get_or js i 0) p }
 
   -- a test of every two
-  pairs-are : (k : Test) (r : Tied → Tied → Bool) → ((i j : ℕ) → passes k (head_by s) (seen_at s js i) (seen_at s js j) ≡ r (tie_at s js i) (tie_at s js j)) →
+  pairs-are : (k : PairTest) (r : Tied → Tied → Bool) → ((i j : ℕ) → k (head_by s) (seen_at s js i) (seen_at s js j) ≡ r (tie_at s js i) (tie_at s js j)) →
       pairs_pass k (head_by s) ts n ≡ all (λ t. all (r t) (tied s js)) (tied s js)
   pairs-are k r e =
       ap (λ (f : ℕ → TiedSite). pairs_pass k (head_by s) f n) (fun_ext site-is) ∙
       ap (λ (g : ℕ → Bool). all_before g n) (fun_ext λ i. ap (λ (g : ℕ → Bool). all_before g n) (fun_ext (e i)) ∙ sym (tied_is s js long (r (tie_at s js i)))) ∙
       sym (tied_is s js long (λ t. all (r t) (tied s js)))
 
-  rule-one : pairs_pass Colours (head_by s) ts n ≡ colours_kept (tied s js)
-  rule-one = pairs-are Colours colour_kept (λ i j. refl)
+  rule-one : pairs_pass (λ h t u. colours_pass t u) (head_by s) ts n ≡ colours_kept (tied s js)
+  rule-one = pairs-are (λ h t u. colours_pass t u) colour_kept (λ i j. refl)
 
-  rule-three : pairs_pass Gaps (head_by s) ts n ≡ gaps_kept s (tied s js)
-  rule-three = pairs-are Gaps (gap_kept s) (λ i j. refl)
+  rule-three : pairs_pass gaps_pass (head_by s) ts n ≡ gaps_kept s (tied s js)
+  rule-three = pairs-are gaps_pass (gap_kept s) (λ i j. refl)
 
   pub left_is : (k : ℕ) → left_on (head_by s) xs js n k ≡ left_end s js k
   left_is k =
@@ -143,11 +128,11 @@ module _ (s : Sheet) (hs xs ys cs : List ℕ) (d : Decoded s hs xs ys cs) (js : 
         ap₂ ◌+◌ (sym (backbones-counted s js long low)) (sym (drops-counted s js long))
 
     module _ (inside : all (inside_by s.width) s.sites ≡ true) where
-      rule-four : pairs_pass Misses (head_by s) ts n ≡ all (misses_all s js) (tied s js)
-      rule-four = pairs-are Misses (misses_pair s) (λ i j. refl) ∙ sym (rule-four-pairs s js long inside low)
+      rule-four : pairs_pass misses_pass (head_by s) ts n ≡ all (misses_all s js) (tied s js)
+      rule-four = pairs-are misses_pass (misses_pair s) (λ i j. refl) ∙ sym (rule-four-pairs s js long inside low)
 
-      rule-five : pairs_pass Clears (head_by s) ts n ≡ all (clears_all s js) (tied s js)
-      rule-five = pairs-are Clears (clears_pair s) (λ i j. refl) ∙ sym (rule-five-pairs s js long inside low)
+      rule-five : pairs_pass clears_pass (head_by s) ts n ≡ all (clears_all s js) (tied s js)
+      rule-five = pairs-are clears_pass (clears_pair s) (λ i j. refl) ∙ sym (rule-five-pairs s js long inside low)
 
       -- ALL SIX, of a layout with these ties
       pub broken-is : (ls : List ℕ) → js ≡ layout_ties ls → broken_on (head_by s) (get_or ls 0 0) hs (bounds_of s.colours) xs ys cs js n ≡ broken_by s ls

@@ -1,4 +1,4 @@
 pub mod Flaws
-pub mod Pairs
+pub mod Broken
 pub mod Model
 pub mod Counts

@@ -1,17 +1,14 @@
 -- The model that the loops follow: tests and sums over the sites by their numbers, on a sheet's decoded numbers and the ties.
 -- Assumes nothing: these are definitions. proofs/RulesKept shows that they come to document 01's rules.
-use Rattle.std.specs.Prelude.{Bool, true, not, cond, List, ℕ, zero, suc, ◌+◌, ◌-◌, ◌≤◌, ◌<◌, min, eqb, length, get_or}
+use Rattle.std.specs.Prelude.{◌≡◌, Bool, true, not, cond, List, ℕ, zero, suc, ◌+◌, ◌-◌, ◌≤◌, ◌<◌, min, eqb, length, get_or}
 use Rattle.sheet.specs.Limits.{most_sites, number_top}
-use Rattle.rules.specs.Rules.{bound_kept, is_stated}
+use Rattle.rules.specs.Rules.{colours_pass, bound_kept, gaps_pass, misses_pass, clears_pass, is_stated}
 use Rattle.labelling.specs.Counted.{all_before, sum_before, is_first}
 use Rattle.labelling.specs.Layout.{ties_in, share_by}
 use Rattle.words.specs.declared.tied.TiedSite.{TiedSite}
 use Rattle.words.specs.declared.tied.Head.{Head}
-use Rattle.layouts.specs.declared.pairs.Test.{Test}
-use Rattle.layouts.specs.declared.pairs.Test.TheVariants.{Colours, Gaps, Misses, Clears}
 use Rattle.layouts.specs.declared.labels.Among.{Among}
 use Rattle.layouts.specs.declared.labels.Among.TheVariants.{All, Of}
-use Rattle.layouts.specs.Pairs.{passes}
 use Rattle.layouts.specs.Flaws.{flaw_of}
 
 abbrev pub one_if : Bool → ℕ
@@ -44,12 +41,23 @@ tied_at hs xs ys cs js i =
 abbrev pub flaws_at : Head → (sites : ℕ → TiedSite) → (i : ℕ) → ℕ
 flaws_at h ts i = sum_before (λ j. flaw_of h (ts i) (ts j)) i
 
--- a tied site beside each of so many; each beside each
-abbrev pub passes_all : Test → Head → (sites : ℕ → TiedSite) → (count : ℕ) → TiedSite → Bool
-passes_all k h ts n t = all_before (λ j. passes k h t (ts j)) n
+-- what a rule asks of a tied site beside another, by the head
+abbrev pub PairTest : Type 0
+PairTest = Head → TiedSite → TiedSite → Bool
 
-abbrev pub pairs_pass : Test → Head → (sites : ℕ → TiedSite) → (count : ℕ) → Bool
-pairs_pass k h ts n = all_before (λ i. passes_all k h ts n (ts i)) n
+-- a tied site beside each of so many; each beside each
+abbrev pub passes_all : PairTest → Head → (sites : ℕ → TiedSite) → (count : ℕ) → TiedSite → Bool
+passes_all r h ts n t = all_before (λ j. r h t (ts j)) n
+
+abbrev pub pairs_pass : PairTest → Head → (sites : ℕ → TiedSite) → (count : ℕ) → Bool
+pairs_pass r h ts n = all_before (λ i. passes_all r h ts n (ts i)) n
+
+-- rules 1, 3, 4 and 5, each beside each
+pub record AllPairsPass (h : Head) (sites : ℕ → TiedSite) (count : ℕ) : Type 0 where
+  pub colours : pairs_pass (λ h t u. colours_pass t u) h sites count ≡ true
+  pub gaps : pairs_pass gaps_pass h sites count ≡ true
+  pub misses : pairs_pass misses_pass h sites count ≡ true
+  pub clears : pairs_pass clears_pass h sites count ≡ true
 
 -- LABELS, counted at their first sites: of all sites, or of a colour's
 abbrev pub among_by : Among → (colours : List ℕ) → (site : ℕ) → Bool
@@ -90,5 +98,5 @@ first_broken a b c d e f = cond (not a) 1 (cond (not b) 2 (cond (not c) 3 (cond 
 
 abbrev pub broken_on : Head → (stated : ℕ) → (heights bounds xs ys colours ties : List ℕ) → (count : ℕ) → ℕ
 broken_on h w hs bs xs ys cs js n =
-    first_broken (pairs_pass Colours h (tied_at hs xs ys cs js) n) (bounds_on bs cs js n) (pairs_pass Gaps h (tied_at hs xs ys cs js) n)
-    (pairs_pass Misses h (tied_at hs xs ys cs js) n) (pairs_pass Clears h (tied_at hs xs ys cs js) n) (stated_on h w hs xs ys cs js n)
+    first_broken (pairs_pass (λ h t u. colours_pass t u) h (tied_at hs xs ys cs js) n) (bounds_on bs cs js n) (pairs_pass gaps_pass h (tied_at hs xs ys cs js) n)
+    (pairs_pass misses_pass h (tied_at hs xs ys cs js) n) (pairs_pass clears_pass h (tied_at hs xs ys cs js) n) (stated_on h w hs xs ys cs js n)

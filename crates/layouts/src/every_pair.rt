@@ -2,55 +2,27 @@
 // need not look for the first that is. The inner loop has no branch, so that it is made for several sites at a time.
 ghost use Rattle.std.specs.Prelude.{◌≡◌, true, ◌<◌, length};
 ghost use Rattle.labelling.specs.Layout.{ties_in};
-ghost use Rattle.layouts.specs.Model.{Fits, tied_at, flaws_at, pairs_pass};
-ghost use Rattle.layouts.specs.declared.pairs.Test as test;
+ghost use Rattle.layouts.specs.Model.{tied_at, flaws_at, AllPairsPass};
 
 use crate::flaws::flaw;
-use crate::ties::tied_at;
-use words::tied::Head;
+use crate::sites::TiedSites;
 
 // How many of the sites before i fail a test with site i.
-fn flaws_at(
-    h: Head,
-    heights: &[u32],
-    xs: &[u32],
-    ys: &[u32],
-    colours: &[u32],
-    ties: &[u32],
-    i: usize,
-) -> u32
-    requires fits { Fits heights.now xs.now ys.now colours.now ties.now }
-    requires i_in_bounds { i < length ties.now }
-    ensures { result ≡ flaws_at h (tied_at heights.now xs.now ys.now colours.now (ties_in ties.now)) i }
+fn flaws_at(sites: &TiedSites, i: usize) -> u32
+    requires { i < length sites.now.ties.now }
+    ensures { result ≡ flaws_at sites.now.head (tied_at sites.now.heights.now sites.now.xs.now sites.now.ys.now sites.now.colours.now (ties_in sites.now.ties.now)) i }
 {
-    let t = tied_at(heights, xs, ys, colours, ties, i);
-    let mut n: u32 = 0;
-    let mut j: usize = 0;
-    while j < i {
-        n += flaw(h, t, tied_at(heights, xs, ys, colours, ties, j));
-        j += 1;
+    let t = sites.tied_at(i);
+    let mut n = 0;
+    for j in 0..i {
+        n += flaw(sites.head, t, sites.tied_at(j));
     }
     n
 }
 
 // Whether every two tied sites pass every test: a yes is sure.
-pub fn every_pair_passes(
-    h: Head,
-    heights: &[u32],
-    xs: &[u32],
-    ys: &[u32],
-    colours: &[u32],
-    ties: &[u32],
-) -> bool
-    requires { Fits heights.now xs.now ys.now colours.now ties.now }
-    ensures { result ≡ true → (k : test.Test) → pairs_pass k h (tied_at heights.now xs.now ys.now colours.now (ties_in ties.now)) (length ties.now) ≡ true }
+pub fn every_pair_passes(sites: &TiedSites) -> bool
+    ensures { result ≡ true → AllPairsPass sites.now.head (tied_at sites.now.heights.now sites.now.xs.now sites.now.ys.now sites.now.colours.now (ties_in sites.now.ties.now)) (length sites.now.ties.now) }
 {
-    let mut i: usize = 0;
-    while i < ties.len() {
-        if flaws_at(h, heights, xs, ys, colours, ties, i) != 0 {
-            return false;
-        }
-        i += 1;
-    }
-    true
+    (0..sites.count()).all(|i| flaws_at(sites, i) == 0)
 }

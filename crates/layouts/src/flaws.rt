@@ -26,8 +26,6 @@ fn passes_one(h: Head, t: TiedSite, u: TiedSite) -> bool
 pub fn flaw(h: Head, t: TiedSite, u: TiedSite) -> u32
     ensures { result ≡ flaw_of h t u }
 {
-    if passes_both(h, t, u) & (passes_one(h, t, u) & passes_one(h, u, t)) {
-        return 0;
-    }
-    1
+    let passes = passes_both(h, t, u) & (passes_one(h, t, u) & passes_one(h, u, t));
+    u32::from(!passes)
 }

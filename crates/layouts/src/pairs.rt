@@ -1,81 +1,77 @@
-// Rules 1, 3, 4 and 5: what each asks of two tied sites, by the name of its test, and whether every two of a layout pass it.
-ghost use Rattle.std.specs.Prelude.{◌≡◌, length};
+// Rules 1, 3, 4 and 5: what each asks of two tied sites, and whether every two of a layout pass it.
+ghost use Rattle.std.specs.Prelude.{◌≡◌, Bool, length};
 ghost use Rattle.labelling.specs.Layout.{ties_in};
-ghost use Rattle.layouts.specs.Pairs.{passes};
-ghost use Rattle.layouts.specs.Model.{Fits, tied_at, passes_all, pairs_pass};
+ghost use Rattle.rules.specs.Rules.{colours_pass, gaps_pass, misses_pass, clears_pass};
+ghost use Rattle.words.specs.declared.tied.Head.{Head};
+ghost use Rattle.words.specs.declared.tied.TiedSite.{TiedSite};
+ghost use Rattle.layouts.specs.Model.{tied_at, passes_all, pairs_pass};
 
-use crate::ties::tied_at;
+use crate::sites::TiedSites;
 use rules::rule_1::colours_pass;
 use rules::rule_3::gaps_pass;
 use rules::rule_4::misses_pass;
 use rules::rule_5::clears_pass;
 use words::tied::{Head, TiedSite};
 
-// A test of a tied site beside another.
-#[derive(Clone, Copy)]
-pub enum Test {
-    Colours,
-    Gaps,
-    Misses,
-    Clears,
+// A rule of two tied sites.
+pub trait PairRule {
+    ghost kept: { Head → TiedSite → TiedSite → Bool };
+
+    // Whether t passes beside u.
+    fn passes(h: Head, t: TiedSite, u: TiedSite) -> bool
+        ensures { result ≡ kept h t u };
 }
 
-// The test of this name.
-fn pass(test: Test, h: Head, t: TiedSite, u: TiedSite) -> bool
-    ensures { result ≡ passes test h t u }
-{
-    match test {
-        Test::Colours => colours_pass(t, u),
-        Test::Gaps => gaps_pass(h, t, u),
-        Test::Misses => misses_pass(h, t, u),
-        Test::Clears => clears_pass(h, t, u),
+pub struct Colours;
+
+impl PairRule for Colours {
+    ghost kept = { λ h t u. colours_pass t u };
+
+    fn passes(_: Head, t: TiedSite, u: TiedSite) -> bool {
+        colours_pass(t, u)
     }
 }
 
-// Whether a tied site passes a test beside every tied site.
-fn all_pass(
-    test: Test,
-    h: Head,
-    t: TiedSite,
-    heights: &[u32],
-    xs: &[u32],
-    ys: &[u32],
-    colours: &[u32],
-    ties: &[u32],
-) -> bool
-    requires { Fits heights.now xs.now ys.now colours.now ties.now }
-    ensures { result ≡ passes_all test h (tied_at heights.now xs.now ys.now colours.now (ties_in ties.now)) (length ties.now) t }
-{
-    let mut j: usize = 0;
-    while j < ties.len() {
-        if !pass(test, h, t, tied_at(heights, xs, ys, colours, ties, j)) {
-            return false;
-        }
-        j += 1;
+pub struct Gaps;
+
+impl PairRule for Gaps {
+    ghost kept = { gaps_pass };
+
+    fn passes(h: Head, t: TiedSite, u: TiedSite) -> bool {
+        gaps_pass(h, t, u)
     }
-    true
 }
 
-// Whether every two tied sites pass a test.
-pub fn pairs_pass(
-    test: Test,
-    h: Head,
-    heights: &[u32],
-    xs: &[u32],
-    ys: &[u32],
-    colours: &[u32],
-    ties: &[u32],
-) -> bool
-    requires { Fits heights.now xs.now ys.now colours.now ties.now }
-    ensures { result ≡ pairs_pass test h (tied_at heights.now xs.now ys.now colours.now (ties_in ties.now)) (length ties.now) }
-{
-    let mut i: usize = 0;
-    while i < ties.len() {
-        let t = tied_at(heights, xs, ys, colours, ties, i);
-        if !all_pass(test, h, t, heights, xs, ys, colours, ties) {
-            return false;
-        }
-        i += 1;
+pub struct Misses;
+
+impl PairRule for Misses {
+    ghost kept = { misses_pass };
+
+    fn passes(h: Head, t: TiedSite, u: TiedSite) -> bool {
+        misses_pass(h, t, u)
     }
-    true
+}
+
+pub struct Clears;
+
+impl PairRule for Clears {
+    ghost kept = { clears_pass };
+
+    fn passes(h: Head, t: TiedSite, u: TiedSite) -> bool {
+        clears_pass(h, t, u)
+    }
+}
+
+// Whether a tied site passes beside every tied site.
+fn all_pass<R: PairRule>(sites: &TiedSites, t: TiedSite) -> bool
+    ensures { result ≡ passes_all R.kept sites.now.head (tied_at sites.now.heights.now sites.now.xs.now sites.now.ys.now sites.now.colours.now (ties_in sites.now.ties.now)) (length sites.now.ties.now) t }
+{
+    (0..sites.count()).all(|j| R::passes(sites.head, t, sites.tied_at(j)))
+}
+
+// Whether every two tied sites pass.
+pub fn pairs_pass<R: PairRule>(sites: &TiedSites) -> bool
+    ensures { result ≡ pairs_pass R.kept sites.now.head (tied_at sites.now.heights.now sites.now.xs.now sites.now.ys.now sites.now.colours.now (ties_in sites.now.ties.now)) (length sites.now.ties.now) }
+{
+    (0..sites.count()).all(|i| all_pass::<R>(sites, sites.tied_at(i)))
 }

@@ -1,53 +1,41 @@
 // Rule 6: the count is the number of used slots; the length is that of all backbones and drops.
-ghost use Rattle.std.specs.Prelude.{◌≡◌, ◌<◌, ◌≤◌, length};
+ghost use Rattle.std.specs.Prelude.{◌≡◌, ◌<◌, length};
 ghost use Rattle.labelling.specs.Layout.{ties_in};
-ghost use Rattle.layouts.specs.Model.{Fits, Low, left_on, length_by, count_on, length_on, stated_on};
+ghost use Rattle.layouts.specs.Model.{left_on, length_by, count_on, length_on, stated_on};
 ghost use Rattle.layouts.specs.declared.labels.Among as Among;
 
-use crate::labels::{Among, is_first, one_if};
-use crate::ties::slot_at;
+use crate::labels::{Among, is_first};
+use crate::sites::TiedSites;
 use rules::rule_6::{is_stated, site_share};
-use words::tied::Head;
-use words::{choose, get, lesser, monus, same};
+use words::get;
 
 // The left end of a slot's label.
-pub fn left_end(h: Head, slot: u32, xs: &[u32], ties: &[u32]) -> u32
-    requires { length ties.now ≤ length xs.now }
-    ensures { result ≡ left_on h xs.now (ties_in ties.now) (length ties.now) slot }
+pub fn left_end(sites: &TiedSites, slot: u32) -> u32
+    ensures { result ≡ left_on sites.now.head sites.now.xs.now (ties_in sites.now.ties.now) (length sites.now.ties.now) slot }
 {
-    if h.twosided {
+    if sites.head.twosided {
         return 0;
     }
-    let mut low = h.width;
-    let mut i: usize = 0;
-    while i < ties.len() {
-        low = choose(same(slot_at(ties, i), slot), lesser(low, xs[i]), low);
-        i += 1;
+    let mut low = sites.head.width;
+    for i in 0..sites.count() {
+        if sites.slot_at(i) == slot {
+            low = low.min(sites.xs[i]);
+        }
     }
     low
 }
 
 // What a site adds to the length: its label's backbone if it is the first of its label, and its own share.
-fn site_length(
-    h: Head,
-    first: bool,
-    heights: &[u32],
-    xs: &[u32],
-    ys: &[u32],
-    ties: &[u32],
-    i: usize,
-) -> u32
-    requires ties_in_bounds { (length ties.now ≤ length xs.now) × (length ties.now ≤ length ys.now) × (i < length ties.now) }
-    requires low { Low h heights.now ys.now }
-    ensures { result ≡ length_by h first heights.now xs.now ys.now (ties_in ties.now) (length ties.now) i }
+fn site_length(sites: &TiedSites, first: bool, i: usize) -> u32
+    requires { i < length sites.now.ties.now }
+    ensures { result ≡ length_by sites.now.head first sites.now.heights.now sites.now.xs.now sites.now.ys.now (ties_in sites.now.ties.now) (length sites.now.ties.now) i }
 {
-    let slot = slot_at(ties, i);
-    let share = site_share(h, get(heights, slot), ys[i]);
+    let slot = sites.slot_at(i);
+    let share = site_share(sites.head, get(sites.heights, slot), sites.ys[i]);
     if !first {
         return share;
     }
-    let backbone = monus(h.width, left_end(h, slot, xs, ties));
-    backbone + share
+    sites.head.width.saturating_sub(left_end(sites, slot)) + share
 }
 
 // A layout's count and length.
@@ -58,48 +46,24 @@ pub struct Totals {
 }
 
 // Each label is counted at its first site. So few sites that the sum fits.
-pub fn totals_of(
-    h: Head,
-    heights: &[u32],
-    xs: &[u32],
-    ys: &[u32],
-    colours: &[u32],
-    ties: &[u32],
-) -> Totals
-    requires fits { Fits heights.now xs.now ys.now colours.now ties.now }
-    requires low { Low h heights.now ys.now }
-    ensures count_value { result.count ≡ count_on Among.All colours.now (ties_in ties.now) (length ties.now) }
-    ensures length_value { result.length ≡ length_on h heights.now xs.now ys.now colours.now (ties_in ties.now) (length ties.now) }
+pub fn totals_of(sites: &TiedSites) -> Totals
+    ensures count_value { result.count ≡ count_on Among.All sites.now.colours.now (ties_in sites.now.ties.now) (length sites.now.ties.now) }
+    ensures length_value { result.length ≡ length_on sites.now.head sites.now.heights.now sites.now.xs.now sites.now.ys.now sites.now.colours.now (ties_in sites.now.ties.now) (length sites.now.ties.now) }
 {
-    let mut count: usize = 0;
-    let mut total: u32 = 0;
-    let mut i: usize = 0;
-    while i < ties.len() {
-        let first = is_first(Among::All, colours, ties, i);
-        count += one_if(first);
-        total += site_length(h, first, heights, xs, ys, ties, i);
-        i += 1;
+    let mut count = 0;
+    let mut length = 0;
+    for i in 0..sites.count() {
+        let first = is_first(Among::All, sites, i);
+        count += usize::from(first);
+        length += site_length(sites, first, i);
     }
-    Totals {
-        count: count,
-        length: total,
-    }
+    Totals { count, length }
 }
 
 // Whether the stated count and length are those of the ties.
-pub fn totals_stated(
-    h: Head,
-    stated: u32,
-    heights: &[u32],
-    xs: &[u32],
-    ys: &[u32],
-    colours: &[u32],
-    ties: &[u32],
-) -> bool
-    requires fits { Fits heights.now xs.now ys.now colours.now ties.now }
-    requires low { Low h heights.now ys.now }
-    ensures { result ≡ stated_on h stated heights.now xs.now ys.now colours.now (ties_in ties.now) (length ties.now) }
+pub fn totals_stated(sites: &TiedSites, stated: u32) -> bool
+    ensures { result ≡ stated_on sites.now.head stated sites.now.heights.now sites.now.xs.now sites.now.ys.now sites.now.colours.now (ties_in sites.now.ties.now) (length sites.now.ties.now) }
 {
-    let totals = totals_of(h, heights, xs, ys, colours, ties);
+    let totals = totals_of(sites);
     is_stated(stated, totals.count, totals.length)
 }

@@ -19,10 +19,11 @@ use Rattle.words.specs.declared.tied.Head.{Head}
 use Rattle.decoding.specs.Decoding.{sheet_by, LayoutRead}
 use Rattle.decoding.specs.declared.Numbers.{Numbers}
 use Rattle.layouts.specs.Model.{Low}
-use Rattle.layouts.proofs.Fitting.{fits_read, low_read}
+use Rattle.layouts.proofs.Fitting.{low_read}
 use Rattle.layouts.proofs.Read.{decoded-read, sites_long, body-long, sites-few}
 use Rattle.page.specs.declared.labels.Sums.{Sums}
-use Rattle.page.specs.Labels.{SitesFit, with_site, sums_on, sums_at}
+use Rattle.judge.specs.Opened.{SitesRead}
+use Rattle.page.specs.Labels.{with_site, sums_on, sums_at}
 
 abbrev sums : (colour sites shares : ℕ) → Sums
 sums c n l = record { colour = c; sites = n; shares = l }
@@ -73,9 +74,6 @@ module _ {d : Numbers} {ls : List ℕ} (p : LayoutRead d ls) where
   abbrev js : List ℕ
   js = layout_ties ls
 
-  pub sites-fit : {ts : List ℕ} → ts ≡ layout_body ls → SitesFit d.ys d.colours ts
-  sites-fit e = record { ys-long = (fits_read p _ e).ys-long; colours-long = (fits_read p _ e).colours-long; few = (fits_read p _ e).few }
-
   shares-so : (i : ℕ) → share_by d.head.charge (get_or d.heights (get_or js i 0) 0) (get_or d.ys i 0) ≡ share_at s js i
   shares-so i = ap₂ (share_by d.head.charge) ((decoded-read p).heights (get_or js i 0)) ((decoded-read p).ys i)
 
@@ -84,9 +82,8 @@ module _ {d : Numbers} {ls : List ℕ} (p : LayoutRead d ls) where
       ap₂ (λ (f : ℕ → ℕ) (g : ℕ → ℕ). sums (colour_before f js k n) (sum_at k (λ i. 1) js n) (sum_at k g js n)) (fun_ext (decoded-read p).colours) (fun_ext shares-so) ∙
       ap (λ (m : ℕ). sums (colour_before (λ i. (site_at s i).colour) js k m) (sum_at k (λ i. 1) js m) (sum_at k (share_at s js) js m)) e
 
-  pub sums-read : (ts : List ℕ) {t : Sums} (k : ℕ) → ts ≡ layout_body ls → t ≡ sums_on d.head k d.heights d.ys d.colours (ties_in ts) (length ts) → t ≡ sums_at s js k
-  sums-read ts k e q =
-      q ∙ ap (λ (l : List ℕ). sums_on d.head k d.heights d.ys d.colours (ties_in l) (length l)) e ∙ sums-are k (length (layout_body ls)) (body-long p)
+  pub sums-read : {h : Head} {hs us vs cs ts : List ℕ} {t : Sums} (k : ℕ) → SitesRead d ls h hs us vs cs ts → t ≡ sums_on h k hs vs cs (ties_in ts) (length ts) → t ≡ sums_at s js k
+  sums-read k o q = q ∙ rw (o.head, o.heights, o.ys, o.colours, o.ties) (sums-are k (length (layout_body ls)) (body-long p))
 
   -- THE LABEL: its length fits a word
   pub length-room : {t : Sums} (k : ℕ) → t ≡ sums_at s js k → d.head.width + t.shares < top_word

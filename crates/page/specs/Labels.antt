@@ -1,19 +1,12 @@
 -- A label's numbers, as a loop that has passed the sites before one has them, on a sheet's decoded numbers and the ties.
 -- Assumes nothing: these are definitions. proofs/Counting shows that they are the label's own numbers.
-use Rattle.std.specs.Prelude.{Bool, cond, List, ℕ, ◌+◌, ◌≤◌, length, get_or}
-use Rattle.sheet.specs.Limits.{most_sites}
+use Rattle.std.specs.Prelude.{Bool, cond, List, ℕ, ◌+◌, get_or}
 use Rattle.sheet.specs.Sheet.{Sheet}
 use Rattle.labelling.specs.Layout.{share_by, height_of}
 use Rattle.labelling.specs.Labels.{sum_at, colour_before, label_colour, label_sites, label_shares, label_length}
 use Rattle.words.specs.declared.tied.Head.{Head}
 use Rattle.page_lines.specs.declared.lines.Label.{Label}
 use Rattle.page.specs.declared.labels.Sums.{Sums}
-
--- what the loop asks: each site has its numbers, and there are few
-pub record SitesFit (ys colours ties : List ℕ) : Type 0 where
-  pub ys-long : length ties ≤ length ys
-  pub colours-long : length ties ≤ length colours
-  pub few : length ties ≤ most_sites
 
 -- with one more site: its colour, itself and its share, if it has the slot
 abbrev pub with_site : Sums → (has : Bool) → (colour share : ℕ) → Sums

@@ -1,21 +1,18 @@
 // A label's own numbers: its colour, how many sites it has, and its length.
 ghost use Rattle.std.specs.Prelude.{◌≡◌, ◌+◌, ◌<◌, length};
 ghost use Rattle.sheet.specs.Limits.{top_word};
-ghost use Rattle.labelling.specs.Layout.{left_end, ties_in, layout_ties};
-ghost use Rattle.decoding.specs.Decoding.{sheet_by, LayoutRead};
-ghost use Rattle.layouts.specs.Model.{Low};
-ghost use Rattle.page.specs.Labels.{SitesFit, with_site, sums_on, sums_at, label_at};
+ghost use Rattle.labelling.specs.Layout.{ties_in, layout_ties};
+ghost use Rattle.decoding.specs.Decoding.{sheet_by};
+ghost use Rattle.page.specs.Labels.{with_site, sums_on, sums_at, label_at};
 
-use decoding::Numbers;
-use layouts::rule_6::left_end;
-use layouts::ties::slot_at;
+use judge::opened::Opened;
+use layouts::sites::TiedSites;
 use page_lines::lines::Label;
 use rules::rule_6::{own_length, site_share};
-use words::tied::Head;
-use words::{TIES_AT, get, same};
+use words::get;
 
 // Over the sites of a slot: the colour that they share, how many there are, and the sum of their shares of the length.
-#[derive(Drop)]
+#[derive(Clone, Copy)]
 pub struct Sums {
     pub colour: u32,
     pub sites: u32,
@@ -30,72 +27,48 @@ fn with_site(sums: Sums, has: bool, colour: u32, share: u32) -> Sums
     if !has {
         return sums;
     }
-    let sites = sums.sites + 1;
-    let shares = sums.shares + share;
     Sums {
-        colour: colour,
-        sites: sites,
-        shares: shares,
+        colour,
+        sites: sums.sites + 1,
+        shares: sums.shares + share,
     }
 }
 
 // The sums over all sites.
-fn sums_of(h: Head, slot: u32, heights: &[u32], ys: &[u32], colours: &[u32], ties: &[u32]) -> Sums
-    requires sites_fit { SitesFit ys.now colours.now ties.now }
-    requires low { Low h heights.now ys.now }
-    ensures { result ≡ sums_on h slot heights.now ys.now colours.now (ties_in ties.now) (length ties.now) }
+fn sums_of(sites: &TiedSites, slot: u32) -> Sums
+    ensures { result ≡ sums_on sites.now.head slot sites.now.heights.now sites.now.ys.now sites.now.colours.now (ties_in sites.now.ties.now) (length sites.now.ties.now) }
 {
     let mut sums = Sums {
         colour: 0,
         sites: 0,
         shares: 0,
     };
-    let mut i: usize = 0;
-    while i < ties.len() {
-        let at = slot_at(ties, i);
-        let share = site_share(h, get(heights, at), ys[i]);
-        sums = with_site(sums, same(at, slot), colours[i], share);
-        i += 1;
+    for i in 0..sites.count() {
+        let at = sites.slot_at(i);
+        let share = site_share(sites.head, get(sites.heights, at), sites.ys[i]);
+        sums = with_site(sums, at == slot, sites.colours[i], share);
     }
     sums
 }
 
-// The sums over the sites of a slot, on a sheet's numbers and a layout of it.
-fn sums_at(numbers: Numbers, layout: &[u32], slot: u32) -> Sums
-    requires { LayoutRead numbers layout.now }
-    ensures { result ≡ sums_at (sheet_by numbers) (layout_ties layout.now) slot }
+// The sums over the sites of a slot, on a stored sheet that was opened.
+fn sums_at(opened: &Opened, slot: u32) -> Sums
+    ensures { result ≡ sums_at (sheet_by opened.now.numbers) (layout_ties opened.now.layout.now) slot }
 {
-    let h = numbers.head;
-    let heights = numbers.heights;
-    let ys = numbers.ys;
-    let colours = numbers.colours;
-    sums_of(h, slot, &heights, &ys, &colours, &layout[TIES_AT..])
+    sums_of(&opened.sites(), slot)
 }
 
-fn left_at(numbers: Numbers, layout: &[u32], slot: u32) -> u32
-    requires { LayoutRead numbers layout.now }
-    ensures { result ≡ left_end (sheet_by numbers) (layout_ties layout.now) slot }
+pub fn label_at(opened: &Opened, slot: u32) -> Label
+    ensures { result ≡ label_at (sheet_by opened.now.numbers) (layout_ties opened.now.layout.now) slot }
 {
-    let h = numbers.head;
-    let xs = numbers.xs;
-    left_end(h, slot, &xs, &layout[TIES_AT..])
-}
-
-pub fn label_at(numbers: Numbers, layout: &[u32], slot: u32) -> Label
-    requires { LayoutRead numbers layout.now }
-    ensures { result ≡ label_at (sheet_by numbers) (layout_ties layout.now) slot }
-{
-    let heights = numbers.heights;
-    let height = get(&heights, slot);
-    let sums = sums_at(numbers, layout, slot);
-    let left = left_at(numbers, layout, slot);
-    let h = numbers.head;
-    let length = own_length(h.width, left, sums.shares);
+    let height = get(&opened.numbers.heights, slot);
+    let sums = sums_at(opened, slot);
+    let left = opened.left_end(slot);
     Label {
-        slot: slot,
+        slot,
         colour: sums.colour,
         sites: sums.sites,
-        height: height,
-        length: length,
+        height,
+        length: own_length(opened.numbers.head.width, left, sums.shares),
     }
 }

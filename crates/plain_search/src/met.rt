@@ -1,119 +1,143 @@
 // What was met, counted.
-use crate::calls::Expected;
-use crate::rules::slots_of;
-use crate::search::search;
-use crate::small_sheet::{Sheet, at, is_two_sided, joined, set_of, sum};
+use crate::calls::{Call, Refusal};
+use crate::rules::Layout;
+use crate::search::{Found, search};
+use crate::small_sheet::Sheet;
+use std::alloc::{AllocError, Global};
 
-// A two-sided sheet: refusal 18, whatever is lent.
-const TWO_SIDED: u32 = 1;
+// What a sheet and the call with it can be.
+#[derive(Clone, Copy)]
+pub enum Kind {
+    Any,
+    TwoSided,
+    Shortest,
+    EqualRows,
+    OnSlots,
+    Charged,
+    ChargeOfZero,
+    WorkRefused,
+    AnswerRefused,
+    NoLayout,
+    Answered,
+    Equals,
+    BoundSpent,
+    ChargeAlters,
+    // the answer, or refusal 10, is another than by document 01's own rule 5
+    TipAlters,
+    Differs,
+}
 
-const SHORTEST: u32 = 2;
+// In the order in which their counts are printed.
+pub const KINDS: [Kind; 16] = [
+    Kind::Any,
+    Kind::TwoSided,
+    Kind::Shortest,
+    Kind::EqualRows,
+    Kind::OnSlots,
+    Kind::Charged,
+    Kind::ChargeOfZero,
+    Kind::WorkRefused,
+    Kind::AnswerRefused,
+    Kind::NoLayout,
+    Kind::Answered,
+    Kind::Equals,
+    Kind::BoundSpent,
+    Kind::ChargeAlters,
+    Kind::TipAlters,
+    Kind::Differs,
+];
 
-const EQUAL_ROWS: u32 = 3;
+fn has_equal_rows(sheet: &Sheet) -> bool {
+    sheet.sites.iter().enumerate().any(|(place, site)| {
+        sheet
+            .sites
+            .iter()
+            .take(place)
+            .any(|other| other.y == site.y)
+    })
+}
 
-const ON_SLOTS: u32 = 4;
-
-const CHARGED: u32 = 5;
-
-// With a charge word, and the charge is 0.
-const CHARGE_OF_ZERO: u32 = 6;
-
-// Refusals 8, 9 and 10 are the kinds 7, 8 and 9.
-const BEFORE_REFUSALS: u8 = 1;
-
-const ANSWERED: u32 = 10;
-
-const EQUALS: u32 = 11;
-
-const SPENT: u32 = 12;
-
-const CHARGE_ALTERS: u32 = 13;
-
-// The answer, or refusal 10, is another than by document 01's own rule 5.
-const TIP_ALTERS: u32 = 14;
-
-const DIFFERENCES: u32 = 15;
-
-// The set with a kind, if it is met.
-fn noted(set: u32, kind: u32, met: bool) -> u32 {
-    if met {
-        return joined(set, kind);
-    }
-    set
+fn has_site_on_slot(sheet: &Sheet) -> bool {
+    sheet.sites.iter().any(|site| sheet.slots.iter().any(|slot| slot.height == site.y))
 }
 
 // Does the answer give some colour with a bound all the labels that it may have?
-fn spends_bound(sheet: Sheet, layout: u64) -> bool {
-    let n = sheet.colours;
-    let mut spent = false;
-    let mut c: u32 = 0;
-    while c < n {
-        let most = at(sheet.bounds, c);
-        let labels = u32::count_ones(slots_of(sheet, layout, c));
-        spent = spent | (0 < most) & (labels == most);
-        c += 1;
-    }
-    spent
+fn spends_bound(sheet: &Sheet, found: &Found) -> bool {
+    let layout = Layout {
+        sheet,
+        ties: &found.ties,
+    };
+    sheet.colours.iter().any(|colour| {
+        colour.bound.is_some_and(|most| 0 < most && layout.labels(*colour) == usize::from(most))
+    })
 }
 
 // Is the answer another than without the charge?
-fn charge_alters(sheet: Sheet, layout: u64) -> bool {
-    if sheet.charge == 0 {
-        return false;
+fn charge_alters(alloc: Global, sheet: &Sheet, found: &Found) -> Result<bool, AllocError> {
+    if matches!(sheet.charge, None | Some(0)) {
+        return Ok(false);
     }
-    let mut uncharged = sheet;
-    uncharged.charge = 0;
-    let best = search(uncharged);
-    best.layout != layout
+    let uncharged = Sheet {
+        charge: None,
+        ..sheet.clone()?
+    };
+    let other = search(alloc, &uncharged)?;
+    Ok(other.is_none_or(|other| other.ties != found.ties))
 }
 
-// Is the answer, or refusal 10, another than where rule 5 counts no site left of a tip? With gap 1 it counts none.
-fn tip_alters(sheet: Sheet, e: Expected) -> bool {
-    if (sheet.clearance == 1) | (e.fault % 10 != 0) {
-        return false;
+// Is the answer, or that there is none, another than where rule 5 counts no site left of a tip? With gap 1 it counts none.
+fn tip_alters(alloc: Global, sheet: &Sheet, found: Option<&Found>) -> Result<bool, AllocError> {
+    if sheet.clearance == 1 {
+        return Ok(false);
     }
-    let mut uncleared = sheet;
-    uncleared.clearance = 1;
-    let other = search(uncleared);
-    let best = e.best;
-    (other.size != best.size) | (other.layout != best.layout)
+    let uncleared = Sheet {
+        clearance: 1,
+        ..sheet.clone()?
+    };
+    let other = search(alloc, &uncleared)?;
+    Ok(other.as_ref().map(|other| &other.ties) != found.map(|found| &found.ties))
 }
 
-// The kinds that a sheet is of.
-fn sheet_kinds(sheet: Sheet) -> u32 {
-    let rows = set_of(sheet.ys, sheet.sites);
-    let slots = set_of(sheet.heights, sheet.slots);
-    let set = noted(1, TWO_SIDED, is_two_sided(sheet));
-    let aimed = noted(set, SHORTEST, sheet.flags % 2 == 1);
-    let equal = noted(aimed, EQUAL_ROWS, u32::count_ones(rows) < sheet.sites);
-    let on = noted(equal, ON_SLOTS, rows & slots != 0);
-    let charged = noted(on, CHARGED, sheet.charges == 1);
-    noted(charged, CHARGE_OF_ZERO, sheet.charge < sheet.charges)
-}
+impl Call {
+    fn is_refused(&self, refusal: Refusal) -> bool {
+        matches!(self.outcome, Err(given) if given == refusal)
+    }
 
-// All that is met in a call: of the sheet, of the answer, and whether it differs from what it should be.
-pub fn kinds_met(sheet: Sheet, e: Expected, right: bool) -> u32 {
-    let called = noted(sheet_kinds(sheet), DIFFERENCES, !right);
-    let set = noted(called, TIP_ALTERS, tip_alters(sheet, e));
-    if is_two_sided(sheet) {
-        return set;
+    // Is the call of a kind? It differs if it was not right.
+    fn is_of(&self, alloc: Global, kind: Kind, right: bool) -> Result<bool, AllocError> {
+        let sheet = &self.sheet;
+        let found = self.outcome.as_ref().ok();
+        Ok(match kind {
+            Kind::Any => true,
+            Kind::TwoSided => sheet.two_sided,
+            Kind::Shortest => sheet.shortest,
+            Kind::EqualRows => has_equal_rows(sheet),
+            Kind::OnSlots => has_site_on_slot(sheet),
+            Kind::Charged => sheet.charge.is_some(),
+            Kind::ChargeOfZero => sheet.charge == Some(0),
+            Kind::WorkRefused => self.is_refused(Refusal::Work),
+            Kind::AnswerRefused => self.is_refused(Refusal::Answer),
+            Kind::NoLayout => self.is_refused(Refusal::NoLayout),
+            Kind::Answered => found.is_some(),
+            Kind::Equals => found.is_some_and(|found| 1 < found.equals),
+            Kind::BoundSpent => found.is_some_and(|found| spends_bound(sheet, found)),
+            Kind::ChargeAlters => match found {
+                Some(found) => charge_alters(alloc, sheet, found)?,
+                None => false,
+            },
+            Kind::TipAlters => {
+                let is_searched = found.is_some() || self.is_refused(Refusal::NoLayout);
+                is_searched && tip_alters(alloc, sheet, found)?
+            }
+            Kind::Differs => !right,
+        })
     }
-    if e.fault > BEFORE_REFUSALS {
-        return joined(set, (e.fault - BEFORE_REFUSALS) as u32);
-    }
-    let best = e.best;
-    let equal = noted(joined(set, ANSWERED), EQUALS, 1 < best.equals);
-    let spent = noted(equal, SPENT, spends_bound(sheet, best.layout));
-    noted(spent, CHARGE_ALTERS, charge_alters(sheet, best.layout))
-}
 
-// Each kind of a set once more.
-pub fn counted(counts: [u32; 16], set: u32) -> [u32; 16] {
-    let mut more = counts;
-    let mut i: usize = 0;
-    while i < 16 {
-        more[i] = sum(more[i], (set >> (i as u32)) % 2);
-        i += 1;
+    // Each kind that the call is of once more.
+    pub fn count(&self, alloc: Global, right: bool, counts: &mut [u32]) -> Result<(), AllocError> {
+        for (count, kind) in counts.iter_mut().zip(KINDS) {
+            *count = count.saturating_add(u32::from(self.is_of(alloc, kind, right)?));
+        }
+        Ok(())
     }
-    more
 }

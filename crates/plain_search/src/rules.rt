@@ -1,142 +1,127 @@
-// The rules of a lawful layout, each as its sentence says. A layout here is a row: the slot of each site.
-ghost use Rattle.std.specs.Prelude.{◌≤◌, nat_abs};
+// The rules of a lawful layout, each as its sentence says.
+use crate::small_sheet::{Colour, Sheet, Site, Slot};
 
-use crate::small_sheet::{NUMBER_TOP, ROW, Sheet, apart, at, joined, lesser, sum};
+// A site and the slot that it is tied to.
+#[derive(Clone, Copy, Eq, PartialEq)]
+pub struct Tie {
+    pub site: Site,
+    pub slot: Slot,
+}
 
-// Right of every site: the left end of a slot that no site has.
-const NOWHERE: u32 = NUMBER_TOP;
+// The number of labels and the length of a layout.
+#[derive(Clone, Copy, Default)]
+pub struct Size {
+    pub labels: u32,
+    pub length: u32,
+}
 
-// The left end of a slot's backbone: two-sided 0, else the least x among the slot's sites.
-fn left_end(sheet: Sheet, layout: u64, slot: u32) -> u32 {
-    let n = sheet.sites;
-    let mut end = NOWHERE;
-    let mut i: u32 = 0;
-    while i < n {
-        let place = i;
-        i += 1;
-        if at(layout, place) != slot {
-            continue;
+impl Size {
+    // In the order of the aim: the number of labels first, or the length.
+    pub fn rank(self, shortest: bool) -> (u32, u32) {
+        if shortest {
+            (self.length, self.labels)
+        } else {
+            (self.labels, self.length)
         }
-        if 2 <= sheet.flags {
+    }
+}
+
+// A layout of a sheet: a tie for each site.
+#[derive(Clone, Copy)]
+pub struct Layout<'a> {
+    pub sheet: &'a Sheet,
+    pub ties: &'a [Tie],
+}
+
+impl Layout<'_> {
+    // The left end of a slot's backbone: two-sided 0, else the least x among the slot's sites. A slot that no site has is not used.
+    fn left_end(&self, slot: Slot) -> Option<u8> {
+        let own = self.ties.iter().filter(|tie| tie.slot == slot);
+        let end = own.map(|tie| tie.site.x).min()?;
+        Some(if self.sheet.two_sided { 0 } else { end })
+    }
+
+    // A colour's labels: the slots that its sites have.
+    pub fn labels(&self, colour: Colour) -> usize {
+        let is_label = |slot: &&Slot| {
+            self.ties.iter().any(|tie| tie.slot == **slot && tie.site.colour == colour.number)
+        };
+        self.sheet.slots.iter().filter(is_label).count()
+    }
+
+    // Rule 1: no slot has sites of two colours.
+    fn keeps_colours_apart(&self) -> bool {
+        self.ties.iter().all(|tie| {
+            self.ties.iter().all(|other| tie.slot != other.slot
+                || tie.site.colour == other.site.colour)
+        })
+    }
+
+    // Rule 2: no colour has more labels than its bound.
+    fn keeps_bounds(&self) -> bool {
+        self.sheet.colours.iter().all(|colour| {
+            colour
+                .bound
+                .is_none_or(|most| self.labels(*colour) <= usize::from(most))
+        })
+    }
+
+    // Rules 3 to 5 for a tie and a slot: its own, one that is not used, or another label's. A backbone reaches from its left end to the
+    // width, and no site lies right of that; it crosses the site's vertical if it lies between the site and its label. Rule 5 counts a site
+    // at or right of the left end, and one left of it by less than the clearance.
+    fn is_clear(&self, tie: Tie, slot: Slot) -> bool {
+        let Some(end) = self.left_end(slot) else {
+            return true;
+        };
+        let (site, label) = (tie.site, tie.slot);
+        let over = label.height.abs_diff(slot.height);
+        let near = site.y.abs_diff(slot.height);
+        let between = site.y.min(label.height)..=site.y.max(label.height);
+        let is_crossed = end <= site.x && between.contains(&slot.height);
+        let is_counted = end < site.x.saturating_add(self.sheet.clearance);
+        let gap = self.sheet.gap;
+        label == slot || gap <= over && !is_crossed && (!is_counted || gap <= near)
+    }
+
+    // Rules 1 to 5: the colours, then each site and each slot.
+    pub fn is_lawful(&self) -> bool {
+        let slots = &self.sheet.slots;
+        let is_clear = |tie: &Tie| slots.iter().all(|slot| self.is_clear(*tie, *slot));
+        self.keeps_colours_apart() && self.keeps_bounds() && self.ties.iter().all(is_clear)
+    }
+
+    // A site's share of the length: its drop without its sign, and the charge if the drop is not zero. The drop is its label's height
+    // less its own, below zero when the backbone lies above it.
+    fn share(&self, tie: Tie) -> u32 {
+        let drop = i32::from(tie.slot.height) - i32::from(tie.site.y);
+        if drop == 0 {
             return 0;
         }
-        end = lesser(end, at(sheet.xs, place));
+        drop.unsigned_abs() + u32::from(self.sheet.charge.unwrap_or(0))
     }
-    end
-}
 
-// The set of slots that a colour uses: its labels.
-pub fn slots_of(sheet: Sheet, layout: u64, colour: u32) -> u32 {
-    let n = sheet.sites;
-    let mut set: u32 = 0;
-    let mut i: u32 = 0;
-    while i < n {
-        if at(sheet.site_colours, i) == colour {
-            set = joined(set, at(layout, i));
+    // The labels and their backbones; a slot that is not used counts nothing.
+    fn backbones(&self) -> Size {
+        let width = self.sheet.width;
+        let mut size = Size::default();
+        for end in self
+            .sheet
+            .slots
+            .iter()
+            .filter_map(|slot| self.left_end(*slot))
+        {
+            size.labels = size.labels.saturating_add(1);
+            size.length = size.length.saturating_add(u32::from(width.abs_diff(end)));
         }
-        i += 1;
+        size
     }
-    set
-}
 
-// Rule 1: no slot has sites of two colours. Rule 2: no colour has more labels than its bound; NO_BOUND is more than there are.
-fn keeps_colours(sheet: Sheet, layout: u64) -> bool {
-    let n = sheet.colours;
-    let mut kept = true;
-    let mut used: u32 = 0;
-    let mut c: u32 = 0;
-    while c < n {
-        let own = slots_of(sheet, layout, c);
-        kept = kept & (used & own == 0) & (u32::count_ones(own) <= at(sheet.bounds, c));
-        used = used | own;
-        c += 1;
-    }
-    kept
-}
-
-// Rules 3 to 5 for a site and a slot: its own, one that is not used, or another label's. A backbone reaches from its left end to the
-// width, and no site lies right of that; it crosses the site's vertical if it lies between the site and its label. Rule 5 counts a site
-// at or right of the left end, and one left of it by less than the clearance.
-fn is_clear(sheet: Sheet, layout: u64, site: u32, slot: u32) -> bool {
-    let own = at(layout, site);
-    let end = left_end(sheet, layout, slot);
-    let y = at(sheet.ys, site);
-    let h = at(sheet.heights, slot);
-    let label = at(sheet.heights, own);
-    let over = apart(label, h);
-    let near = apart(y, h);
-    let x = at(sheet.xs, site);
-    let is_other = (own != slot) & (end != NOWHERE);
-    let is_crossed = (end <= x) & (sum(near, over) == apart(y, label));
-    let is_counted = end < sum(x, sheet.clearance);
-    !is_other | (sheet.gap <= over) & !is_crossed & (!is_counted | (sheet.gap <= near))
-}
-
-// Rules 1 to 5: the colours, then each site and each slot.
-pub fn is_lawful(sheet: Sheet, layout: u64) -> bool {
-    if !keeps_colours(sheet, layout) {
-        return false;
-    }
-    let n = sheet.sites % ROW * ROW;
-    let mut i: u32 = 0;
-    while i < n {
-        if !is_clear(sheet, layout, i / ROW, i % ROW) {
-            return false;
+    // Rule 6: the number of labels, and the length of backbones and the sites' shares of it.
+    pub fn size(&self) -> Size {
+        let mut size = self.backbones();
+        for tie in self.ties {
+            size.length = size.length.saturating_add(self.share(*tie));
         }
-        i += 1;
+        size
     }
-    true
-}
-
-// A site's drop: its label's height less its own, below zero when the backbone lies above it.
-fn drop_of(label: u32, y: u32) -> i32
-    requires { (label ≤ 255) × (y ≤ 255) }
-    ensures { nat_abs result ≤ 255 }
-{
-    (label as i32) - (y as i32)
-}
-
-// A drop without its sign.
-fn magnitude(drop: i32) -> u32
-    requires { nat_abs drop ≤ 255 }
-{
-    if drop < 0 {
-        return (-drop) as u32;
-    }
-    drop as u32
-}
-
-// A site's share of the length: its drop without its sign, and the charge if the drop is not zero.
-fn share(sheet: Sheet, label: u32, y: u32) -> u32
-    requires { (label ≤ 255) × (y ≤ 255) }
-{
-    let drop = drop_of(label, y);
-    if drop == 0 {
-        return 0;
-    }
-    sum(magnitude(drop), sheet.charge)
-}
-
-// A label's part of a size, which is as in the answer's first word.
-pub const LABEL: u32 = 2097152;
-
-// Rule 6: the number of labels, and the length of backbones and the sites' shares of it; a slot that is not used counts nothing.
-pub fn layout_size(sheet: Sheet, layout: u64) -> u32 {
-    let n = sheet.sites;
-    let mut size: u32 = 0;
-    let mut i: u32 = 0;
-    while i < ROW {
-        let place = i;
-        i += 1;
-        let end = left_end(sheet, layout, place);
-        if end != NOWHERE {
-            size = sum(size, sum(LABEL, apart(sheet.width, end)));
-        }
-        if n <= place {
-            continue;
-        }
-        let label = at(sheet.heights, at(layout, place));
-        size = sum(size, share(sheet, label, at(sheet.ys, place)));
-    }
-    size
 }

@@ -1,10 +1,10 @@
 -- A stroke in points, as a viewer gets it: document 02, "Strokes for the viewer". Assumes nothing: these are definitions.
-use Rattle.std.specs.Prelude.{◌≡◌, ℕ, Float}
+use Rattle.std.specs.Prelude.{◌≡◌, ℕ, Float, Result, Ok, Err}
 use Rattle.labelling.specs.Strokes as units
 use Rattle.points.specs.Points.{IsEighth, in_points}
 use Rattle.points.specs.declared.stroke.End.{End}
 use Rattle.points.specs.declared.stroke.Stroke.{Stroke}
-use Rattle.points.specs.declared.stroke.Stroke.TheVariants.{Bone, Drop, Refused}
+use Rattle.points.specs.declared.stroke.Stroke.TheVariants.{Bone, Drop}
 use Rattle.points.specs.declared.flat.FlatStroke.{FlatStroke}
 
 -- IN POINTS: an end, a stroke
@@ -22,10 +22,10 @@ flat_ends k a b = record { refusal = 0; kind = k; x0 = a.x; y0 = a.y; x1 = b.x; 
 abbrev pub flat_refusal : (refusal : ℕ) → FlatStroke
 flat_refusal f = record { refusal = f; kind = 0; x0 = in_points 0; y0 = in_points 0; x1 = in_points 0; y1 = in_points 0 }
 
-abbrev pub flat_of : Stroke → FlatStroke
-flat_of (Bone a b) = flat_ends 0 a b
-flat_of (Drop a b) = flat_ends 1 a b
-flat_of (Refused f) = flat_refusal f
+abbrev pub flat_of : Result Stroke ℕ → FlatStroke
+flat_of (Ok (Bone a b)) = flat_ends 0 a b
+flat_of (Ok (Drop a b)) = flat_ends 1 a b
+flat_of (Err f) = flat_refusal f
 
 -- EXACT: eight times each float is the whole number. A stroke in points is one in units, of the same kind, with the same ends
 pub record IsEnd (x y : Float) (e : units.End) : Type 0 where

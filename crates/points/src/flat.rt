@@ -1,8 +1,10 @@
 // A stroke as C has it: one struct, whatever the case.
 ghost use Rattle.std.specs.Prelude.{◌≡◌};
+ghost use Rattle.faults.specs.Refusals.{numbered};
 ghost use Rattle.points.specs.Strokes.{flat_ends, flat_refusal, flat_of};
 
 use crate::stroke::{End, Stroke};
+use faults::refusal::Refusal;
 
 // refusal: 1 to 7, 11, 13 or 14, 0 for none. kind: 0 a backbone, 1 a drop. The first end, the second end. All zero beside a refusal.
 #[repr(C)]
@@ -21,7 +23,7 @@ fn flat_ends(kind: u8, first: End, second: End) -> FlatStroke
 {
     FlatStroke {
         refusal: 0,
-        kind: kind,
+        kind,
         x0: first.x,
         y0: first.y,
         x1: second.x,
@@ -33,7 +35,7 @@ fn flat_refusal(refusal: u8) -> FlatStroke
     ensures { result ≡ flat_refusal refusal }
 {
     FlatStroke {
-        refusal: refusal,
+        refusal,
         kind: 0,
         x0: 0.0,
         y0: 0.0,
@@ -42,12 +44,14 @@ fn flat_refusal(refusal: u8) -> FlatStroke
     }
 }
 
-pub fn flat_stroke(stroke: Stroke) -> FlatStroke
-    ensures { result ≡ flat_of stroke }
-{
-    match stroke {
-        Stroke::Bone(first, second) => flat_ends(0, first, second),
-        Stroke::Drop(first, second) => flat_ends(1, first, second),
-        Stroke::Refused(refusal) => flat_refusal(refusal),
+impl From<Result<Stroke, Refusal>> for FlatStroke {
+    ghost from_gives = { λ outcome flat. flat ≡ flat_of (numbered outcome) };
+
+    fn from(outcome: Result<Stroke, Refusal>) -> FlatStroke {
+        match outcome {
+            Ok(Stroke::Bone(first, second)) => flat_ends(0, first, second),
+            Ok(Stroke::Drop(first, second)) => flat_ends(1, first, second),
+            Err(refusal) => flat_refusal(refusal.number()),
+        }
     }
 }

@@ -8,27 +8,27 @@ ghost use Rattle.points.specs.Strokes.{end_drawn, drawn};
 use crate::in_points;
 
 // An end of a stroke: x and y in points.
-#[derive(Drop)]
+#[derive(Clone, Copy)]
 pub struct End {
     pub x: f32,
     pub y: f32,
 }
 
-// A backbone from its left end to W; a drop from its site to its backbone; or the refusal: 1 to 7, 11, 13 or 14.
-#[derive(Drop)]
+// A backbone from its left end to W; a drop from its site to its backbone.
+#[derive(Clone, Copy)]
 pub enum Stroke {
     Bone(End, End),
     Drop(End, End),
-    Refused(u8),
 }
 
 fn end_at(x: u32, y: u32) -> End
     requires { (x ≤ widest_number) × (y ≤ widest_number) }
     ensures { result ≡ end_drawn (end_at x y) }
 {
-    let across = in_points(x);
-    let up = in_points(y);
-    End { x: across, y: up }
+    End {
+        x: in_points(x),
+        y: in_points(y),
+    }
 }
 
 // The backbone at a height, from its left end to W.
@@ -36,9 +36,7 @@ pub fn bone(left: u32, width: u32, height: u32) -> Stroke
     requires { (left ≤ widest_number) × (width ≤ widest_number) × (height ≤ widest_number) }
     ensures { result ≡ drawn (units.Bone (end_at left height) (end_at width height)) }
 {
-    let first = end_at(left, height);
-    let second = end_at(width, height);
-    Stroke::Bone(first, second)
+    Stroke::Bone(end_at(left, height), end_at(width, height))
 }
 
 // The drop of a site, from the site to the height of its backbone.
@@ -46,9 +44,7 @@ pub fn drop(x: u32, y: u32, height: u32) -> Stroke
     requires { (x ≤ widest_number) × (y ≤ widest_number) × (height ≤ widest_number) }
     ensures { result ≡ drawn (units.Drop (end_at x y) (end_at x height)) }
 {
-    let first = end_at(x, y);
-    let second = end_at(x, height);
-    Stroke::Drop(first, second)
+    Stroke::Drop(end_at(x, y), end_at(x, height))
 }
 
 // Whether a site is off its backbone: a drop of zero gives no stroke.

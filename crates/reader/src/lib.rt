@@ -77,23 +77,24 @@ pub fn sizes_of(numbers: Numbers) -> Sizes
     requires { SheetRead numbers }
     ensures { result ≡ read_of (sheet_by numbers) }
 {
-    let n = numbers.sites;
-    let m = numbers.slots;
-    let c = numbers.kinds;
-    let bounds = numbers.bounds;
-    let bounds = &bounds[..c];
-    let counts = numbers.site_counts;
+    let bounds = &numbers.bounds[..numbers.kinds];
+    let counts = &numbers.site_counts[..numbers.kinds];
     let p = product_of(bounds);
-    let work = work_for(numbers.head.twosided, m as u32, c as u32, n as u32, p);
-    let colours = colour_sizes(bounds, &counts[..c]);
+    let work = work_for(
+        numbers.head.twosided,
+        numbers.slots as u32,
+        numbers.kinds as u32,
+        numbers.sites as u32,
+        p,
+    );
     Sizes {
         refusal: 0,
-        n: n as u8,
-        m: m as u8,
-        c: c as u8,
+        n: numbers.sites as u8,
+        m: numbers.slots as u8,
+        c: numbers.kinds as u8,
         p: p as u8,
         work,
-        colours,
+        colours: colour_sizes(bounds, counts),
     }
 }
 

@@ -15,6 +15,7 @@ use words::body::body_of;
 use words::{get, low_field};
 
 // The first refusal that applies, if one does.
+#[tactic(auto, unfolding(sheet::specs::Refusals::given))]
 pub fn sheet_fault(sheet: &[u32]) -> Result<(), Refusal>
     ensures { number_in result ≡ sheet_fault sheet.now }
 {

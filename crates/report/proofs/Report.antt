@@ -1,5 +1,5 @@
 -- The program's text by what is refused, and how long it can be. Assumes nothing.
-use mathlib.Core.Path.{◌≡◌, refl}
+use mathlib.Core.Path.{◌≡◌, refl, sym, ap, ◌∙◌}
 use mathlib.Core.Bool.{true, false, cond, not}
 use mathlib.Core.List.{List, [], ◌∷◌, ◌++◌}
 use Prim.Native.Nat.{ℕ, suc, ◌+◌, ◌*◌, ◌-◌, ◌%◌, ◌<◌, ◌≤◌}
@@ -26,9 +26,21 @@ use Rattle.report.specs.Lines.{refused_line, slot_at, site_lines, layout_text}
 use Rattle.report.specs.Report.{sheet_text, program_sheet_text, program_text, site_line_bound, text_bound}
 use Rattle.report.proofs.Words.{words-fit}
 
--- a layout, and no refusal
-pub text-layout : (f : ℕ) (t u : List ℕ) → f ≡ 0 → t ≡ cond (eqb f 0) t u
-text-layout f t u z = rw (eq-eqb f 0 z) refl
+-- a choice by a refusal's number
+refusal_then : (f : ℕ) (t u : List ℕ) → (f ≡ 0 → ⊥) → u ≡ cond (eqb f 0) t u
+refusal_then f t u n = by-test (eqb f 0) (λ e. absurd (n (eqb-true f 0 e))) (λ e. rw e refl)
+
+layout_then : (f : ℕ) (t u : List ℕ) → f ≡ 0 → t ≡ cond (eqb f 0) t u
+layout_then f t u z = rw (eq-eqb f 0 z) refl
+
+-- what is said of a sheet: a layout, or a refusal
+pub sheet_laid : (ws k o : List ℕ) {f : ℕ} {ls : List ℕ} → f ≡ make_fault ws k o → f ≡ 0 → ls ≡ make_answer ws k o → layout_text (sheet_in ws) ls ≡ sheet_text ws k o
+unfolding sheet_text
+sheet_laid ws k o e z l = ap (layout_text (sheet_in ws)) l ∙ layout_then (make_fault ws k o) _ _ (sym e ∙ z)
+
+pub sheet_refused : (ws k o : List ℕ) {f : ℕ} → f ≡ make_fault ws k o → (f ≡ 0 → ⊥) → refused_line f ≡ sheet_text ws k o
+unfolding sheet_text
+sheet_refused ws k o e n = ap refused_line e ∙ refusal_then (make_fault ws k o) _ _ (λ z. n (e ∙ z))
 
 -- an input by its size
 pub text-unfit : (bs : List ℕ) → is_unfit (length bs) ≡ true → refused_line 12 ≡ program_text bs

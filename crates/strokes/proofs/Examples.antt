@@ -12,7 +12,8 @@ use Rattle.labelling.specs.Layout.{tied_of, is_used, used_from, least_x, slots_o
 use Rattle.labelling.specs.Strokes as units
 use Rattle.labelling.specs.Strokes.{end_at, listed, strokes_in}
 use Rattle.points.specs.Points.{in_points}
-use Rattle.points.specs.declared.stroke.Stroke.TheVariants.{Bone, Drop, Refused}
+use Rattle.points.specs.declared.stroke.Stroke.TheVariants.{Bone, Drop}
+use Rattle.std.specs.Prelude.{Ok, Err}
 use Rattle.strokes.specs.Strokes.{stroke_post}
 
 -- sheet A with its best layout, the slots 0, 0 and 2
@@ -33,15 +34,15 @@ strokes-of-a = refl
 
 -- in points: the first, from (0.25, 0.25) to (1, 0.25); the last, from (0.5, 0.625) to (0.5, 1); and past it
 stroke-0-of-a : stroke_post stored_a 0 ≡
-    Bone (record { x = fin false 1 (negsuc 1); y = fin false 1 (negsuc 1) }) (record { x = fin false 1 (pos 0); y = fin false 1 (negsuc 1) })
+    Ok (Bone (record { x = fin false 1 (negsuc 1); y = fin false 1 (negsuc 1) }) (record { x = fin false 1 (pos 0); y = fin false 1 (negsuc 1) }))
 unfolding stored_a given all in_order is_charge slots_in sites_run colours_in sites_in product_of rising rank_by has_rank ranks_differ tied_of is_used used_from least_x slots_of bounds_kept backbones far_by counts_by clear_by off_by share_by drops ties_in sheet_part listed in_points odd count_trailing_zeros
 stroke-0-of-a = refl
 
 stroke-4-of-a : stroke_post stored_a 4 ≡
-    Drop (record { x = fin false 1 (negsuc 0); y = fin false 5 (negsuc 2) }) (record { x = fin false 1 (negsuc 0); y = fin false 1 (pos 0) })
+    Ok (Drop (record { x = fin false 1 (negsuc 0); y = fin false 5 (negsuc 2) }) (record { x = fin false 1 (negsuc 0); y = fin false 1 (pos 0) }))
 unfolding stored_a given all in_order is_charge slots_in sites_run colours_in sites_in product_of rising rank_by has_rank ranks_differ tied_of is_used used_from least_x slots_of bounds_kept backbones far_by counts_by clear_by off_by share_by drops ties_in sheet_part listed in_points odd count_trailing_zeros
 stroke-4-of-a = refl
 
-stroke-5-of-a : stroke_post stored_a 5 ≡ Refused 14
+stroke-5-of-a : stroke_post stored_a 5 ≡ Err 14
 unfolding stored_a given all in_order is_charge slots_in sites_run colours_in sites_in product_of rising rank_by has_rank ranks_differ tied_of is_used used_from least_x slots_of bounds_kept backbones far_by counts_by clear_by off_by share_by drops ties_in sheet_part listed
 stroke-5-of-a = refl

@@ -7,39 +7,33 @@ mod seeking;
 
 ghost use Rattle.std.specs.Prelude.{◌≡◌};
 ghost use Rattle.labelling.specs.Layout.{layout_ties};
-ghost use Rattle.decoding.specs.Decoding.{sheet_by, LayoutRead};
+ghost use Rattle.decoding.specs.Decoding.{sheet_by};
+ghost use Rattle.faults.specs.Refusals.{numbered};
 ghost use Rattle.strokes.specs.Strokes.{stroke_on, stroke_post};
 
 use crate::drawing::{bone_of, drop_of};
-use crate::seeking::{Listed, seek_in};
-use decoding::Numbers;
-use judge::opened::open_stored;
+use crate::seeking::{has_bone, has_drop, seek};
+use faults::refusal::Refusal;
+use judge::opened::{Opened, open_stored};
 use points::stroke::Stroke;
 
-// The stroke of a place of a sheet's numbers and a layout of it; 14, the place is past the last stroke.
-fn stroke_on(numbers: Numbers, layout: &[u32], place: usize) -> Stroke
-    requires { LayoutRead numbers layout.now }
-    ensures { result ≡ stroke_on (sheet_by numbers) (layout_ties layout.now) place }
+// The stroke of a place of a stored sheet that was opened; 14, the place is past the last stroke.
+fn stroke_on(opened: &Opened, place: usize) -> Result<Stroke, Refusal>
+    ensures { numbered result ≡ stroke_on (sheet_by opened.now.numbers) (layout_ties opened.now.layout.now) place }
 {
-    let bone = seek_in(Listed::Bones, numbers, layout, place);
-    if bone.found {
-        return bone_of(numbers, layout, bone.number as u32);
+    let left = match seek(opened.numbers.slots, place, |slot| has_bone(opened, slot)) {
+        Ok(slot) => return Ok(bone_of(opened, slot as u32)),
+        Err(left) => left,
+    };
+    match seek(opened.numbers.sites, left, |i| has_drop(opened, i)) {
+        Ok(i) => Ok(drop_of(opened, i)),
+        Err(_) => Err(Refusal::NoStroke),
     }
-    let drop = seek_in(Listed::Drops, numbers, layout, bone.number);
-    if drop.found {
-        return drop_of(numbers, layout, drop.number);
-    }
-    Stroke::Refused(14)
 }
 
-pub fn stroke_at(stored: &[u32], place: usize) -> Stroke
-    ensures { result ≡ stroke_post stored.now place }
+pub fn stroke_at(stored: &[u32], place: usize) -> Result<Stroke, Refusal>
+    ensures { numbered result ≡ stroke_post stored.now place }
 {
-    let opened = open_stored(stored);
-    let refusal = opened.refusal;
-    if refusal != 0 {
-        return Stroke::Refused(refusal);
-    }
-    let at = opened.at;
-    stroke_on(opened.numbers, &stored[at..], place)
+    let opened = open_stored(stored)?;
+    stroke_on(&opened, place)
 }

@@ -5,15 +5,13 @@
 mod compare;
 mod examples;
 
-use cases::{TEXT_BYTES, print_counts};
+use cases::print_counts;
 use compare::count_sheets;
 use examples::lay_out_lines;
 use std::io;
-use stream::read_full;
 
 fn main(rt: HostRuntime) -> io::Result<()> {
-    let mut text = [0u8; TEXT_BYTES];
-    let got = read_full(&mut rt.stdin(), &mut text)?;
-    lay_out_lines(&rt, &text[0..got])?;
-    print_counts(&rt, &text[0..got], count_sheets())
+    let text = io::read_to_string(rt.alloc(), rt.stdin())?;
+    lay_out_lines(&rt, text.as_str())?;
+    print_counts(&rt, text.as_str(), &count_sheets(rt.alloc())?)
 }

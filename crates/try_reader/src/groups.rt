@@ -1,51 +1,34 @@
 // Groups of cases as text: > and a mark, the group's name, then a line for each case; after the mark * the lines are of sets of faults.
-use crate::compare::{compare, say};
+use crate::compare::{Tally, differs};
 use crate::sets::read_sets;
-use cases::{CASE_WORDS, place_of, take_words};
+use cases::words_of;
+use std::alloc::Global;
 use std::io;
-use std::num::wrapping_add_u32;
-
-// One case.
-fn read_line(line: &[u8]) -> u32 {
-    let mut words = [0u32; CASE_WORDS];
-    let n = take_words(line, &mut words, 0);
-    compare(&words[0..n])
-}
 
 // A line that does not begin with a blank is a remark.
-fn read_cases(mark: u8, text: &[u8]) -> u32 {
-    if mark == b'*' {
-        return read_sets(text);
+fn read_cases(alloc: Global, lines: &str) -> io::Result<Tally> {
+    let mut tally = Tally::default();
+    for line in lines.lines().filter(|line| line.starts_with(' ')) {
+        let words = words_of(alloc, line)?;
+        tally.count(differs(alloc, &words)?);
     }
-    let mut t: u32 = 0;
-    let mut from: usize = 0;
-    while from < text.len() {
-        let start = from;
-        let end = place_of(text, start, b'\n');
-        from = end + 1;
-        if text[start] != b' ' {
-            continue;
-        }
-        t = wrapping_add_u32(t, read_line(&text[start..end]));
-    }
-    t
+    Ok(tally)
 }
 
-fn read_group(rt: &impl Print, text: &[u8]) -> io::Result<u32> {
-    let end = place_of(text, 0, b'\n');
-    if end == 0 {
-        return Ok(0);
-    }
-    say(rt, &text[1..end], read_cases(text[0], &text[end..]))
+fn read_group(rt: &(impl Print + AllocGlobal), group: &str) -> io::Result<Tally> {
+    let (title, lines) = group.split_once('\n').unwrap_or((group, ""));
+    let (name, tally) = match title.strip_prefix('*') {
+        Some(name) => (name, read_sets(rt.alloc(), lines)?),
+        None => (title.trim_start(), read_cases(rt.alloc(), lines)?),
+    };
+    println!(rt; "{name}: {tally}")?;
+    Ok(tally)
 }
 
-pub fn read_groups(rt: &impl Print, text: &[u8]) -> io::Result<u32> {
-    let mut t: u32 = 0;
-    let mut from = place_of(text, 0, b'>');
-    while from < text.len() {
-        let start = from + 1;
-        from = place_of(text, start, b'>');
-        t = wrapping_add_u32(t, read_group(rt, &text[start..from])?);
+pub fn read_groups(rt: &(impl Print + AllocGlobal), text: &str) -> io::Result<Tally> {
+    let mut all = Tally::default();
+    for group in text.split('>').skip(1) {
+        all += read_group(rt, group)?;
     }
-    Ok(t)
+    Ok(all)
 }

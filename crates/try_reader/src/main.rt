@@ -5,16 +5,11 @@ mod compare;
 mod groups;
 mod sets;
 
-use cases::TEXT_BYTES;
-use compare::say;
 use groups::read_groups;
 use std::io;
-use stream::read_full;
 
 fn main(rt: HostRuntime) -> io::Result<()> {
-    let mut text = [0u8; TEXT_BYTES];
-    let got = read_full(&mut rt.stdin(), &mut text)?;
-    let t = read_groups(&rt, &text[0..got])?;
-    say(&rt, b"all", t)?;
-    Ok(())
+    let text = io::read_to_string(rt.alloc(), rt.stdin())?;
+    let all = read_groups(&rt, text.as_str())?;
+    println!(rt; "all: {all}")
 }

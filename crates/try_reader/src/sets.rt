@@ -1,53 +1,37 @@
 // Sheets with any set of faults, from lines that are taken for some sets: the lowest fault's number is given.
-ghost use Rattle.std.specs.Prelude.{◌≤◌, length};
+use crate::compare::{Tally, differs};
+use cases::words_of;
+use std::alloc::Global;
+use std::io;
 
-use crate::compare::compare;
-use cases::{CASE_WORDS, place_of, take_words};
-use std::num::wrapping_add_u32;
-use words::BYTE_TOP;
+// The sets of the faults 1 to 7 are the even numbers below this: bit k stands for fault k.
+const SETS_END: u32 = 256;
 
-// The sets of seven faults.
-const SETS: u32 = 128;
-
-// The words of the lines whose last word says yes for a set: bits of faults, times 256, and those of them that the set must have.
-fn take_held(words: &mut [u32], text: &[u8], set: u32) -> usize
-    ensures { result ≤ length words.old }
-{
-    let mut held: usize = 0;
-    let mut from: usize = 0;
-    while from < text.len() {
-        let start = from;
-        let end = place_of(text, start, b'\n');
-        from = end + 1;
-        if text[start] != b' ' {
-            continue;
-        }
-        let n = take_words(&text[start..end], words, held);
-        if n == 0 {
-            continue;
-        }
-        let last = words[n - 1];
-        if set & (last / BYTE_TOP) != last % BYTE_TOP {
-            continue;
-        }
-        held = n - 1;
-    }
-    held
+// Is a line taken for a set? Its last word has the faults that it asks for, times 256, and those of them that the set must have.
+fn is_taken(asked: u32, set: u32) -> bool {
+    set & (asked >> 8) == asked % 256
 }
 
-fn read_set(text: &[u8], set: u32) -> u32 {
-    let mut words = [0u32; CASE_WORDS];
-    let n = take_held(&mut words, text, set);
-    compare(&words[0..n])
+// The words of the lines that are taken for a set.
+fn taken_words(alloc: Global, lines: &str, set: u32) -> io::Result<Vec<u32>> {
+    let mut taken = Vec::new(alloc);
+    for line in lines.lines().filter(|line| line.starts_with(' ')) {
+        let words = words_of(alloc, line)?;
+        if let Some((asked, words)) = words.split_last()
+            && is_taken(*asked, set)
+        {
+            taken.extend_from_slice(words)?;
+        }
+    }
+    Ok(taken)
 }
 
 // All sets of the faults 1 to 7.
-pub fn read_sets(text: &[u8]) -> u32 {
-    let mut t: u32 = 0;
-    let mut i: u32 = 0;
-    while i < SETS {
-        t = wrapping_add_u32(t, read_set(text, 2 * i));
-        i += 1;
+pub fn read_sets(alloc: Global, lines: &str) -> io::Result<Tally> {
+    let mut tally = Tally::default();
+    for set in (0..SETS_END).step_by(2) {
+        let words = taken_words(alloc, lines, set)?;
+        tally.count(differs(alloc, &words)?);
     }
-    t
+    Ok(tally)
 }

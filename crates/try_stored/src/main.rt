@@ -3,13 +3,13 @@
 // 01 and 02: the verdict, then each stroke, by its ends in units, up to the place that is refused, then the page, if there is one.
 #![tactic(auto)]
 
-use cases::{CASE_WORDS, TEXT_BYTES, place_of, print_number, take_case};
+use cases::take_case;
+use faults::refusal::Refusal;
 use judge::{Verdict, judge_layout};
 use page::write_page;
 use points::in_points;
 use points::stroke::{End, Stroke};
 use std::io;
-use stream::read_full;
 use strokes::stroke_at;
 
 // More places than a stored sheet has strokes: at most a backbone and a drop for each of 32 sites.
@@ -21,50 +21,42 @@ const PAGE_BYTES: usize = 2665;
 // Above the greatest x, y, height or width.
 const NUMBER_TOP: u32 = 16384;
 
-fn print_verdict(rt: &impl Print, v: Verdict) -> io::Result<()> {
-    if v.refusal != 0 {
-        return print_number(rt, b": refused ", v.refusal as u32);
+fn print_verdict(rt: &impl Print, verdict: Verdict) -> io::Result<()> {
+    let Verdict { refusal, rule } = verdict;
+    if refusal != 0 {
+        return println!(rt; ": refused {refusal}");
     }
-    print_number(rt, b": rule ", v.rule as u32)
+    println!(rt; ": rule {rule}")
 }
 
 // The whole number whose eighth this is.
 fn units_of(x: f32) -> u32 {
-    let mut n: u32 = 0;
-    while n < NUMBER_TOP {
-        if in_points(n) == x {
-            return n;
-        }
-        n += 1;
+    (0..NUMBER_TOP)
+        .find(|n| in_points(*n) == x)
+        .unwrap_or(NUMBER_TOP)
+}
+
+fn print_ends(rt: &impl Print, name: &str, first: End, second: End) -> io::Result<()> {
+    print!(rt; "  {name}")?;
+    for x in [first.x, first.y, second.x, second.y] {
+        print!(rt; " {}", units_of(x))?;
     }
-    n
-}
-
-fn print_units(rt: &impl Print, x: f32) -> io::Result<()> {
-    print!(rt; " {}", units_of(x))
-}
-
-fn print_ends(rt: &impl Print, name: &[u8], first: End, second: End) -> io::Result<()> {
-    rt.write_all(name)?;
-    print_units(rt, first.x)?;
-    print_units(rt, first.y)?;
-    print_units(rt, second.x)?;
-    print_number(rt, b" ", units_of(second.y))
+    println!(rt)
 }
 
 // Prints a stroke, or a refusal; whether it is a stroke.
-fn print_stroke(rt: &impl Print, stroke: Stroke) -> io::Result<bool> {
+fn print_stroke(rt: &impl Print, stroke: Result<Stroke, Refusal>) -> io::Result<bool> {
     match stroke {
-        Stroke::Bone(first, second) => {
-            print_ends(rt, b"  bone", first, second)?;
+        Ok(Stroke::Bone(first, second)) => {
+            print_ends(rt, "bone", first, second)?;
             Ok(true)
         }
-        Stroke::Drop(first, second) => {
-            print_ends(rt, b"  drop", first, second)?;
+        Ok(Stroke::Drop(first, second)) => {
+            print_ends(rt, "drop", first, second)?;
             Ok(true)
         }
-        Stroke::Refused(refusal) => {
-            print_number(rt, b"  refused ", refusal as u32)?;
+        Err(refusal) => {
+            println!(rt; "  refused {}", refusal.number())?;
             Ok(false)
         }
     }
@@ -79,44 +71,24 @@ fn print_strokes(rt: &impl Print, stored: &[u32]) -> io::Result<()> {
     Ok(())
 }
 
-// Puts a page into an area and prints it; a refusal prints nothing.
-fn put_page(rt: &impl Print, stored: &[u32], page: &mut [u8]) -> io::Result<()> {
-    let size = write_page(stored, page).written as usize;
-    if size <= page.len() {
-        rt.write_all(&page[..size])?;
-    }
-    Ok(())
-}
-
+// A refusal prints nothing.
 fn print_page(rt: &impl Print, stored: &[u32]) -> io::Result<()> {
     let mut page = [0u8; PAGE_BYTES];
-    put_page(rt, stored, &mut page)
+    let size = write_page(stored, &mut page).written as usize;
+    rt.write_all(page.get(..size).unwrap_or_default())
 }
 
-fn try_line(rt: &impl Print, line: &[u8]) -> io::Result<()> {
-    let mut words = [0u32; CASE_WORDS];
-    let n = take_case(rt, line, &mut words)?;
-    print_verdict(rt, judge_layout(&words[0..n]))?;
-    print_strokes(rt, &words[0..n])?;
-    print_page(rt, &words[0..n])
-}
-
-fn try_lines(rt: &impl Print, text: &[u8]) -> io::Result<()> {
-    let mut from: usize = 0;
-    while from < text.len() {
-        let start = from;
-        let end = place_of(text, start, b'\n');
-        from = end + 1;
-        if text[start] == b'#' {
-            continue;
-        }
-        try_line(rt, &text[start..end])?;
-    }
-    Ok(())
+fn try_line(rt: &(impl Print + AllocGlobal), line: &str) -> io::Result<()> {
+    let stored = take_case(rt, line)?;
+    print_verdict(rt, judge_layout(&stored))?;
+    print_strokes(rt, &stored)?;
+    print_page(rt, &stored)
 }
 
 fn main(rt: HostRuntime) -> io::Result<()> {
-    let mut text = [0u8; TEXT_BYTES];
-    let got = read_full(&mut rt.stdin(), &mut text)?;
-    try_lines(&rt, &text[0..got])
+    let text = io::read_to_string(rt.alloc(), rt.stdin())?;
+    for line in text.lines().filter(|line| !line.starts_with('#')) {
+        try_line(&rt, line)?;
+    }
+    Ok(())
 }

@@ -21,10 +21,8 @@ use Rattle.decoding.proofs.Places.{decoded, sheet-read}
 use Rattle.words.specs.declared.tied.Head.{Head}
 use Rattle.layouts.specs.Model.{Low, length_on}
 use Rattle.layouts.proofs.RulesKept.{length-is}
-use Rattle.layouts.proofs.Fitting.{long, some, low_read}
-use Rattle.judge.specs.declared.opened.Opened.{Opened}
-use Rattle.judge.specs.Opened.{stored_opened}
-use Rattle.judge.proofs.opened.Opening.{stored-numbers}
+use Rattle.layouts.proofs.Fitting.{long, some}
+use Rattle.judge.specs.Opened.{SitesRead}
 use Rattle.twin.specs.Twin.{head_one_sided}
 
 -- TWO WORDS set, the first of a list and the first of the list behind it
@@ -41,20 +39,20 @@ module _ {d : Numbers} {ls : List ℕ} (p : LayoutRead d ls) where
   s = sheet_in p.read.words
 
   -- THE LENGTH: the numbers are low by the one-sided head too
-  pub low-one : {h : Head} → h ≡ head_one_sided d.head → Low h d.heights d.ys
-  low-one e = let l = low_read p in rw e (record { width = l.width; charge = l.charge; heights = l.heights; ys = l.ys })
+  pub low-one : {h g : Head} {hs vs : List ℕ} → h ≡ head_one_sided g → Low g hs vs → Low h hs vs
+  low-one e l = rw e (record { width = l.width; charge = l.charge; heights = l.heights; ys = l.ys })
 
   -- the sheet is that of the words
   same_length : length_of (as_one_sided (sheet_by d)) (layout_ties ls) ≡ length_of (as_one_sided s) (layout_ties ls)
   same_length = ap (λ (z : Sheet). length_of (as_one_sided z) (layout_ties ls)) (sheet-read p.read.numbers)
 
   -- what is found with that head is the length on the one-sided sheet
-  pub length_found : (h : Head) (r : ℕ) (ts : List ℕ) → h ≡ head_one_sided d.head → ts ≡ layout_body ls →
-      r ≡ length_on h d.heights d.xs d.ys d.colours (ties_in ts) (length ts) → r ≡ length_of (as_one_sided (sheet_by d)) (layout_ties ls)
-  length_found h r ts eh et e =
+  pub length_found : {g h : Head} {hs us vs cs ts : List ℕ} (r : ℕ) → h ≡ head_one_sided g → SitesRead d ls g hs us vs cs ts →
+      r ≡ length_on h hs us vs cs (ties_in ts) (length ts) → r ≡ length_of (as_one_sided (sheet_by d)) (layout_ties ls)
+  length_found r eh t e =
       let n : Numbers = numbers_by s in
       let q : r ≡ length_on (head_by (as_one_sided s)) n.heights n.xs n.ys n.colours (layout_ties ls) (length (layout_body ls)) =
-      e ∙ rw (eh, et, p.read.numbers) refl in
+      e ∙ rw (eh, t.head, t.heights, t.xs, t.ys, t.colours, t.ties, p.read.numbers) refl in
       q ∙ ap (length_on (head_by (as_one_sided s)) n.heights n.xs n.ys n.colours (layout_ties ls)) (long p.read.words ls p.read.accepted p.form) ∙
       length-is (as_one_sided s) _ _ _ _ (decoded (as_one_sided s) most_slots most_sites) (layout_ties ls) (length-ties_in (layout_body ls) ∙ long p.read.words ls p.read.accepted p.form) (ties-low s (layout_body ls) (formed s ls p.form).ties) ∙
       sym same_length
@@ -104,10 +102,6 @@ module _ (ws : List ℕ) (h : stored_fault ws ≡ 0) where
       front : (l : List ℕ) → 0 < length l → get_or (l ++ b) 0 0 ≡ get_or l 0 0
       front [] k = absurd (omega arith)
       front (x ∷ l) k = refl
-
-  -- the side that was read
-  pub side-is : {o : Opened} → o ≡ stored_opened ws → o.numbers.head.twosided ≡ (sheet_in ss).is_two_sided
-  side-is e = ap (λ (d : Numbers). d.head.twosided) (stored-numbers ws e h)
 
   -- of a two-sided sheet's words the head and the layout's first change
   pub two-words : (x y at : ℕ) (o p q : List ℕ) → (sheet_in ss).is_two_sided ≡ true → x ≡ twin_head (get_or ws 0 0) → y ≡ first_word (stated_count b) (length_of (as_one_sided (sheet_in ss)) (layout_ties b)) →

@@ -1,14 +1,7 @@
-// Distances between heights; a site's drop and its share of the length.
-ghost use Rattle.std.specs.Prelude.{◌≡◌, ◌<◌, pos, nat_abs, ◌-ℤ◌};
-ghost use Rattle.labelling.specs.Layout.{apart, share_by};
+// A site's drop and its share of the length.
+ghost use Rattle.std.specs.Prelude.{◌≡◌, ◌<◌, pos, ◌-ℤ◌};
+ghost use Rattle.labelling.specs.Layout.{share_by};
 ghost use Rattle.lists.specs.Signs.{sign_top};
-
-// How far two heights lie apart.
-pub fn apart_of(a: u32, b: u32) -> u32
-    ensures { result ≡ apart a b }
-{
-    a.abs_diff(b)
-}
 
 // A site's drop: its slot's height less its own, below zero when the backbone lies above it.
 pub fn drop_of(h: u32, y: u32) -> i32
@@ -16,14 +9,6 @@ pub fn drop_of(h: u32, y: u32) -> i32
     ensures { result ≡ pos h -ℤ pos y }
 {
     (h as i32) - (y as i32)
-}
-
-// A drop without its sign.
-pub fn magnitude(d: i32) -> u32
-    requires { nat_abs d < sign_top }
-    ensures { result ≡ nat_abs d }
-{
-    d.unsigned_abs()
 }
 
 // A site's share of the length, by the charge, the height of its slot and its own: none on its backbone, else its drop without the sign and the

@@ -156,12 +156,6 @@ pub fn both(a: bool, b: bool) -> bool
     a && b
 }
 
-pub fn either(a: bool, b: bool) -> bool
-    ensures { result ≡ a || b }
-{
-    a || b
-}
-
 pub fn is_not(a: bool) -> bool
     ensures { result ≡ not a }
 {
@@ -172,25 +166,6 @@ pub fn same(a: u32, b: u32) -> bool
     ensures { result ≡ eqb a b }
 {
     a == b
-}
-
-pub fn at_most(a: u32, b: u32) -> bool
-    ensures { result ≡ leb a b }
-{
-    a <= b
-}
-
-pub fn less(a: u32, b: u32) -> bool
-    ensures { result ≡ ltb a b }
-{
-    a < b
-}
-
-// A bit of a mask.
-pub fn bit_of(t: bool) -> u64
-    ensures { result ≡ cond t 1 0 }
-{
-    u64::from(t)
 }
 
 pub fn choose(t: bool, a: u32, b: u32) -> u32

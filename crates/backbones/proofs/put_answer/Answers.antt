@@ -8,9 +8,8 @@ use Rattle.decoding.specs.Decoding.{numbers_by, colours_of}
 use Rattle.decoding.specs.declared.Numbers.{Numbers}
 use Rattle.decoding.proofs.Fields.{colours-long}
 use Rattle.decoding.proofs.Fronts.{IsFront, part, stands}
-use Rattle.report.specs.Lines.{refused_line, layout_text, layout_text_by}
+use Rattle.report.specs.Lines.{layout_text_by}
 use Rattle.report.proofs.LinesPut.{text-by}
-use Rattle.report.proofs.Report.{text-layout}
 use Rattle.backbones.proofs.put_answer.Goals as goal
 
 -- the colours of a sheet's sites, as its numbers have them
@@ -27,8 +26,6 @@ slice_bounds-put_layout-end c = (shown (sheet_in c.args.sheet.now) c.numbers_of-
 
 pub returns : goal.returns
 returns c =
-    let a = c.args in
-    let s = sheet_in a.sheet.now in
-    let e = ap (λ (cs : List ℕ). layout_text_by cs a.answer.now) (shown s c.numbers_of-numbers.ensures).0 ∙ text-by s a.answer.now in
-    let is = text-layout a.fault (layout_text s a.answer.now) (refused_line a.fault) c.if-fault-ne0.false in
-    rw (← is, ← e) c.put_layout.ensures
+    let s = sheet_in c.args.sheet.now in
+    let e = ap (λ (cs : List ℕ). layout_text_by cs c.args.answer.now) (shown s c.numbers_of-numbers.ensures).0 ∙ text-by s c.args.answer.now in
+    rw (← e) c.put_layout.ensures

@@ -7,5 +7,5 @@ use Rattle.cabi.proofs.backbone_stroke_at.Goals as goal
 pub returns : goal.returns
 returns c = let a = c.args in
     let ws = a.stored.now in
-    let m : WasDrawn ws a.place c.flat_stroke.result ws = (c.flat_stroke.ensures ∙ ap flat_of c.stroke_at.ensures, refl) in
-    record { value = m.0; served_by_strokes = served-by-strokes ws a.place c.flat_stroke.result ws m }
+    let m : WasDrawn ws a.place c.from.result ws = (c.from.ensures ∙ ap flat_of c.stroke_at.ensures, refl) in
+    record { value = m.0; served_by_strokes = served-by-strokes ws a.place c.from.result ws m }

@@ -1,4 +1,4 @@
-use Rattle.lists.proofs.Grown.{grown-none, grown-more, grown-end}
+use Rattle.lists.proofs.Grown.{grown-more, grown-end}
 use Rattle.lists.proofs.Arrays.{padded-of}
 use Rattle.sheet.specs.Limits.{most_sites}
 use Rattle.decoding.specs.Decoding.{site_colours}
@@ -20,9 +20,6 @@ kind-is w k e t = eqb-true (kind_of w) k (sym e ∙ t)
 
 kind-not : (w k : ℕ) {b : Bool} → b ≡ eqb (kind_of w) k → b ≡ false → kind_of w ≡ k → ⊥
 kind-not w k e t = eqb-false (kind_of w) k (sym e ∙ t)
-
-pub loop-w-init : goal.loop-w-init
-loop-w-init c = (omega arith, grown-none _ _)
 
 pub bounds-array-sites : goal.bounds-array-sites
 bounds-array-sites c = let s = c.args.body.now in

@@ -1,97 +1,72 @@
 -- What a stored sheet is opened to, by what was found of it. Assumes nothing.
-use mathlib.Core.Path.{◌≡◌, refl, sym, ap, ap₂, ◌∙◌}
-use mathlib.Core.Bool.{false}
+use mathlib.Core.Path.{◌≡◌, refl, sym, ap, ◌∙◌}
+use mathlib.Core.Bool.{Bool, true, false, not, true≢false, false≢true}
 use mathlib.Core.List.{List}
-use Prim.Native.Nat.{ℕ, ◌-◌}
+use Prim.Native.Nat.{ℕ, ◌<◌}
 use native.Mathlib.Omega.{arith}
-use lib.Dec.{eqb}
-use lib.ListN.{length, take, drop}
-use borrow.Author.Tests.{eqb-true, eq-eqb, ne_eqb}
-use Rattle.lists.proofs.Places.{part-from}
-use Rattle.lists.proofs.Tests.{by-test}
-use Rattle.faults.specs.Faults.{rule_fault}
-use Rattle.sheet.specs.Sheet.{Sheet, sheet_in}
-use Rattle.labelling.specs.Layout.{broken_by, sheet_part, layout_part, judge_fault, judged, stored_fault}
-use Rattle.labelling.proofs.Judge.{judged-so}
+use borrow.Author.Tests.{eq-eqb, ne_eqb}
+use Rattle.std.specs.Prelude.{Option, Some, None, Result, IfOk}
+use Rattle.std.specs.Option.{is_some}
+use Rattle.faults.specs.declared.refusal.Refusal.{Refusal}
+use Rattle.faults.specs.Faults.{layout_fault, rule_fault}
+use Rattle.faults.specs.Refusals.{number_of}
+use Rattle.faults.proofs.Refusals.{number-above}
+use Rattle.sheet.specs.Sheet.{sheet_in, sheet_fault}
+use Rattle.labelling.specs.Layout.{is_layout, sheet_part, layout_part, broken_by, judge_fault, judged, stored_fault}
 use Rattle.labelling.proofs.Refusals.{judge-chain}
-use Rattle.labelling.proofs.Stored.{stored-judge, stored-unlawful, stored-none, stored-accepted, stored-layout}
-use Rattle.decoding.specs.Decoding.{numbers_by, sheet_by, LayoutRead}
-use Rattle.decoding.proofs.Places.{sheet-read}
+use Rattle.labelling.proofs.Stored.{stored-judge, stored-unlawful, stored-none}
+use Rattle.decoding.specs.Decoding.{numbers_by, LayoutRead}
+use Rattle.decoding.specs.declared.Numbers.{Numbers}
+use Rattle.layouts.specs.declared.rule.Rule.{Rule}
+use Rattle.layouts.specs.Broken.{rule_number, broken_number}
 use Rattle.judge.specs.declared.opened.Opened.{Opened}
-use Rattle.judge.specs.Opened.{refused_at, parts_fault, opened_by, layout_opened, stored_opened}
+use Rattle.judge.specs.Opened.{parts_fault}
 
--- ITS PARTS
-module _ (f : ℕ) (ss : List ℕ) {o : Opened} (e : o ≡ opened_by f ss) where
-  refusal_is : o.refusal ≡ f
-  refusal_is = ap (λ (z : Opened). z.refusal) e
+-- its numbers and its layout were read
+pub layout-read : {d : Numbers} (ss ls : List ℕ) → sheet_fault ss ≡ 0 → d ≡ numbers_by (sheet_in ss) → is_layout (sheet_in ss) ls ≡ true → LayoutRead d ls
+layout-read ss ls a e f = record { read = record { words = ss; accepted = a; numbers = e }; form = f }
 
-  start_is : o.at ≡ length ss
-  start_is = ap (λ (z : Opened). z.at) e
+-- THE REFUSAL of a sheet and the words behind it
+pub parts-sheet : (ss ls : List ℕ) (r : Refusal) → number_of r ≡ sheet_fault ss → number_of r ≡ parts_fault ss ls
+parts-sheet ss ls r e = rw (ne_eqb (sheet_fault ss) 0 (λ z. omega (arith, number-above r, e, z))) e
 
-  numbers-are : f ≡ 0 → o.numbers ≡ numbers_by (sheet_in ss)
-  numbers-are h = ap (λ (z : Opened). z.numbers) e ∙ rw (eq-eqb f 0 h) refl
+pub parts-layout : (ss ls : List ℕ) {n : ℕ} {b : Bool} → sheet_fault ss ≡ 0 → n ≡ layout_fault b → b ≡ is_layout (sheet_in ss) ls → n ≡ parts_fault ss ls
+parts-layout ss ls z q e = rw (eq-eqb (sheet_fault ss) 0 z) (q ∙ ap layout_fault e)
 
--- of a stored sheet
-pub opened-parts : (ws ss ls : List ℕ) {o : Opened} → o ≡ opened_by (parts_fault ss ls) ss → ss ≡ sheet_part ws → ls ≡ layout_part ws → o ≡ layout_opened ws
-opened-parts ws ss ls e p q =
-    e ∙ ap₂ (λ (s l : List ℕ). opened_by (parts_fault s l) s) p q ∙ ap (λ (f : ℕ). opened_by f (sheet_part ws)) (sym (judge-chain ws))
+-- of a stored list
+pub judge-parts : (ws ss ls : List ℕ) {n : ℕ} → n ≡ parts_fault ss ls → ss ≡ sheet_part ws → ls ≡ layout_part ws → n ≡ judge_fault ws
+judge-parts ws ss ls e p q = e ∙ rw (p, q) refl ∙ sym (judge-chain ws)
 
--- by the rule: none is broken, or 13
-module _ (r : ℕ) {f : ℕ} (q : f ≡ rule_fault r) where
-  pub rule-none : f ≡ 0 → r ≡ 0
-  rule-none z = by-test (eqb r 0) (λ t. eqb-true r 0 t) (λ t. absurd (omega (arith, z, thirteen t)))
-    where
-      thirteen : eqb r 0 ≡ false → f ≡ 13
-      thirteen t = q ∙ rw t refl
+pub judge-opened : (r : Result Opened Refusal) {ss ls ss' ls' : List ℕ} → IfOk r (λ o. (o.sheet.now ≡ ss) × (o.layout.now ≡ ls)) → ss ≡ ss' → ls ≡ ls' → IfOk r (λ o. (o.sheet.now ≡ ss') × (o.layout.now ≡ ls'))
+judge-opened r h p q = rw (← p, ← q) h
 
-  pub rule-some : (f ≡ 0 → ⊥) → (r ≡ 0 → ⊥) × (f ≡ 13)
-  rule-some n =
-      let k : r ≡ 0 → ⊥ = λ z. n (q ∙ rw (eq-eqb r 0 z) refl) in
-      (k, q ∙ rw (ne_eqb r 0 k) refl)
+-- of a tool over lawful ones
+pub stored-refused : (ws : List ℕ) (r : Refusal) → number_of r ≡ judge_fault ws → number_of r ≡ stored_fault ws
+stored-refused ws r e = e ∙ sym (stored-judge ws (λ z. omega (arith, number-above r, e, z)))
 
--- OPENED FOR THE JUDGE
-module _ (ws : List ℕ) {o : Opened} (e : o ≡ layout_opened ws) where
-  pub judge-refusal : o.refusal ≡ judge_fault ws
-  judge-refusal = refusal_is (judge_fault ws) (sheet_part ws) e
+-- THE RULE: b says that none was found
+rule-above : (r : Rule) → 0 < rule_number r
+rule-above r = grind arith
 
-  pub judge-start : o.at ≡ length (sheet_part ws)
-  judge-start = start_is (judge_fault ws) (sheet_part ws) e
+none-broken : (o : Option Rule) (b : Bool) → is_some o ≡ not b → 0 ≡ rule_fault b → broken_number o ≡ 0
+none-broken None b e z = refl
+none-broken (Some r) true e z = absurd (true≢false e)
+none-broken (Some r) false e z = absurd (omega arith)
 
-  module _ (h : judge_fault ws ≡ 0) where
-    judge-numbers : o.numbers ≡ numbers_by (sheet_in (sheet_part ws))
-    judge-numbers = numbers-are (judge_fault ws) (sheet_part ws) e h
+some-broken : (o : Option Rule) (b : Bool) {n : ℕ} → is_some o ≡ not b → n ≡ rule_fault b → 0 < n → (n ≡ 13) × (0 < broken_number o)
+some-broken None true e q l = absurd (omega arith)
+some-broken None false e q l = absurd (false≢true e)
+some-broken (Some r) true e q l = absurd (true≢false e)
+some-broken (Some r) false e q l = (q, rule-above r)
 
-    pub judge-read : LayoutRead o.numbers (layout_part ws)
-    judge-read = record { read = record { words = sheet_part ws; accepted = ((judged-so.1 ws).3.0 h).0; numbers = judge-numbers }; form = ((judged-so.1 ws).3.0 h).1 }
+module _ (ws ss ls : List ℕ) (o : Option Rule) (b : Bool) (h : 0 ≡ judge_fault ws) (v : broken_number o ≡ broken_by (sheet_in ss) ls) (s : ss ≡ sheet_part ws) (l : ls ≡ layout_part ws) (e : is_some o ≡ not b) where
+  judged-is : broken_number o ≡ judged ws
+  judged-is = v ∙ rw (s, l) refl
 
-    pub rule-is : broken_by (sheet_by o.numbers) (layout_part ws) ≡ judged ws
-    rule-is = ap (λ (s : Sheet). broken_by s (layout_part ws)) (sheet-read judge-numbers)
+  pub unlawful : (r : Refusal) → number_of r ≡ rule_fault b → number_of r ≡ stored_fault ws
+  unlawful r q =
+      let (t, n) = some-broken o b e q (number-above r) in
+      t ∙ sym (stored-unlawful ws (sym h) (λ z. omega (arith, n, judged-is, z)))
 
-    -- and from there for a tool over lawful ones
-    pub stored-whole : judged ws ≡ 0 → o ≡ stored_opened ws
-    stored-whole v = e ∙ ap (λ (f : ℕ). opened_by f (sheet_part ws)) (h ∙ sym (stored-none ws h v))
-
-    pub stored_refused : {p : Opened} {f i : ℕ} → (judged ws ≡ 0 → ⊥) → p ≡ refused_at f i → f ≡ 13 → i ≡ o.at → p ≡ stored_opened ws
-    stored_refused n q k j = q ∙ ap₂ refused_at k (j ∙ judge-start) ∙ sym (ap (λ (f : ℕ). opened_by f (sheet_part ws)) (stored-unlawful ws h n))
-
-  pub stored_same : (o.refusal ≡ 0 → ⊥) → o ≡ stored_opened ws
-  stored_same n = e ∙ ap (λ (f : ℕ). opened_by f (sheet_part ws)) (sym (stored-judge ws (λ q. n (judge-refusal ∙ q))))
-
--- OPENED FOR A TOOL over lawful ones
-module _ (ws : List ℕ) {o : Opened} (e : o ≡ stored_opened ws) where
-  pub stored-refusal : o.refusal ≡ stored_fault ws
-  stored-refusal = refusal_is (stored_fault ws) (sheet_part ws) e
-
-  pub stored-start : o.at ≡ length (sheet_part ws)
-  stored-start = start_is (stored_fault ws) (sheet_part ws) e
-
-  -- a slice from there on
-  pub stored-part : take (length ws - o.at) (drop o.at ws) ≡ layout_part ws
-  stored-part = part-from ws o.at ∙ ap (λ (i : ℕ). drop i ws) stored-start
-
-  module _ (h : stored_fault ws ≡ 0) where
-    pub stored-numbers : o.numbers ≡ numbers_by (sheet_in (sheet_part ws))
-    stored-numbers = numbers-are (stored_fault ws) (sheet_part ws) e h
-
-    pub stored-read : LayoutRead o.numbers (layout_part ws)
-    stored-read = record { read = record { words = sheet_part ws; accepted = stored-accepted ws h; numbers = stored-numbers }; form = stored-layout ws h }
+  pub lawful : 0 ≡ rule_fault b → 0 ≡ stored_fault ws
+  lawful q = sym (stored-none ws (sym h) (sym judged-is ∙ none-broken o b e q))

@@ -1,57 +1,58 @@
 // A small sheet as words.
-use crate::small_sheet::{Sheet, apart, at, sum};
+use crate::small_sheet::{Colour, Sheet};
+use std::alloc::{AllocError, Global};
 
 // The kind stands above 28 bits: words of a head, a slot, a colour, a site and a charge.
-pub const KIND: u32 = 268435456;
+const HEAD: u32 = 1 << 28;
 
-const SLOT: u32 = 2 * KIND;
+const SLOT: u32 = 2 << 28;
 
-const COLOUR: u32 = 3 * KIND;
+const COLOUR: u32 = 3 << 28;
 
-const SITE: u32 = 4 * KIND;
+const SITE: u32 = 4 << 28;
 
-const CHARGE: u32 = 5 * KIND;
+const CHARGE: u32 = 5 << 28;
 
-// Side and aim stand above 26 bits, gap and x above 14, which the charge has; the gap has 12.
-const FLAGS: u32 = 67108864;
+// The side stands above 27 bits, the aim above 26, gap and x above 14.
+const SIDE_BIT: u32 = 27;
 
-const FIELD: u32 = 16384;
+const AIM_BIT: u32 = 26;
 
-const GAP_TOP: u32 = 4096;
+const FIELD_BIT: u32 = 14;
 
-// No small sheet has more words.
-const WORDS: usize = 32;
+// The bound in the word of a colour that has none.
+const NO_BOUND: u8 = 255;
 
-// The word at a place with so many colours before it.
-fn word_at(sheet: Sheet, place: u32, colours: u32) -> u32 {
-    if place == 0 {
-        return KIND + sheet.flags % 4 * FLAGS + sheet.gap % GAP_TOP * FIELD + sheet.width % FIELD;
-    }
-    if place <= sheet.charges {
-        return CHARGE + sheet.charge % FIELD;
-    }
-    let after = apart(place, sum(sheet.charges, 1));
-    if after < sheet.slots {
-        return SLOT + at(sheet.heights, after);
-    }
-    let colour = COLOUR + at(sheet.bounds, colours);
-    let site = apart(after, sum(sheet.slots, colours));
-    if (sheet.sites <= site) | (colours <= at(sheet.site_colours, site)) {
-        return colour;
-    }
-    SITE + at(sheet.xs, site) * FIELD + at(sheet.ys, site)
+fn head_word(sheet: &Sheet) -> u32 {
+    let side = u32::from(sheet.two_sided) << SIDE_BIT;
+    let aim = u32::from(sheet.shortest) << AIM_BIT;
+    HEAD | side | aim | u32::from(sheet.gap) << FIELD_BIT | u32::from(sheet.width)
 }
 
-// The sheet's words in front; what comes after them belongs to no sheet.
-pub fn sheet_words(sheet: Sheet) -> [u32; WORDS] {
-    let mut words = [0u32; WORDS];
-    let mut colours: u32 = 0;
-    let mut i: usize = 0;
-    while i < WORDS {
-        let word = word_at(sheet, i as u32, colours);
-        words[i] = word;
-        colours = sum(colours, (word / KIND == 3) as u32);
-        i += 1;
+// A colour's word, and those of its sites after it.
+fn push_colour(words: &mut Vec<u32>, sheet: &Sheet, colour: Colour) -> Result<(), AllocError> {
+    words.push(COLOUR | u32::from(colour.bound.unwrap_or(NO_BOUND)))?;
+    for site in sheet
+        .sites
+        .iter()
+        .filter(|site| site.colour == colour.number)
+    {
+        words.push(SITE | u32::from(site.x) << FIELD_BIT | u32::from(site.y))?;
     }
-    words
+    Ok(())
+}
+
+fn push_colours(words: &mut Vec<u32>, sheet: &Sheet) -> Result<(), AllocError> {
+    for colour in &sheet.colours {
+        push_colour(words, sheet, *colour)?;
+    }
+    Ok(())
+}
+
+pub fn sheet_words(alloc: Global, sheet: &Sheet) -> Result<Vec<u32>, AllocError> {
+    let mut words = vec![in alloc; head_word(sheet)]?;
+    words.extend(sheet.charge.map(|charge| CHARGE | u32::from(charge)))?;
+    words.extend(sheet.slots.iter().map(|slot| SLOT | u32::from(slot.height)))?;
+    push_colours(&mut words, sheet)?;
+    Ok(words)
 }

@@ -1,28 +1,32 @@
-use mathlib.Core.Path.{ap, ◌∙◌}
+use mathlib.Core.Path.{◌≡◌, ap, ◌∙◌}
 use Prim.Native.Nat.{ℕ}
-use lib.ListN.{take, drop}
-use Rattle.judge.proofs.opened.Opening.{opened-parts}
-use lib.Seq.{length-take-le}
-use Rattle.lists.proofs.Places.{part-from}
-use Rattle.judge.proofs.refusal_11.Parts.{sheet-front, sheet-le}
-use mathlib.Core.Path.{sym}
 use native.Mathlib.Omega.{arith}
+use lib.ListN.{length, take, drop}
+use mathlib.Core.List.{List}
+use Rattle.labelling.specs.Layout.{sheet_part, layout_part}
+use Rattle.judge.proofs.opened.Opening.{judge-parts, judge-opened}
+use Rattle.judge.proofs.refusal_11.Parts.{sheet-front, sheet-le}
 use Rattle.judge.proofs.opened.open_layout.Goals as goal
 
-pub slice_bounds-open_parts-end : goal.slice_bounds-open_parts-end
-slice_bounds-open_parts-end c = let s = c.args.stored.now in
-    sym (length-take-le c.layout_start-at.result s (omega (arith, sheet-le s, c.layout_start-at.ensures)))
+pub split_at-requires : goal.split_at-requires
+split_at-requires c = omega (arith, sheet-le c.args.stored.now, c.layout_start.ensures)
 
-pub offset_bounds-stored-at : goal.offset_bounds-stored-at
-offset_bounds-stored-at c = omega (arith, sheet-le c.args.stored.now, c.layout_start-at.ensures)
+-- the two parts
+module _ (ws front back : List ℕ) (at : ℕ) (e : at ≡ length (sheet_part ws)) (f : front ≡ take at ws) (b : back ≡ drop at ws) where
+  front-is : front ≡ sheet_part ws
+  front-is = f ∙ ap (λ (i : ℕ). take i ws) e ∙ sheet-front ws
 
-pub slice_bounds-open_parts-count : goal.slice_bounds-open_parts-count
-slice_bounds-open_parts-count c = omega (arith, sheet-le c.args.stored.now, c.layout_start-at.ensures)
+  back-is : back ≡ layout_part ws
+  back-is = b ∙ ap (λ (i : ℕ). drop i ws) e
 
-pub slice_bounds-open_parts-start : goal.slice_bounds-open_parts-start
-slice_bounds-open_parts-start c = omega (arith, sheet-le c.args.stored.now, c.layout_start-at.ensures)
+pub returns-clause-refusal : goal.returns-clause-refusal
+returns-clause-refusal c =
+    let ws = c.args.stored.now in
+    let s = c.split_at.ensures in
+    judge-parts ws _ _ c.open_parts.ensures.refusal (front-is ws _ _ _ c.layout_start.ensures s.front s.back) (back-is ws _ _ _ c.layout_start.ensures s.front s.back)
 
-pub returns : goal.returns
-returns c = let s = c.args.stored.now in
-    let e = c.layout_start-at.ensures in
-    opened-parts s _ _ c.open_parts.ensures (ap (λ (i : ℕ). take i s) e ∙ sheet-front s) (part-from s _ ∙ ap (λ (i : ℕ). drop i s) e)
+pub returns-clause-parts : goal.returns-clause-parts
+returns-clause-parts c =
+    let ws = c.args.stored.now in
+    let s = c.split_at.ensures in
+    judge-opened _ c.open_parts.ensures.parts (front-is ws _ _ _ c.layout_start.ensures s.front s.back) (back-is ws _ _ _ c.layout_start.ensures s.front s.back)

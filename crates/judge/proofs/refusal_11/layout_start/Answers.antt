@@ -1,17 +1,14 @@
-use Rattle.judge.proofs.refusal_11.Parts.{sheet-end, sheet-more, sheet-none}
-use mathlib.Core.Path.{ap}
-use native.Mathlib.Omega.{arith}
-use lib.ListN.{length}
+use borrow.Author.Tests.{tests}
+use lib.Dec.{eqb}
+use Rattle.std.proofs.Common.{rules}
+use Rattle.std.proofs.lemmas.Iterator.{YieldsList-from_slice}
+use Rattle.std.proofs.lemmas.Iterator.Search.{position_from_yields_List}
+use Rattle.sheet.specs.Sheet.{kind_of}
+use Rattle.judge.proofs.refusal_11.Parts.{found-start}
 use Rattle.judge.proofs.refusal_11.layout_start.Goals as goal
 
-pub returns-then-kind_of-eq-LAYOUT : goal.returns-then-kind_of-eq-LAYOUT
-returns-then-kind_of-eq-LAYOUT c = let s = c.args.stored.now in let l = c.loop-i in
-    omega (arith, l.invariant, ap length (sheet-end s l.i c.loop-i-test.true (omega (arith, c.kind_of.ensures, c.if-kind_of-eq-LAYOUT.true))))
-
-pub loop-i-preserved : goal.loop-i-preserved
-loop-i-preserved c = let s = c.args.stored.now in let l = c.loop-i in
-    omega (arith, l.invariant, ap length (sheet-more s l.i c.loop-i-test.true (λ e. omega (arith, c.kind_of.ensures, c.if-kind_of-eq-LAYOUT.false))))
-
 pub returns : goal.returns
-returns c = let s = c.args.stored.now in let l = c.loop-i in
-    omega (arith, l.invariant, sheet-none s l.i c.loop-i-test.false)
+returns c =
+    let ws = c.args.stored.now in
+    let p = position_from_yields_List (λ w. eqb (kind_of w) 8) _ _ c.position.result c.position.ensures.ran (YieldsList-from_slice ws cc) (λ x b q k. search (rules, tests)) in
+    found-start ws p c.unwrap_or.ensures

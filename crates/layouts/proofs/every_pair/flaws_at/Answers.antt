@@ -1,21 +1,18 @@
-use mathlib.Core.Path.{ap₂}
+use mathlib.Core.Path.{ap₂, ◌∙◌}
+use native.Mathlib.Omega.{arith}
 use Rattle.layouts.specs.Flaws.{flaw_of}
 use Rattle.layouts.proofs.Loops.{sum-none, sum_more}
 use Rattle.layouts.proofs.EveryPair.{flaw-low}
-use mathlib.Core.Path.{◌∙◌}
-use native.Mathlib.Omega.{arith}
 use Rattle.layouts.proofs.every_pair.flaws_at.Goals as goal
 
 pub loop-j-init : goal.loop-j-init
-loop-j-init c = (omega arith, omega arith, sum-none _)
+loop-j-init c = (omega arith, sum-none _)
 
 pub overflow_add-n : goal.overflow_add-n
-overflow_add-n c = omega (arith, c.loop-j.invariant.1, c.loop-j-test.true, flaw-low _ _ _ c.flaw-n.ensures, c.requires.fits.few)
+overflow_add-n c = omega (arith, c.loop-j.invariant.0, c.loop-j-test.true, flaw-low _ _ _ c.flaw-n.ensures, c.args.sites.now.fits.few)
 
 pub loop-j-preserved : goal.loop-j-preserved
-loop-j-preserved c = let l = c.loop-j in
-    let a = c.args in (
-      omega (arith, c.loop-j-test.true),
-      omega (arith, l.invariant.1, flaw-low _ _ _ c.flaw-n.ensures),
-      sum_more _ l.j l.n _ l.invariant.2 (c.flaw-n.ensures ∙ ap₂ (flaw_of a.h) c.tied_at-t.ensures c.tied_at.ensures),
-    )
+loop-j-preserved c = let l = c.loop-j in (
+  omega (arith, l.invariant.0, flaw-low _ _ _ c.flaw-n.ensures),
+  sum_more _ l.j l.n _ l.invariant.1 (c.flaw-n.ensures ∙ ap₂ (flaw_of c.args.sites.now.head) c.tied_at-t.ensures c.tied_at.ensures),
+)

@@ -1,12 +1,22 @@
-use Rattle.layouts.specs.Model.{one_if}
-use Rattle.layouts.proofs.Loops.{sum-none, sum_more, one-le}
-use mathlib.Core.Path.{ap, ◌∙◌}
+use mathlib.Core.Bool.{Bool}
+use mathlib.Core.Path.{◌∙◌}
+use lib.ListN.{length}
+use borrow.Author.Tests.{tests}
 use native.Mathlib.Omega.{arith}
+use Prim.Native.Nat.{ℕ}
+use Rattle.std.proofs.Common.{rules}
+use Rattle.std.proofs.lemmas.Iterator.{YieldsList-from_range}
+use Rattle.std.proofs.lemmas.Iterator.Consumers.{YieldsList-from_filter, count_from_yields_List}
+use Rattle.std.proofs.lemmas.List.Sums.{length-filter}
+use Rattle.labelling.specs.Counted.{is_first}
+use Rattle.labelling.specs.Layout.{ties_in}
+use Rattle.layouts.specs.Model.{among_by}
+use Rattle.layouts.proofs.Loops.{count-range}
 use Rattle.layouts.proofs.labels.labels_of.Goals as goal
 
-pub loop-i-init : goal.loop-i-init
-loop-i-init c = (omega arith, omega arith, sum-none _)
-
-pub loop-i-preserved : goal.loop-i-preserved
-loop-i-preserved c = let l = c.loop-i in
-    (omega (arith, c.loop-i-test.true), omega (arith, l.invariant.1, c.one_if-n.ensures, one-le c.is_first.result), sum_more _ l.i l.n _ l.invariant.2 (c.one_if-n.ensures ∙ ap one_if c.is_first.ensures))
+pub returns : goal.returns
+returns c =
+    let s = c.args.sites.now in
+    let p : ℕ → Bool = is_first (among_by c.args.a s.colours.now) (ties_in s.ties.now) in
+    count_from_yields_List c.filter.result _ c.count-2.ensures.ran (YieldsList-from_filter _ p (YieldsList-from_range 0 c.count.result (length s.ties.now) (cc) (omega arith)) c.filter.ensures.closure (λ x b q k. search (rules, tests))) ∙
+    length-filter p _ ∙ count-range p _

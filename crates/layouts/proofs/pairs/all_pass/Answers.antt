@@ -1,17 +1,19 @@
-use Rattle.layouts.specs.Pairs.{passes}
-use Rattle.layouts.proofs.Loops.{all_none, all_more, all-stop}
-use mathlib.Core.Path.{ap, ◌∙◌}
+use mathlib.Core.Bool.{Bool}
+use mathlib.Core.Path.{refl, ◌∙◌}
+use lib.ListN.{length}
+use borrow.Author.Tests.{tests}
 use native.Mathlib.Omega.{arith}
+use Prim.Native.Nat.{ℕ}
+use Rattle.std.proofs.Common.{rules}
+use Rattle.std.proofs.lemmas.Iterator.{YieldsList-from_range}
+use Rattle.std.proofs.lemmas.Iterator.Search.{all_from_yields_List}
+use Rattle.labelling.specs.Layout.{ties_in}
+use Rattle.layouts.specs.Model.{tied_at}
+use Rattle.layouts.proofs.Loops.{all-range}
 use Rattle.layouts.proofs.pairs.all_pass.Goals as goal
 
-pub loop-j-init : goal.loop-j-init
-loop-j-init c = (omega arith, all_none _)
-
-pub returns-then-not-pass : goal.returns-then-not-pass
-returns-then-not-pass c = let a = c.args in
-    all-stop _ _ c.loop-j.j c.loop-j-test.true (c.pass.ensures ∙ ap (passes a.test a.h a.t) c.tied_at.ensures) c.if-not-pass.true
-
-pub loop-j-preserved : goal.loop-j-preserved
-loop-j-preserved c = let a = c.args in
-    let l = c.loop-j in
-    (omega (arith, c.loop-j-test.true), all_more _ l.j (c.pass.ensures ∙ ap (passes a.test a.h a.t) c.tied_at.ensures) c.if-not-pass.false l.invariant.1)
+pub returns : goal.returns
+returns g c =
+    let s = c.args.sites.now in
+    let f : ℕ → Bool = λ j. g.R.PairRule.kept s.head c.args.t (tied_at s.heights.now s.xs.now s.ys.now s.colours.now (ties_in s.ties.now) j) in
+    all_from_yields_List f _ _ _ c.all.ensures.ran (YieldsList-from_range 0 c.count.result (length s.ties.now) refl (omega arith)) (λ x b q k. search (rules, tests)) ∙ all-range f _

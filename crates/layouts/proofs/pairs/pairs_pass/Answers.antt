@@ -1,14 +1,20 @@
-use Rattle.layouts.proofs.Loops.{all_none, all_more, all-stop}
-use mathlib.Core.Path.{refl}
+use mathlib.Core.Bool.{Bool}
+use mathlib.Core.Path.{refl, ◌∙◌}
+use lib.ListN.{length}
+use borrow.Author.Tests.{tests}
 use native.Mathlib.Omega.{arith}
+use Prim.Native.Nat.{ℕ}
+use Rattle.std.proofs.Common.{rules}
+use Rattle.std.proofs.lemmas.Iterator.{YieldsList-from_range}
+use Rattle.std.proofs.lemmas.Iterator.Search.{all_from_yields_List}
+use Rattle.labelling.specs.Layout.{ties_in}
+use Rattle.layouts.specs.Model.{tied_at, passes_all}
+use Rattle.layouts.proofs.Loops.{all-range}
 use Rattle.layouts.proofs.pairs.pairs_pass.Goals as goal
 
-pub loop-i-init : goal.loop-i-init
-loop-i-init c = (omega arith, all_none _)
-
-pub returns-then-not-all_pass : goal.returns-then-not-all_pass
-returns-then-not-all_pass c = all-stop _ _ c.loop-i.i c.loop-i-test.true (rw (c.all_pass.ensures, c.tied_at-t.ensures) refl) c.if-not-all_pass.true
-
-pub loop-i-preserved : goal.loop-i-preserved
-loop-i-preserved c = let l = c.loop-i in
-    (omega (arith, c.loop-i-test.true), all_more _ l.i (rw (c.all_pass.ensures, c.tied_at-t.ensures) refl) c.if-not-all_pass.false l.invariant.1)
+pub returns : goal.returns
+returns g c =
+    let s = c.args.sites.now in
+    let at = tied_at s.heights.now s.xs.now s.ys.now s.colours.now (ties_in s.ties.now) in
+    let f : ℕ → Bool = λ i. passes_all g.R.PairRule.kept s.head at (length s.ties.now) (at i) in
+    all_from_yields_List f _ _ _ c.all.ensures.ran (YieldsList-from_range 0 c.count.result (length s.ties.now) refl (omega arith)) (λ x b q k. search (rules, tests)) ∙ all-range f _

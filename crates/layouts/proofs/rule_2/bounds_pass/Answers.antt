@@ -1,13 +1,21 @@
-use Rattle.layouts.proofs.Loops.{all_none, all_more, all-stop}
-use native.Mathlib.Omega.{arith}
+use mathlib.Core.Bool.{Bool}
+use mathlib.Core.Path.{◌∙◌}
+use lib.ListN.{length}
+use borrow.Author.Tests.{tests}
+use Prim.Native.Nat.{ℕ}
+use Rattle.std.proofs.Common.{rules}
+use Rattle.std.proofs.lemmas.Iterator.{YieldsList-from_slice}
+use Rattle.std.proofs.lemmas.Iterator.Consumers.{YieldsList-from_enumerate}
+use Rattle.std.proofs.lemmas.Iterator.Search.{all_from_yields_List}
+use Rattle.labelling.specs.Layout.{ties_in}
+use Rattle.rules.specs.Rules.{bound_kept}
+use Rattle.layouts.specs.declared.labels.Among.TheVariants.{Of}
+use Rattle.layouts.specs.Model.{count_on}
+use Rattle.layouts.proofs.Loops.{all-places}
 use Rattle.layouts.proofs.rule_2.bounds_pass.Goals as goal
 
-pub loop-c-init : goal.loop-c-init
-loop-c-init c = (omega arith, all_none _)
-
-pub returns-then-not-bound_kept : goal.returns-then-not-bound_kept
-returns-then-not-bound_kept c = all-stop _ _ c.loop-c.c c.loop-c-test.true c.bound_kept.ensures c.if-not-bound_kept.true
-
-pub loop-c-preserved : goal.loop-c-preserved
-loop-c-preserved c = let l = c.loop-c in
-    (omega (arith, c.loop-c-test.true), all_more _ l.c c.bound_kept.ensures c.if-not-bound_kept.false l.invariant.1)
+pub returns : goal.returns
+returns c =
+    let s = c.args.sites.now in
+    let f : ℕ → ℕ → Bool = λ k bound. bound_kept (count_on (Of k) s.colours.now (ties_in s.ties.now) (length s.ties.now)) bound in
+    all_from_yields_List (λ (p : ℕ × ℕ). f p.0 p.1) _ _ _ c.all.ensures.ran (YieldsList-from_enumerate (YieldsList-from_slice c.args.bounds.now cc) (cc)) (λ x b q k. search (rules, tests)) ∙ all-places f _

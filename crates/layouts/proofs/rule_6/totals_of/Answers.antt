@@ -1,29 +1,39 @@
-use mathlib.Core.Bool.{Bool}
-use mathlib.Core.Path.{ap, ◌∙◌}
+use mathlib.Core.Bool.{Bool, true, false}
+use mathlib.Core.Path.{◌≡◌, refl, ap, ◌∙◌}
+use Prim.Native.Nat.{◌≤◌}
 use native.Mathlib.Omega.{arith}
 use lib.ListN.{length}
+use mir.Val.{bool_byte}
 use Rattle.labelling.specs.Layout.{ties_in}
 use Rattle.layouts.specs.Model.{one_if, length_by, most_added}
 use Rattle.labelling.proofs.Counted.{sum-le}
-use Rattle.layouts.proofs.Loops.{sum-none, sum_more, one-le, length-le}
+use Rattle.layouts.proofs.Loops.{sum-none, sum_more, length-le}
 use Rattle.layouts.proofs.rule_6.totals_of.Goals as goal
 
-pub loop-i-init : goal.loop-i-init
-loop-i-init c = (omega arith, omega arith, sum-none _, sum-none _)
+byte-one : (b : Bool) → bool_byte b ≡ one_if b
+byte-one true = refl
+byte-one false = refl
 
-pub overflow_add-total : goal.overflow_add-total
-overflow_add-total c = let a = c.args in
-    let p = c.requires in
+byte-le : (b : Bool) → bool_byte b ≤ 1
+byte-le true = omega arith
+byte-le false = omega arith
+
+pub loop-i-init : goal.loop-i-init
+loop-i-init c = (omega arith, sum-none _, sum-none _)
+
+pub overflow_add-length : goal.overflow_add-length
+overflow_add-length c =
+    let s = c.args.sites.now in
     let l = c.loop-i in
-    let f = length-le a.h a.heights.now a.xs.now a.ys.now a.colours.now (ties_in a.ties.now) (length a.ties.now) p.low in
-    let q = c.site_length-total.ensures ∙ ap (λ (b : Bool). length_by a.h b a.heights.now a.xs.now a.ys.now (ties_in a.ties.now) (length a.ties.now) l.i) c.is_first-first.ensures in
-    omega (arith, l.invariant.3, c.loop-i-test.true, p.fits.few, q, f l.i, sum-le _ most_added f l.i)
+    let f = length-le s.head s.heights.now s.xs.now s.ys.now s.colours.now (ties_in s.ties.now) (length s.ties.now) s.low in
+    let q = c.site_length-length.ensures ∙ ap (λ (b : Bool). length_by s.head b s.heights.now s.xs.now s.ys.now (ties_in s.ties.now) (length s.ties.now) l.i) c.is_first-first.ensures in
+    omega (arith, l.invariant.2, c.loop-i-test.true, s.fits.few, q, f l.i, sum-le _ most_added f l.i)
 
 pub loop-i-preserved : goal.loop-i-preserved
-loop-i-preserved c = let a = c.args in
+loop-i-preserved c =
+    let s = c.args.sites.now in
     let l = c.loop-i in (
-      omega (arith, c.loop-i-test.true),
-      omega (arith, l.invariant.1, c.one_if-count.ensures, one-le c.is_first-first.result),
-      sum_more _ l.i l.count _ l.invariant.2 (c.one_if-count.ensures ∙ ap one_if c.is_first-first.ensures),
-      sum_more _ l.i l.total _ l.invariant.3 (c.site_length-total.ensures ∙ ap (λ (b : Bool). length_by a.h b a.heights.now a.xs.now a.ys.now (ties_in a.ties.now) (length a.ties.now) l.i) c.is_first-first.ensures),
+      omega (arith, l.invariant.0, byte-le c.is_first-first.result, c.from-count.ensures),
+      sum_more _ l.i l.count _ l.invariant.1 (c.from-count.ensures ∙ byte-one _ ∙ ap one_if c.is_first-first.ensures),
+      sum_more _ l.i l.length _ l.invariant.2 (c.site_length-length.ensures ∙ ap (λ (b : Bool). length_by s.head b s.heights.now s.xs.now s.ys.now (ties_in s.ties.now) (length s.ties.now) l.i) c.is_first-first.ensures),
     )

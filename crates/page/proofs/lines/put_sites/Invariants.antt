@@ -7,5 +7,6 @@ use Rattle.page.proofs.lines.put_sites.Given as goal
 
 abbrev pub invariant-loop-i : goal.invariant-loop-i
 invariant-loop-i l =
-    let f = site_line_of (sheet_by l.numbers) (layout_ties l.layout) in
-    Left l.initial.page (sites_from f l.numbers.sites 0) l.page (sites_from f l.numbers.sites l.i)
+    let o = l.opened in
+    let f = site_line_of (sheet_by o.numbers) (layout_ties o.layout.now) in
+    Left l.initial.page (sites_from f o.numbers.sites 0) l.page (sites_from f o.numbers.sites l.i)

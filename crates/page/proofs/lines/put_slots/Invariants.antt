@@ -7,6 +7,7 @@ use Rattle.page.proofs.lines.put_slots.Given as goal
 
 abbrev pub invariant-loop-slot : goal.invariant-loop-slot
 invariant-loop-slot l =
-    let js = layout_ties l.layout in
-    let f = slot_line_of (sheet_by l.numbers) js in
-    Left l.initial.page (slots_from f js l.numbers.slots 0) l.page (slots_from f js l.numbers.slots l.slot)
+    let o = l.opened in
+    let js = layout_ties o.layout.now in
+    let f = slot_line_of (sheet_by o.numbers) js in
+    Left l.initial.page (slots_from f js o.numbers.slots 0) l.page (slots_from f js o.numbers.slots l.slot)
