@@ -9,11 +9,11 @@ use crate::splits::Splits;
 // The slots' heights; the colours' bounds, radices and draws; the sites' x, y and colours by rising rank, and their places in the sheet;
 // what may be taken from each budget.
 #[derive(Clone, Copy)]
-pub struct RankedSheet<'a> {
+pub struct RankedSheet<'a, 'r> {
     pub measures: Measures,
     pub heights: &'a [u32],
     pub bounds: &'a [u32],
-    pub radices: Radices<'a>,
+    pub radices: Radices<'r>,
     pub draws: &'a [u32],
     pub xs: &'a [u32],
     pub ys: &'a [u32],

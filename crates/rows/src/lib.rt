@@ -2,6 +2,7 @@
 #![tactic(auto)]
 
 pub mod budgets;
+pub mod level;
 pub mod rest;
 
 ghost use Rattle.std.specs.Prelude.{◌≡◌, ◌+◌, ◌*◌, ◌<◌, ◌≤◌, length};
