@@ -1,3 +1,4 @@
 pub mod Arrays
+pub mod Budgets
 pub mod Given
 pub mod Ranked

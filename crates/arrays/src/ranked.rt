@@ -1,23 +1,27 @@
 // An accepted sheet as all that lays it out reads it: its numbers in arrays, the sites by rising rank.
-ghost use Rattle.arrays.specs.Given.{given, OfSheet, Bounded};
+ghost use Rattle.arrays.specs.Given.{given, OfSheet, Bounded, Ranked};
+ghost use Rattle.arrays.specs.Budgets.{SplitsOf};
 
 use crate::Measures;
+use crate::radices::Radices;
 use crate::splits::Splits;
 
 // The slots' heights; the colours' bounds, radices and draws; the sites' x, y and colours by rising rank, and their places in the sheet;
 // what may be taken from each budget.
 #[derive(Clone, Copy)]
-pub struct RankedSheet<'a> {
+pub struct RankedSheet<'a, 'r> {
     pub measures: Measures,
     pub heights: &'a [u32],
     pub bounds: &'a [u32],
-    pub radices: &'a [u32],
+    pub radices: Radices<'r>,
     pub draws: &'a [u32],
     pub xs: &'a [u32],
     pub ys: &'a [u32],
     pub colours: &'a [u32],
     pub order: &'a [u32],
     pub splits: &'a Splits,
-    ghost of_sheet: { OfSheet (given measures heights.now bounds.now radices.now draws.now xs.now ys.now colours.now order.now splits.now.parts splits.now.counts) },
-    ghost bounded: { Bounded (given measures heights.now bounds.now radices.now draws.now xs.now ys.now colours.now order.now splits.now.parts splits.now.counts) },
+    ghost of_sheet: { OfSheet (given measures heights.now bounds.now radices.list.now draws.now xs.now ys.now colours.now order.now splits.now.parts splits.now.counts) },
+    ghost bounded: { Bounded (given measures heights.now bounds.now radices.list.now draws.now xs.now ys.now colours.now order.now splits.now.parts splits.now.counts) },
+    ghost ranked: { Ranked (given measures heights.now bounds.now radices.list.now draws.now xs.now ys.now colours.now order.now splits.now.parts splits.now.counts) },
+    ghost listed: { SplitsOf radices.list.now measures.budgets splits.now.parts splits.now.counts },
 }

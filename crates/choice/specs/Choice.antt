@@ -4,12 +4,12 @@ use Rattle.sheet.specs.Limits.{most_slots}
 use Rattle.search.specs.Cost.{plus, first}
 use Rattle.optimum.specs.Strips.{Point, Strip}
 use Rattle.optimum.specs.OneSided.{top_word, mark_count}
-use Rattle.arrays.specs.declared.Measures.{Measures}
 use Rattle.arrays.specs.Arrays.{turn_by}
-use Rattle.arrays.specs.Given.{Given, instance_of, OfSheet, Bounded, SiteIn}
+use Rattle.arrays.specs.Given.{Given, instance_of, SiteIn}
 use Rattle.strips.specs.Steps.{price_in, budget_left}
 use Rattle.rows.specs.Rest.{LevelIn, rest_rows}
 use Rattle.choice.specs.declared.Left.{Left}
+use Rattle.choice.specs.declared.kept.Tie.{Tie}
 
 -- ---- one step, of the site s in the strip p
 
@@ -22,9 +22,9 @@ abbrev pub marked_at : (labels marks : List ℕ) → (a d k : ℕ) → List ℕ
 marked_at L M a d k = cond (eqb (get_or L k 0) 0) (set (set M (suc k) 0) a d) (set M a d)
 
 -- a price, and REST of these labels and marks at the budget v, come to the cost
-abbrev pub comes_to : (parts counts work : List ℕ) (base : ℕ) → Measures → (labels marks : List ℕ) → (v price cost : ℕ) → Bool
-comes_to parts counts work base q L M v price cost =
-    eqb (plus top_word price (rest_rows parts counts work base (length L) q.colours q.budgets L M v)) cost
+abbrev pub comes_to : Given → (work : List ℕ) (base : ℕ) → (labels marks : List ℕ) → (v price cost : ℕ) → Bool
+comes_to g work base L M v price cost =
+    eqb (plus top_word price (rest_rows g.parts g.counts work base (length L) g.measures.colours g.measures.budgets L M v)) cost
 
 -- slot k keeps the least cost `here`; the next level begins at the word `base`
 abbrev pub keeps_cost : Given → (work : List ℕ) → (base : ℕ) → Strip → Point → (labels marks : List ℕ) → (v here k : ℕ) → Bool
@@ -46,24 +46,19 @@ pub record MarksIn (labels marks : List ℕ) (a k : ℕ) : Type 0 where
   pub place_low : a < length marks
 
 -- where a slot is tried: the next level stands in the work area, and slot, place, mark, colour, budget and cost are in range
-pub record TriedIn (parts counts work : List ℕ) (base : ℕ) (q : Measures) (labels marks : List ℕ) (k a d c v cost : ℕ) : Type 0 where
-  pub level : LevelIn parts counts work base q.colours q.budgets labels marks
-  pub places : MarksIn labels marks a k
-  pub mark_low : d < mark_count
-  pub colour_low : c < q.colours + 1
-  pub budget : v < q.budgets
+pub record TriedIn (g : Given) (work : List ℕ) (base : ℕ) (labels marks : List ℕ) (tie : Tie) (v cost : ℕ) : Type 0 where
+  pub level : LevelIn g work base labels marks
+  pub places : MarksIn labels marks tie.above tie.slot
+  pub mark_low : tie.mark < mark_count
+  pub colour_low : tie.colour < g.measures.colours + 1
+  pub budget : v < g.measures.budgets
   pub low : cost < top_word
 
 -- where a slot is chosen for the site s, in the strip below the place a
 pub record ChosenIn (g : Given) (work : List ℕ) (base : ℕ) (labels marks : List ℕ) (a : ℕ) (s : Point) (left : Left) : Type 0 where
-  pub sheet : OfSheet g
-  pub bounded : Bounded g
-  pub level : LevelIn g.parts g.counts work base g.measures.colours g.measures.budgets labels marks
+  pub level : LevelIn g work base labels marks
   pub site : SiteIn g.measures s
-  pub labels_long : length labels ≡ length g.heights
   pub marks_long : length marks ≡ length g.heights + 1
   pub place_low : a < length marks
   pub budget : left.budget < g.measures.budgets
   pub low : left.cost < top_word
-
--- ---- the word of a tie

@@ -1,61 +1,67 @@
 // Whether a step of the one-sided walk keeps the least cost.
 ghost use Rattle.std.specs.Prelude.{◌≡◌, set};
+ghost use Rattle.arrays.specs.Ranked.{given_of};
 ghost use Rattle.choice.specs.Choice.{MarksIn, TriedIn, marked_at, comes_to};
 
-use arrays::Measures;
+use arrays::ranked::RankedSheet;
 use costs::comes_to;
 use rows::rest::rest_of;
+use strips::Step;
 
-// Writes the marks after a step that ties a site in the strip below the place a to slot k, where it leaves the mark d.
-pub fn write_marks(labels: &[u32], marks: &mut [u32], a: u32, d: u32, k: u32)
-    requires { MarksIn labels.now marks.old a k }
-    ensures { marks.new ≡ marked_at labels.now marks.old a d k }
-{
-    let at = k as usize;
-    let below = at + 1;
-    let above = a as usize;
-    let old = marks[below];
-    marks[below] = if labels[at] == 0 { 0 } else { old };
-    marks[above] = d;
+// A site tied to a slot: the place above its strip, the mark that it leaves there, and its colour (c + 1: colour c).
+#[derive(Clone, Copy)]
+pub struct Tie {
+    pub slot: u32,
+    pub above: u32,
+    pub mark: u32,
+    pub colour: u32,
 }
 
-// A step that costs `price` and ties a site of colour c - 1 in the strip below the place a to slot k, where it leaves the mark d and the budget v, comes to `cost` with REST after it.
+// Writes the marks after a tie.
+pub fn write_marks(labels: &[u32], marks: &mut [u32], tie: Tie)
+    requires { MarksIn labels.now marks.old tie.above tie.slot }
+    ensures { marks.new ≡ marked_at labels.now marks.old tie.above tie.mark tie.slot }
+{
+    let at = tie.slot as usize;
+    let below = at + 1;
+    let above = tie.above as usize;
+    let old = marks[below];
+    marks[below] = if labels[at] == 0 { 0 } else { old };
+    marks[above] = tie.mark;
+}
+
+// The step that a tie makes comes to `cost` with REST after it, whose level begins at the word `base`.
 // A step that is not lawful keeps no cost, so REST is not asked for.
 pub fn keeps_cost(
-    parts: &[u8],
-    counts: &[u8],
+    sheet: &RankedSheet,
     work: &[u32],
     base: usize,
-    q: Measures,
     labels: &mut [u32],
     marks: &mut [u32],
-    k: u32,
-    a: u32,
-    d: u32,
-    c: u32,
-    v: u32,
-    price: u32,
+    tie: Tie,
+    step: Step,
     cost: u32,
 ) -> bool
-    requires { TriedIn parts.now counts.now work.now base q labels.old marks.old k a d c v cost }
-    ensures value { result ≡ comes_to parts.now counts.now work.now base q (set labels.old k c) (marked_at labels.old marks.old a d k) v price cost }
+    requires { TriedIn (given_of sheet.now) work.now base labels.old marks.old tie step.left cost }
+    ensures value { let after = marked_at labels.old marks.old tie.above tie.mark tie.slot in
+        result ≡ comes_to (given_of sheet.now) work.now base (set labels.old tie.slot tie.colour) after step.left step.price cost }
     ensures labels_unchanged { labels.new ≡ labels.old }
     ensures marks_unchanged { marks.new ≡ marks.old }
 {
-    if price == words::NONE {
+    if step.price == words::NONE {
         return false;
     }
-    let at = k as usize;
+    let at = tie.slot as usize;
     let below = at + 1;
-    let above = a as usize;
+    let above = tie.above as usize;
     let old = labels[at];
     let old_below = marks[below];
     let old_above = marks[above];
-    write_marks(labels, marks, a, d, k);
-    labels[at] = c;
-    let after = rest_of(parts, counts, work, base, q, labels, marks, v);
+    write_marks(labels, marks, tie);
+    labels[at] = tie.colour;
+    let after = rest_of(sheet, work, base, labels, marks, step.left);
     labels[at] = old;
     marks[above] = old_above;
     marks[below] = old_below;
-    comes_to(price, after, cost)
+    comes_to(step.price, after, cost)
 }

@@ -1,2 +1,1 @@
 pub mod Costs
-pub mod Masks

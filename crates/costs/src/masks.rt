@@ -2,16 +2,16 @@
 ghost use Rattle.std.specs.Prelude.{◌≡◌, ◌<◌};
 ghost use Rattle.sheet.specs.Limits.{most_budgets};
 ghost use Rattle.search.specs.Radix.{below, mask_of};
-ghost use Rattle.costs.specs.Masks.{Divides};
+
+use arrays::radices::Radices;
 
 // w may be taken from the budget v.
-pub fn is_below(radices: &[u32], w: u32, v: u32) -> bool
-    requires { Divides radices.now }
-    ensures { result ≡ below radices.now w v }
+pub fn is_below(radices: Radices, w: u32, v: u32) -> bool
+    ensures { result ≡ below radices.entry.list.now w v }
 {
     let mut a = w;
     let mut b = v;
-    for &radix in radices {
+    for &radix in radices.list {
         if a % radix > b % radix {
             return false;
         }
@@ -22,10 +22,9 @@ pub fn is_below(radices: &[u32], w: u32, v: u32) -> bool
 }
 
 // The budgets that may be taken from v, as bits.
-pub fn mask_below(radices: &[u32], v: u32) -> u64
-    requires divides { Divides radices.now }
-    requires v_lt_most_budgets { v < most_budgets }
-    ensures { result ≡ mask_of radices.now v }
+pub fn mask_below(radices: Radices, v: u32) -> u64
+    requires { v < most_budgets }
+    ensures { result ≡ mask_of radices.entry.list.now v }
 {
     let mut mask: u64 = 0;
     for w in (0..v + 1).rev() {

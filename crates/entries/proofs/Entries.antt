@@ -22,7 +22,7 @@ use Rattle.arrays.specs.declared.Measures.{Measures}
 use Rattle.arrays.specs.Arrays.{slots_by, turn_by, instance_by}
 use Rattle.strips.specs.Strips.{instance_on, gap_left, site_opens, open_cost, join_cost, rise_cost, fall_cost, risen, fallen}
 use Rattle.strips.proofs.Decisions.{inside_on, opens-on, joins-up-on, joins-down-on}
-use Rattle.rows.specs.Budgets.{Within, Splits, part_at, split_by, left_by, not_drawn}
+use Rattle.rows.specs.Budgets.{Within, SplitsOf, part_at, split_by, left_by, not_drawn}
 use Rattle.rows.proofs.Splitting.{split-by}
 use Rattle.rows.proofs.Places.{upper_is, lower-is}
 use Rattle.strips.proofs.Joining.{opening, opens_of, shut, up_at, down-at, risen-at, fallen-at, up_least, down-least}
@@ -58,7 +58,7 @@ open_none parts counts n c u f g l h =
     shared k = le_antisymm (least-le-top top_word (get_or counts u 0) _) (least-most top_word (get_or counts u 0) _ top_word (omega arith) (λ i j. let e = each k i j in omega arith))
 
 module _ (q : Measures) (hs bs rs ds work parts counts left : List ℕ) (low : ℕ) (p : Strip) (s : Point) (v : ℕ)
-    (splits : Splits rs q.budgets parts counts) (drawn : get_or left v 0 ≡ left_by rs (get_or ds s.c 0) v) (lies : Lies (length hs) q.colours p) (low-v : v < q.budgets)
+    (splits : SplitsOf rs q.budgets parts counts) (drawn : get_or left v 0 ≡ left_by rs (get_or ds s.c 0) v) (lies : Lies (length hs) q.colours p) (low-v : v < q.budgets)
     (falls : inside (instance_on q hs bs) p s ≡ true → (k : ℕ) → opens (instance_on q hs bs) p s k ≡ true
     → Falls q.budgets (row_in work low (length hs) q.colours q.budgets (upper_part (turn_by hs s k) p s k)) × Falls q.budgets (row_in work low (length hs) q.colours q.budgets (lower_part p s k))) where
   abbrev P : Instance

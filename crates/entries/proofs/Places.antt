@@ -8,8 +8,11 @@ use Rattle.optimum.specs.OneSided.{mark_count}
 use Rattle.rows.specs.Budgets.{Others}
 use Rattle.rows.specs.Rows.{row_of, row_in, Lies, marked_by, upper_part, lower_part, LevelFits}
 use Rattle.rows.proofs.Places.{row_fits, marked-lies, upper-lies, lower-lies}
-use Rattle.rows.specs.Level.{Level, slots_in, colours_in, budgets_in, Ready}
-use Rattle.entries.specs.Entries.{PartsFit}
+use Rattle.rows.specs.declared.level.TableLevel.{TableLevel}
+use Rattle.rows.specs.Level.{Level, row_at, slots_in, colours_in, budgets_in, Ready}
+use Rattle.entries.specs.declared.filling.Filling.{Filling}
+use Rattle.entries.specs.Entries.{RowFits, PartsFit}
+use Rattle.entries.specs.Filled.{filled_at}
 use Rattle.rows.proofs.Levels.{level-fits}
 
 -- rows past the words that changed are the same
@@ -56,3 +59,10 @@ module _ {l : Level} {area : ℕ} (r : Ready l (budgets_in l) area) where
 
   pub below-fits : LevelFits l.arrays.measures (slots_in l) l.low area
   below-fits = level-fits r.sheet r.within
+
+-- a row of a level that code is given, and the level below it
+pub row-ready : (v : TableLevel) {at : ℕ} {p : Strip} {area : ℕ} → RowFits (row_at v at) p area → Ready (row_at v at) (budgets_in (row_at v at)) area
+row-ready v f = record { sheet = v.sheet.now.of_sheet; site = v.site_in; apart = f.apart; within = f.within }
+
+pub filled-ready : (f : Filling) {at : ℕ} {p : Strip} {area : ℕ} → RowFits (filled_at f at) p area → Ready (filled_at f at) (budgets_in (filled_at f at)) area
+filled-ready f h = record { sheet = f.level.sheet.now.of_sheet; site = f.level.site_in; apart = h.apart; within = h.within }

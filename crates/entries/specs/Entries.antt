@@ -1,40 +1,31 @@
 -- The table in the work area, row by row: a row has the entries of one strip, by budget. What is asked of the numbers, and an
 -- entry as code works it out from the rows a level below. Definitions.
-use Rattle.std.specs.Prelude.{◌≡◌, Bool, true, cond, ◌&&◌, ◌||◌, List, [], ℕ, ◌+◌, ◌-◌, ◌<◌, ◌≤◌, min, eqb, ltb, length, get_or, drop}
+use Rattle.std.specs.Prelude.{◌≡◌, Bool, true, cond, ◌&&◌, ◌||◌, List, ℕ, ◌+◌, ◌-◌, ◌<◌, ◌≤◌, min, eqb, ltb, length, get_or, drop}
 use Rattle.search.specs.Cost.{plus, least}
 use Rattle.optimum.specs.Strips.{Point, Strip, Instance, inside}
 use Rattle.optimum.specs.OneSided.{top_word}
 use Rattle.optimum.specs.Cells.{cell_of, step_cell}
 use Rattle.arrays.specs.declared.Measures.{Measures}
 use Rattle.arrays.specs.Arrays.{slots_by, turn_by}
-use Rattle.arrays.specs.Given.{Given, given, SiteIn}
-use Rattle.rows.specs.Rows.{row_in, Lies, upper_part, lower_part, LevelFits}
+use Rattle.arrays.specs.Given.{Given}
+use Rattle.rows.specs.Rows.{row_in, Lies, upper_part, lower_part}
 use Rattle.parts.specs.Parts.{parts_cost}
-use Rattle.rows.specs.Budgets.{Others, Within, split_by}
+use Rattle.rows.specs.Budgets.{Others, split_by}
 use Rattle.strips.specs.Strips.{rise_cost, fall_cost, risen, fallen, instance_on, gap_left, site_opens, open_cost}
 use Rattle.strips.specs.declared.Window.{Window}
-use Rattle.rows.specs.Level.{Level, slots_in, colours_in, budgets_in, Ready}
+use Rattle.rows.specs.Level.{Level, slots_in, colours_in, budgets_in, words_in}
 
 -- ---- what is asked of the numbers
-
-abbrev pub on_rows : Measures → (heights bounds parts counts : List ℕ) → Given
-on_rows q hs bs ps ns = given q hs bs [] [] [] [] [] [] ps ns
-
--- lists say what may be taken from each budget, and what a label leaves of each
-pub record BudgetsListed (g : Given) (left : List ℕ) : Type 0 where
-  pub listed : Within g.measures.budgets g.parts g.counts
-  pub left_long : g.measures.budgets ≤ length left
 
 -- a list says what it costs the site to open a label at each slot
 pub record OpeningListed (q : Measures) (heights : List ℕ) (s : Point) (opening : List ℕ) : Type 0 where
   pub long : length heights ≤ length opening
   pub costs : (k : ℕ) → k < length heights → get_or opening k 0 ≡ open_cost q heights s k
 
--- the row of the strip p, at the word `base`, may be filled from the level at the word `low`
-pub record RowReady (l : Level) (p : Strip) (area : ℕ) : Type 0 where
-  pub ready : Ready l (budgets_in l) area
-  pub budgets : BudgetsListed l.arrays l.left
-  pub opening : OpeningListed l.arrays.measures l.arrays.heights l.site l.opening
+-- the row of the strip p, at the word `base`, stands above the level at the word `low`, which lies in an area of so many words
+pub record RowFits (l : Level) (p : Strip) (area : ℕ) : Type 0 where
+  pub apart : l.base + budgets_in l ≤ l.low
+  pub within : l.low + words_in l ≤ area
   pub lies : Lies (slots_in l) (colours_in l) p
 
 -- two rows of n words stand in an area of so many words, past the row at `base`
@@ -50,11 +41,9 @@ abbrev pub LeavesGap : Level → Strip → (k : ℕ) → Type 0
 LeavesGap l p k = (k + 1 < p.b) × (gap_left (slots_by l.arrays.measures l.arrays.heights) p l.site k ≡ true)
 
 -- so at each slot of a window, which has some
-pub record WindowReady (g : Given) (opening : List ℕ) (p : Strip) (s : Point) (low : ℕ) (w : Window) (area : ℕ) : Type 0 where
-  pub site : SiteIn g.measures s
-  pub listed : OpeningListed g.measures g.heights s opening
-  pub fits : LevelFits g.measures (length g.heights) low area
-  pub lies : Lies (length g.heights) g.measures.colours p
+pub record WindowReady (l : Level) (p : Strip) (w : Window) (area : ℕ) : Type 0 where
+  pub within : l.low + words_in l ≤ area
+  pub lies : Lies (slots_in l) (colours_in l) p
   pub some : w.from < w.to
   pub high : w.to < p.b
 
@@ -126,10 +115,10 @@ module _ (q : Measures) (heights bounds parts counts left : List ℕ) (row : Str
 abbrev pub rows_below : Level → (work : List ℕ) → Strip → (v : ℕ) → ℕ
 rows_below l work = row_in work l.low (slots_in l) (colours_in l) (budgets_in l)
 
--- the row at `base` holds what joining a label costs, whatever the bounds; nothing else changed
+-- the row at `base` holds what joining a label costs; nothing else changed
 abbrev pub RowJoined : Level → Strip → (old new : List ℕ) → Type 0
 RowJoined l p old new =
-    (bs : List ℕ) → RowIs l.base (budgets_in l) (join_entry l.arrays.measures l.arrays.heights bs (rows_below l old) p l.site) old new
+    RowIs l.base (budgets_in l) (join_entry l.arrays.measures l.arrays.heights l.arrays.bounds (rows_below l old) p l.site) old new
 
 -- the row at `base`, once a label was tried at slot k; at all slots between the strip's ends
 abbrev pub SlotTried : Level → Strip → (k : ℕ) → (old new : List ℕ) → Type 0

@@ -1,30 +1,28 @@
-// The maker's refusals before a sheet is laid out, in their order: the reader's, 18, 8 and 9.
+// The maker's refusals before an accepted sheet is laid out, in their order: 18, 8 and 9.
 ghost use Rattle.std.specs.Prelude.{◌≡◌};
 ghost use Rattle.faults.specs.Faults.{maker_fault};
+ghost use Rattle.faults.specs.Refusals.{number_in};
 
-// The reader's refusal; 18, a two-sided sheet; 8, the work area has fewer words than needed; 9, the answer area has no word more than
-// sites; or 0.
+use crate::refusal::Refusal;
+
+// TwoSided; WorkArea, the work area has fewer words than needed; AnswerArea, the answer area has no word more than sites.
 pub fn maker_fault(
-    refusal: u8,
     two_sided: bool,
     needed: usize,
     sites: usize,
     work: usize,
     out: usize,
-) -> u8
-    ensures { result ≡ maker_fault refusal two_sided needed sites work out }
+) -> Result<(), Refusal>
+    ensures { number_in result ≡ maker_fault 0 two_sided needed sites work out }
 {
-    if refusal != 0 {
-        return refusal;
-    }
     if two_sided {
-        return 18;
+        return Err(Refusal::TwoSided);
     }
     if work < needed {
-        return 8;
+        return Err(Refusal::WorkArea);
     }
     if out <= sites {
-        return 9;
+        return Err(Refusal::AnswerArea);
     }
-    0
+    Ok(())
 }

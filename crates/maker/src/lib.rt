@@ -6,6 +6,7 @@ mod binding;
 
 ghost use Rattle.std.specs.Prelude.{◌≡◌};
 ghost use Rattle.labelling.specs.Entry.{make_fault, make_answer, make_work};
+ghost use Rattle.faults.specs.Refusals.{number_in};
 ghost use Rattle.onesided.specs.Laying.{MadeBy};
 ghost use Rattle.maker.specs.Taken.{Taken};
 
@@ -13,6 +14,7 @@ use crate::binding::binding_numbers;
 use areas::zero_part;
 use decoding::Numbers;
 use faults::maker::maker_fault;
+use faults::refusal::Refusal;
 use onesided::lay_one_sided;
 use reader::opened::open_sheet;
 use reader::sizes_of;
@@ -21,9 +23,14 @@ use sizes::{product_of, work_for};
 
 // The numbers of an accepted one-sided sheet, its areas long enough: laid out without the bounds that can't bind. Where P falls, fewer
 // work words are needed, so the rest is zeroed.
-fn lay_binding(numbers: Numbers, needed: usize, work: &mut [u32], out: &mut [u32]) -> u8
+fn lay_binding(
+    numbers: Numbers,
+    needed: usize,
+    work: &mut [u32],
+    out: &mut [u32],
+) -> Result<(), Refusal>
     requires { Taken numbers needed work.old out.old }
-    ensures { MadeBy numbers work.old out.old result work.new out.new }
+    ensures { MadeBy numbers work.old out.old (number_in result) work.new out.new }
 {
     let kept = binding_numbers(numbers);
     let kinds = kept.kinds;
@@ -36,33 +43,38 @@ fn lay_binding(numbers: Numbers, needed: usize, work: &mut [u32], out: &mut [u32
         kept.sites as u32,
         budgets,
     );
-    let refusal = lay_one_sided(kept, budgets, work, out);
+    let laid = lay_one_sided(kept, budgets, work, out);
     zero_part(work, table as usize, needed);
-    refusal
+    laid
 }
 
-// 0 with the best of all layouts in the first n + 1 answer words, or a refusal 1 to 10 or 18.
-pub fn make_layout(sheet: &[u32], work: &mut [u32], out: &mut [u32]) -> u8
-    ensures value { result ≡ make_fault sheet.now work.old out.old }
+// The best of all layouts in the first n + 1 answer words, or a refusal.
+fn lay_sheet(sheet: &[u32], work: &mut [u32], out: &mut [u32]) -> Result<(), Refusal>
+    ensures value { number_in result ≡ make_fault sheet.now work.old out.old }
     ensures work_after { work.new ≡ make_work sheet.now work.old out.old }
     ensures out_after { out.new ≡ make_answer sheet.now work.old out.old }
 {
-    let numbers = match open_sheet(sheet) {
-        Ok(numbers) => numbers,
-        Err(refusal) => return refusal.number(),
-    };
+    let numbers = open_sheet(sheet)?;
     let sizes = sizes_of(numbers);
     let needed = sizes.work as usize;
-    let fault = maker_fault(
-        sizes.refusal,
+    maker_fault(
         is_two_sided(sheet),
         needed,
         sizes.n as usize,
         work.len(),
         out.len(),
-    );
-    if fault != 0 {
-        return fault;
-    }
+    )?;
     lay_binding(numbers, needed, work, out)
+}
+
+// 0 with the best of all layouts in the first n + 1 answer words, or the number of a refusal, 1 to 10 or 18.
+pub fn make_layout(sheet: &[u32], work: &mut [u32], out: &mut [u32]) -> u8
+    ensures value { result ≡ make_fault sheet.now work.old out.old }
+    ensures work_after { work.new ≡ make_work sheet.now work.old out.old }
+    ensures out_after { out.new ≡ make_answer sheet.now work.old out.old }
+{
+    match lay_sheet(sheet, work, out) {
+        Ok(()) => 0,
+        Err(refusal) => refusal.number(),
+    }
 }

@@ -1,16 +1,16 @@
 -- Marks: the first word of a strip's row is 1 where the whole sheet leads to the strip. Only marked rows are filled. Definitions.
-use Rattle.std.specs.Prelude.{◌≡◌, Bool, true, false, List, [], ℕ, ◌+◌, ◌*◌, ◌<◌, ◌≤◌, length, get_or}
+use Rattle.std.specs.Prelude.{◌≡◌, Bool, true, false, List, ℕ, ◌+◌, ◌*◌, ◌<◌, ◌≤◌, length, get_or}
 use Rattle.optimum.specs.Strips.{Point, Strip, Instance}
 use Rattle.optimum.specs.OneSided.{top_word, has_slot}
 use Rattle.optimum.specs.Reached.{Asks, Reached, no_point}
 use Rattle.arrays.specs.declared.Measures.{Measures}
-use Rattle.arrays.specs.Given.{Given, given, points_of, OfSheet, SiteIn, Bounded}
+use Rattle.arrays.specs.Given.{Given, points_of}
 use Rattle.arrays.specs.Arrays.{turn_by}
 use Rattle.strips.specs.Strips.{instance_on, rise_cost, fall_cost, risen, fallen}
 use Rattle.strips.specs.declared.Window.{Window}
 use Rattle.rows.specs.declared.End.{End}
 use Rattle.parts.specs.Parts.{Marked, Marking, PartsMarked}
-use Rattle.rows.specs.Rows.{upper_end, rows_of, level_of, Lies, end_place, LevelFits}
+use Rattle.rows.specs.Rows.{upper_end, level_of, Lies, end_place}
 use Rattle.rows.specs.Level.{Level, slots_in, colours_in, budgets_in, words_in}
 
 -- what the whole sheet leads to has this shape: its upper end stands above its lower end
@@ -40,30 +40,29 @@ pub record KeptFrom (place : ℕ) (old new : List ℕ) : Type 0 where
 -- in the level at the word `low`, of m slots, some words became 1 and nothing else changed: among them the mark of the strip's row, if it is to
 -- stay; those of the strip as a site leaves it that joins the label above, and the label below, where that is lawful; those of both parts, at
 -- each slot of a window that is not barred to the site
-abbrev pub StripMarked : Measures → (m low : ℕ) → Strip → (stays : Bool) → (old new : List ℕ) → Type 0
-StripMarked q m low p stays old new =
-    Marking old new low (rows_of m q.colours * q.budgets) × (stays ≡ true → Marked new low m q.colours q.budgets p)
+abbrev pub StripMarked : Given → (low : ℕ) → Strip → (stays : Bool) → (old new : List ℕ) → Type 0
+StripMarked g low p stays old new =
+    Marking old new low (level_of g.measures g.heights)
+    × (stays ≡ true → Marked new low (length g.heights) g.measures.colours g.measures.budgets p)
 
-abbrev pub JoinsMarked : Measures → (heights : List ℕ) → (low : ℕ) → Strip → Point → (old new : List ℕ) → Type 0
-JoinsMarked q hs low p s old new =
-    Marking old new low (level_of q hs)
-    × ((bs : List ℕ) → rise_cost q hs bs p s < top_word → Marked new low (length hs) q.colours q.budgets (risen hs p s))
-    × ((bs : List ℕ) → fall_cost q hs bs p s < top_word → Marked new low (length hs) q.colours q.budgets (fallen hs p s))
+abbrev pub JoinsMarked : Level → Strip → (old new : List ℕ) → Type 0
+JoinsMarked l p old new =
+    Marking old new l.low (words_in l)
+    × (rise_cost l.arrays.measures l.arrays.heights l.arrays.bounds p l.site < top_word → Marked new l.low (slots_in l) (colours_in l) (budgets_in l) (risen l.arrays.heights p l.site))
+    × (fall_cost l.arrays.measures l.arrays.heights l.arrays.bounds p l.site < top_word → Marked new l.low (slots_in l) (colours_in l) (budgets_in l) (fallen l.arrays.heights p l.site))
 
-abbrev pub WindowMarked : Measures → (heights : List ℕ) → (low : ℕ) → Strip → Point → Window → (old new : List ℕ) → Type 0
-WindowMarked q hs low p s w old new =
-    Marking old new low (level_of q hs) × ((k : ℕ) → w.from ≤ k → k < w.to → has_slot s.barred k ≡ false → PartsMarked q new low (length hs) p s k (turn_by hs s k))
+abbrev pub WindowMarked : Level → Strip → Window → (old new : List ℕ) → Type 0
+WindowMarked l p w old new =
+    Marking old new l.low (words_in l)
+    × ((k : ℕ) → w.from ≤ k → k < w.to → has_slot l.site.barred k ≡ false → PartsMarked l.arrays.measures new l.low (slots_in l) p l.site k (turn_by l.arrays.heights l.site k))
 
 -- rows of the level at the word `low` may be marked for the strip p
-abbrev pub StripFits : Measures → (m low : ℕ) → Strip → (area : ℕ) → Type 0
-StripFits q m low p area = LevelFits q m low area × Lies m q.colours p
+abbrev pub StripFits : Given → (low : ℕ) → Strip → (area : ℕ) → Type 0
+StripFits g low p area = (low + level_of g.measures g.heights ≤ area) × Lies (length g.heights) g.measures.colours p
 
 -- the same for what a strip asks for whose row is at the word `base`
 pub record MarkReady (l : Level) (p : Strip) (area : ℕ) : Type 0 where
-  pub sheet : OfSheet l.arrays
-  pub bounded : Bounded l.arrays
-  pub site : SiteIn l.arrays.measures l.site
-  pub fits : LevelFits l.arrays.measures (slots_in l) l.low area
+  pub fits : l.low + words_in l ≤ area
   pub lies : Lies (slots_in l) (colours_in l) p
   pub here : l.base < area
 
@@ -90,9 +89,6 @@ LevelLed l old new =
     × ((p : Strip) → Shaped (slots_in l) (colours_in l) p → Led (strips_in l) l.arrays.measures old new l.base l.low l.site p)
 
 -- ---- all levels: level j stands from word j * size on
-
-abbrev pub on_sites : Measures → (heights bounds xs ys colours : List ℕ) → Given
-on_sites q hs bs xs ys cs = given q hs bs [] [] xs ys cs [] [] []
 
 -- the levels of all sites stand in an area of so many words
 abbrev pub TableFits : Given → (area : ℕ) → Type 0

@@ -23,7 +23,9 @@ use Rattle.optimum.proofs.optimality.Order.{ordered}
 use Rattle.optimum.proofs.optimality.OneSidedAnswer.{work-cells}
 use Rattle.arrays.specs.declared.Measures.{Measures}
 use Rattle.arrays.specs.Arrays.{measures_of, bounds_of, draws_list, xs_of, ys_of, colours_of, gathered}
-use Rattle.arrays.specs.Given.{Given, given, points_of, OfSheet}
+use Rattle.arrays.specs.Given.{Given, given, points_of, OfSheet, Bounded, Ranked}
+use Rattle.arrays.specs.declared.ranked.RankedSheet.{RankedSheet}
+use Rattle.arrays.specs.Ranked.{given_of}
 use Rattle.decoding.proofs.Places.{ys-at, colours-at}
 use Rattle.decoding.proofs.Fields.{bounds-long}
 use Rattle.arrays.proofs.Ordered.{gathered-long, gathered-word}
@@ -98,9 +100,6 @@ module _ (ws : List ℕ) (f : sheet_fault ws ≡ 0) where
   lays-sheet area out one h r =
       let gx = gathered-long (xs_of s.sites) (order s) in
       record {
-        sheet = of-sheet;
-        bounded = bounds-long s.colours;
-        ranked = sym gx;
         fits = fits _ (omega (arith, gx, n-is)) (work-cells s one);
         answer_fits = omega (arith, n-is);
       }
@@ -108,6 +107,10 @@ module _ (ws : List ℕ) (f : sheet_fault ws ≡ 0) where
       fits : (size : ℕ) → length (gathered (xs_of s.sites) (order s)) ≡ length s.sites → work_for s ≡ (length s.sites + 1) * size
           → (length (gathered (xs_of s.sites) (order s)) + 1) * size ≤ area
       fits size e w = let y = ap (λ (n : ℕ). (n + 1) * size) e in omega arith
+
+  -- what is known of arrays that are equal to these; of budgets listed besides
+  pub arrays-held : (g : Given) → g ≡ arrays_of s → OfSheet g × Bounded g × Ranked g
+  arrays-held g e = subst⁻¹ (λ (z : Given). OfSheet z × Bounded z × Ranked z) e (of-sheet, bounds-long s.colours, sym (gathered-long (xs_of s.sites) (order s)))
 
   -- the same for arrays that are equal to these
   pub lays-is : (g : Given) (area : ℕ) (out : List ℕ) → g ≡ arrays_of s → s.is_two_sided ≡ false → work_for s ≤ area → length s.sites + 1 ≤ length out → LaysOut g area out
@@ -119,10 +122,34 @@ pub arrays-are : (s : Sheet) {q : Measures} {hs bs rs ds xs ys cs os : List ℕ}
 arrays-are s eq eh eb er ed r =
     λ i. given (eq i) (eh i) (eb i) (er i) (ed i) (r.xs_is i) (r.ys_is i) (r.colours_is i) (r.order_is i) [] []
 
-module _ {g : Given} {area : ℕ} {out : List ℕ} (l : LaysOut g area out) where
+-- lists of budgets have no part in what is asked of a sheet's arrays
+pub with-splits : {g : Given} → OfSheet g → (ps ns : List ℕ) → OfSheet (given g.measures g.heights g.bounds g.radices g.draws g.xs g.ys g.colours g.order ps ns)
+with-splits o ps ns =
+    record {
+      few_slots = o.few_slots;
+      few_colours = o.few_colours;
+      few_sites = o.few_sites;
+      few_budgets = o.few_budgets;
+      some_budget = o.some_budget;
+      narrow = o.narrow;
+      charge_low = o.charge_low;
+      height_low = o.height_low;
+      rising = o.rising;
+      divides = o.divides;
+      full = o.full;
+      ys_long = o.ys_long;
+      colours_long = o.colours_long;
+      site_in = o.site_in;
+      order_low = o.order_low;
+    }
+
+module _ (sheet : RankedSheet) {area : ℕ} {out : List ℕ} (l : LaysOut (given_of sheet) area out) where
+  abbrev g : Given
+  g = given_of sheet
+
   -- the levels of all sites, counted by their places
   all-levels : (length g.order + 1) * level_words g ≡ (length g.xs + 1) * level_words g
-  all-levels = ap (λ (n : ℕ). (n + 1) * level_words g) l.ranked
+  all-levels = ap (λ (n : ℕ). (n + 1) * level_words g) sheet.ranked
 
   points-are : length (points_of g) ≡ length g.xs
   points-are = points-long g.measures g.heights g.xs g.ys g.colours
@@ -140,10 +167,10 @@ module _ {g : Given} {area : ℕ} {out : List ℕ} (l : LaysOut g area out) wher
 
   pub zeros-are : (n : ℕ) → n ≡ level_words g → Zeros n
   zeros-are n e =
-      let few : length g.order + 1 ≤ most_sites + 1 = omega (arith, l.ranked, l.sheet.few_sites) in
-      let o = l.sheet in
+      let few : length g.order + 1 ≤ most_sites + 1 = omega (arith, sheet.ranked, sheet.of_sheet.few_sites) in
+      let o = sheet.of_sheet in
       record {
         small = rw e (mul-le-mul {n₂ = most_sites + 1} {m₂ = most_level} few (size (length g.heights) g.measures.colours g.measures.budgets o.few_slots o.few_colours o.few_budgets));
         within = rw e (omega (arith, l.fits, all-levels));
-        zeros = λ work. rw (e, l.ranked, points-are) refl;
+        zeros = λ work. rw (e, sheet.ranked, points-are) refl;
       }

@@ -8,7 +8,7 @@ use Rattle.optimum.specs.Budgets.{radices_of}
 use Rattle.arrays.specs.Arrays.{measures_of, bounds_of, draws_list, xs_of, ys_of, colours_of, gathered}
 use Rattle.decoding.specs.declared.Numbers.{Numbers}
 use Rattle.decoding.specs.Decoding.{numbers_by, SheetRead}
-use Rattle.arrays.specs.Given.{Given, given, OfSheet, Bounded, Ranked}
+use Rattle.arrays.specs.Given.{Given, given}
 use Rattle.marks.specs.Marks.{TableFits}
 
 -- an accepted one-sided sheet by its numbers and P, its areas long enough; the words are there for the contract alone
@@ -40,10 +40,7 @@ arrays_of s =
     given (measures_of s) s.slots (bounds_of s.colours) (radices_of s.colours) (draws_list s)
     (gathered (xs_of s.sites) (order s)) (gathered (ys_of s.sites) (order s)) (gathered (colours_of s.sites) (order s)) (order s) [] []
 
--- what is asked of the arrays where they are laid out: a table fits the work area, and the layout the answer area
+-- what is asked where a ranked sheet is laid out: a table fits the work area, and the layout the answer area
 pub record LaysOut (g : Given) (area : ℕ) (out : List ℕ) : Type 0 where
-  pub sheet : OfSheet g
-  pub bounded : Bounded g
-  pub ranked : Ranked g
   pub fits : TableFits g area
   pub answer_fits : length g.order < length out

@@ -59,12 +59,6 @@ parts-kept q old new low m size p s f h = record { upper = f.kept _ h.upper; low
 -- the rows of the two parts that a label at slot k leaves of a strip
 module _ {q : Measures} {m low area : ℕ} (r : LevelFits q m low area) (p : Strip) (s : Point) (k d : ℕ) (l : Lies m q.colours p) (c : s.c < q.colours) (b : k + 1 < p.b) (dl : d < mark_count) (upper lower : ℕ)
     (u : upper ≡ low + row_of m q.colours (upper_part d p s k) * q.budgets) (w : lower ≡ low + row_of m q.colours (lower_part p s k) * q.budgets) where
-  pub both-within : (upper < area) × (lower < area)
-  both-within = (
-    omega (arith, u, own-within r (upper_part d p s k) (upper-lies m q.colours d p s k l c b dl)),
-    omega (arith, w, own-within r (lower_part p s k) (lower-lies m q.colours p s k l c b)),
-  )
-
   pub parts-cost : (work : List ℕ) (t : ℕ) → t ≡ plus top_word (get_or work upper 0) (get_or work lower 0) → t ≡ parts_cost (row_in work low m q.colours q.budgets) p s k d
   parts-cost work t f =
       f ∙ ap₂ (plus top_word) (ap (λ (z : ℕ). get_or work z 0) (u ∙ omega arith)) (ap (λ (z : ℕ). get_or work z 0) (w ∙ omega arith))
@@ -78,10 +72,3 @@ module _ {q : Measures} {m low area : ℕ} (r : LevelFits q m low area) (p : Str
       let g = own-marking r (lower_part p s k) (lower-lies m q.colours p s k l c b) (set old upper 1) lower e w in
       let y = own-marked r (lower_part p s k) (lower-lies m q.colours p s k l c b) (set old upper 1) lower e w in
       (marking-join _ _ _ _ _ f g, record { upper = g.kept _ x; lower = y })
-
--- the same, of what the code asks and finds
-pub parts_within : {q : Measures} {m low area : ℕ} {p : Strip} {upper lower : ℕ} (s : Point) (k d : ℕ) → LevelFits q m low area × Lies m q.colours p
-    → (s.c < q.colours) × (k + 1 < p.b) × (d < mark_count)
-    → (upper ≡ low + row_of m q.colours (upper_part d p s k) * q.budgets) × (lower ≡ low + row_of m q.colours (lower_part p s k) * q.budgets)
-    → (upper < area) × (lower < area)
-parts_within s k d r c e = both-within r.0 _ s k d r.1 c.0 c.1 c.2 _ _ e.0 e.1

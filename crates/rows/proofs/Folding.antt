@@ -18,6 +18,7 @@ use Rattle.search.proofs.Sums.{listing-first, length-listing}
 use native.Mathlib.Nat.{mul-le-mul}
 use Rattle.rows.specs.Rows.{Lies, level_size}
 use Rattle.rows.proofs.Places.{row_fits, rows_few}
+use Rattle.arrays.specs.Given.{Given}
 use Rattle.rows.specs.Budgets.{Within, part_at, split_by}
 use Rattle.rows.specs.Rest.{split_row, row_start, LevelIn, join_row, fold_rows}
 use Rattle.sheet.specs.Limits.{most_slots, most_colours, most_budgets, most_level, most_rows}
@@ -31,9 +32,9 @@ pub record Joined (parts counts old work : List ℕ) (row : ℕ) (acc : List ℕ
   pub kept : (k : ℕ) → k < v → get_or acc k 0 ≡ get_or old k 0
   pub done : (k : ℕ) → v ≤ k → k < length old → get_or acc k 0 ≡ split_row parts counts old work row k
 
-pub joined-more : (parts counts old work : List ℕ) (row : ℕ) (acc : List ℕ) (v u x : ℕ) → Joined parts counts old work row acc v → u + 1 ≡ v
-    → Within (length old) parts counts → x ≡ split_by parts counts (λ w. get_or acc (0 + w) 0) (λ w. get_or work (row + w) 0) u → Joined parts counts old work row (set acc u x) u
-joined-more parts counts old work row acc v u x j e i h =
+pub joined-more : {parts counts old work : List ℕ} {row : ℕ} {acc : List ℕ} {v u x : ℕ} → Joined parts counts old work row acc v → u + 1 ≡ v
+    → Within most_budgets parts counts → length old ≤ most_budgets → x ≡ split_by parts counts (λ w. get_or acc (0 + w) 0) (λ w. get_or work (row + w) 0) u → Joined parts counts old work row (set acc u x) u
+joined-more {parts} {counts} {old} {work} {row} {acc} {v} {u} {x} j e i few h =
     record {
       long = length-set acc u x ∙ j.long;
       within = omega (arith, j.within);
@@ -46,12 +47,12 @@ joined-more parts counts old work row acc v u x j e i h =
     same : split_by parts counts (λ w. get_or acc (0 + w) 0) (λ w. get_or work (row + w) 0) u ≡ split_row parts counts old work row u
     same =
         least-cong top_word (get_or counts u 0) _ _ (λ p l.
-        let b = i.small u p (omega (arith, j.within)) l in
+        let b = i.small u p (omega (arith, j.within, few)) l in
         ap (λ (z : ℕ). plus top_word z (get_or work (row + (u - part_at parts u p)) 0)) (ap (λ (z : ℕ). get_or acc z 0) (omega arith) ∙ j.kept (part_at parts u p) (omega arith)))
 
-pub joined-all : (parts counts old work : List ℕ) (row : ℕ) (acc : List ℕ) → Joined parts counts old work row acc 0 → acc ≡ join_row parts counts old work row
+pub joined-all : {parts counts old work : List ℕ} {row : ℕ} {acc : List ℕ} → Joined parts counts old work row acc 0 → acc ≡ join_row parts counts old work row
 unfolding join_row
-joined-all parts counts old work row acc j =
+joined-all {old = old} {acc = acc} j =
     ext_get_or 0 acc _ (j.long ∙ sym (length-listing _ 0 (length old))) (λ i l. let b : i < length old = omega (arith, j.long) in j.done i (omega arith) b ∙ sym (listing-first _ (length old) i b))
 
 -- ---- where a strip's entries lie
@@ -74,18 +75,17 @@ pub record Folding (parts counts work : List ℕ) (base C R : ℕ) (L M start ac
   pub colour : ca ≤ C
   pub same : fold_rows parts counts work base (length L) C R (length L) 0 0 0 L M start ≡ fold_rows parts counts work base (length L) C R (length L - i) i a ca L M acc
 
-module _ (parts counts work : List ℕ) (base C R : ℕ) (L M start acc : List ℕ) (a ca i : ℕ) (f : Folding parts counts work base C R L M start acc a ca i) where
-  -- the strip from the last label passed to an end below it
-  pub strip_lies : LevelIn parts counts work base C R L M → (b cb d : ℕ) → b ≤ length L + 1 → cb ≤ C → d ≡ get_or M a 0
-      → Lies (length L) C (record { a = a; ca = ca; b = b; cb = cb; d = d })
-  strip_lies p b cb d h l e =
-      record { a_low = omega (arith, f.above, f.passed); ca_low = omega (arith, f.colour); b_low = omega arith; cb_low = omega arith; d_low = rw e (p.marked a) }
+-- the strip from the last label passed to an end below it; its row lies in the level
+module _ {g : Given} {work L M : List ℕ} {base : ℕ} (p : LevelIn g work base L M) {start acc : List ℕ} {a ca i : ℕ} (f : Folding g.parts g.counts work base g.measures.colours g.measures.budgets L M start acc a ca i) (b cb : ℕ) {d : ℕ} where
+  pub strip_lies : b ≤ length L + 1 → cb ≤ g.measures.colours → d ≡ get_or M a 0 → Lies (length g.heights) g.measures.colours (record { a = a; ca = ca; b = b; cb = cb; d = d })
+  strip_lies h l e =
+      record { a_low = omega (arith, f.above, f.passed, p.long); ca_low = omega (arith, f.colour); b_low = omega (arith, p.long); cb_low = omega arith; d_low = rw e (p.marked a) }
 
-  -- its row lies in the level
-  pub row_inside : LevelIn parts counts work base C R L M → (b cb d row : ℕ) → b ≤ length L + 1 → cb ≤ C → d ≡ get_or M a 0
-      → row ≡ row_start (length L) C R a ca b cb d → base + row + R ≤ length work
-  row_inside p b cb d row h l e r = omega (arith, r, row_fits (length L) C R _ (strip_lies p b cb d h l e), p.within)
+  pub row_inside : {row : ℕ} → b ≤ length L + 1 → cb ≤ g.measures.colours → d ≡ get_or M a 0 → row ≡ row_start (length g.heights) g.measures.colours g.measures.budgets a ca b cb d
+      → base + row + g.measures.budgets ≤ length work
+  row_inside h l e r = omega (arith, r, row_fits (length g.heights) g.measures.colours g.measures.budgets _ (strip_lies h l e), p.within)
 
+module _ {parts counts work : List ℕ} {base C R : ℕ} {L M start acc : List ℕ} {a ca i : ℕ} (f : Folding parts counts work base C R L M start acc a ca i) where
   step : i < length L → fold_rows parts counts work base (length L) C R (length L - i) i a ca L M acc ≡ fold_rows parts counts work base (length L) C R (suc (length L - (i + 1))) i a ca L M acc
   step l = ap (λ (r : ℕ). fold_rows parts counts work base (length L) C R r i a ca L M acc) (omega arith)
 
@@ -102,10 +102,10 @@ module _ (parts counts work : List ℕ) (base C R : ℕ) (L M start acc : List �
   folding-join l n h =
       record { long = join-long parts counts acc work _ ∙ f.long; passed = omega arith; above = omega arith; colour = h; same = f.same ∙ step l ∙ rw (ne_eqb (get_or L i 0) 0 n, add-one i) }
 
-pub folding-all : (parts counts work : List ℕ) (base C R : ℕ) (L M start acc : List ℕ) (a ca i : ℕ) → Folding parts counts work base C R L M start acc a ca i → length L ≤ i
+pub folding-all : {parts counts work : List ℕ} {base C R : ℕ} {L M start acc : List ℕ} {a ca i : ℕ} → Folding parts counts work base C R L M start acc a ca i → length L ≤ i
     → join_row parts counts acc work (base + row_start (length L) C R a ca (length L + 1) 0 (get_or M a 0)) ≡ fold_rows parts counts work base (length L) C R (length L) 0 0 0 L M start
 unfolding fold_rows
-folding-all parts counts work base C R L M start acc a ca i f h =
+folding-all {L = L} {i = i} f h =
     let e : i ≡ length L = omega (arith, f.passed) in
     let z : length L - i ≡ 0 = omega arith in
     sym (f.same ∙ rw z (rw (e, add-one (length L))))

@@ -6,7 +6,9 @@ use native.Mathlib.Omega.{arith}
 use lib.ListN.{length}
 use Rattle.sheet.specs.Limits.{most_budgets, most_sites, most_rows, most_level, most_table}
 use Rattle.arrays.specs.Given.{Given, OfSheet}
+use Rattle.rows.specs.declared.level.TableLevel.{TableLevel}
 use Rattle.rows.specs.Rows.{level_of, LevelFits}
+use Rattle.rows.specs.Level.{level_in, words_in, Ready}
 use Rattle.rows.proofs.Places.{rows_few}
 
 pub next_level : (j size : ℕ) → (j + 1) * size ≡ j * size + size
@@ -54,3 +56,7 @@ few n h = omega arith
 -- the last level stands in an area that has n + 1 of them
 pub last_within : (n size level area now : ℕ) → size ≡ level → (n + 1) * level ≤ area → now ≡ area → n * size + size ≤ now
 last_within n size level area now e h l = rw (e, l) (omega (arith, h))
+
+-- a level and the one below it, in an area that has both
+pub ready_of : (v : TableLevel) {area : ℕ} → v.low + words_in (level_in v) ≤ area → Ready (level_in v) (words_in (level_in v)) area
+ready_of v h = record { sheet = v.sheet.now.of_sheet; site = v.site_in; apart = v.apart; within = h }

@@ -1,12 +1,13 @@
 -- How the lists grow, number by number and row by row. Assumes nothing.
 use mathlib.Core.Path.{◌≡◌, refl, ◌∙◌}
 use mathlib.Core.Bool.{true, false}
+use mathlib.Core.Logic.{∥∥₁_map}
 use mathlib.Core.List.{List}
-use Prim.Native.Nat.{ℕ, ◌+◌, ◌<◌, min}
+use Prim.Native.Nat.{ℕ, zero, suc, ◌+◌, ◌<◌, min}
 use native.Mathlib.Omega.{arith}
 use native.Mathlib.Numerals.{add-one}
 use Rattle.std.proofs.Common.{add-zero}
-use lib.ListN.{length, get_or, set}
+use lib.ListN.{length, get_or, set, replicate}
 use mir.Val.{bool_byte}
 use lib.Seq.{get_or-set_same, get_or-set_other}
 use Rattle.lists.proofs.Tests.{by-test, by_order, clash}
@@ -35,8 +36,8 @@ listed_more rs v w n old at t same last r = record {
   small = λ i l. by_order n i (λ h. let q : i ≡ n = omega arith in rw (q, last) (omega arith)) (λ h. omega (arith, r.small i h, same i h));
   sound = λ i l. by_order n i (λ h. let q : i ≡ n = omega arith in rw (q, last) t) (λ h. rw (same i h) (r.sound i h));
   whole = λ x l e. by_order w x
-      (λ h. (n, omega arith, last ∙ omega arith))
-      (λ h. let q = r.whole x h e in (q.0, omega (arith, q.1), same q.0 q.1 ∙ q.2));
+      (λ h. ∣ (n, omega arith, last ∙ omega arith) ∣₁)
+      (λ h. ∥∥₁_map (r.whole x h e) (λ q. (q.0, omega (arith, q.1), same q.0 q.1 ∙ q.2)));
 }
 
 pub listed_same : (rs : List ℕ) (v w n : ℕ) (old at : ℕ → ℕ) → ((i : ℕ) → i < n → at i ≡ old i) → Listed rs v w n old → Listed rs v w n at
@@ -44,7 +45,7 @@ listed_same rs v w n old at same r = record {
   few = r.few;
   small = λ i l. omega (arith, r.small i l, same i l);
   sound = λ i l. rw (same i l) (r.sound i l);
-  whole = λ x l e. let q = r.whole x l e in (q.0, q.1, same q.0 q.1 ∙ q.2);
+  whole = λ x l e. ∥∥₁_map (r.whole x l e) (λ q. (q.0, q.1, same q.0 q.1 ∙ q.2));
 }
 
 -- the next number is written down, and counted if it may be taken
@@ -79,3 +80,9 @@ entries-more Q l v n h f q x l1 =
     by_order v x
     (λ k. let e : x ≡ v = omega arith in rw (e, get_or-set_same l v n 0 h) q)
     (λ k. rw (get_or-set_other l v x n 0 (λ e. omega arith)) (f x k))
+
+-- an area of zeros
+pub zeros : (n i : ℕ) → get_or (replicate {A = ℕ} n 0) i 0 ≡ 0
+zeros zero i = refl
+zeros (suc n) zero = refl
+zeros (suc n) (suc i) = zeros n i

@@ -2,6 +2,8 @@
 use mathlib.Core.Path.{◌≡◌}
 use mathlib.Core.Bool.{true}
 use mathlib.Core.List.{List}
+use mathlib.Core.Logic.{∥∥₁_elim}
+use Rattle.std.proofs.Math.Bridge.{le_prop}
 use Prim.Native.Nat.{ℕ, ◌-◌, ◌<◌, ◌≤◌}
 use native.Mathlib.Nat.{le_antisymm}
 use native.Mathlib.Omega.{arith}
@@ -13,9 +15,9 @@ use Rattle.search.proofs.Split.{conv-le-top, conv-low, conv-most}
 use Rattle.search.specs.Radix.{below}
 use Rattle.search.proofs.Radix.{below-splits}
 use Rattle.optimum.specs.OneSided.{top_word}
-use Rattle.rows.specs.Budgets.{Splits, part_at, split_by}
+use Rattle.rows.specs.Budgets.{SplitsOf, part_at, split_by}
 
-pub split-by : (rs : List ℕ) (P : ℕ) (parts counts : List ℕ) → Splits rs P parts counts → (f g : ℕ → ℕ) (u : ℕ) → u < P
+pub split-by : (rs : List ℕ) (P : ℕ) (parts counts : List ℕ) → SplitsOf rs P parts counts → (f g : ℕ → ℕ) (u : ℕ) → u < P
     → split_by parts counts f g u ≡ conv top_word (below rs) f g u
 split-by rs P parts counts s f g u h =
     le_antisymm
@@ -24,5 +26,5 @@ split-by rs P parts counts s f g u h =
   where
     listed : (w : ℕ) → below rs w u ≡ true → split_by parts counts f g u ≤ plus top_word (f w) (g (u - w))
     listed w e =
-        let q = (s.listed u h).whole w (omega (arith, (below-splits rs).fits w u e)) e in
-        rw q.2 at (least-le top_word (get_or counts u 0) (λ i. plus top_word (f (part_at parts u i)) (g (u - part_at parts u i))) q.0 q.1)
+        ∥∥₁_elim ((s.listed u h).whole w (omega (arith, (below-splits rs).fits w u e)) e) le_prop
+        (λ q. rw q.2 at (least-le top_word (get_or counts u 0) (λ i. plus top_word (f (part_at parts u i)) (g (u - part_at parts u i))) q.0 q.1))

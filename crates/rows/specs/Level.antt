@@ -2,7 +2,9 @@
 use Rattle.std.specs.Prelude.{List, [], ℕ, ◌+◌, ◌≤◌, length}
 use Rattle.optimum.specs.Strips.{Point}
 use Rattle.arrays.specs.Given.{Given, OfSheet, SiteIn}
-use Rattle.rows.specs.Rows.{level_of}
+use Rattle.arrays.specs.Ranked.{given_of}
+use Rattle.rows.specs.declared.level.TableLevel.{TableLevel}
+use Rattle.rows.specs.Rows.{point_of, level_of}
 
 -- the arrays of the sheet; what a label of the next site's colour leaves of each budget, and what it costs that site to open one at
 -- each slot; that site; the word at which the level, or one of its rows, begins; and the word at which the level below it begins.
@@ -21,6 +23,13 @@ filling g left opening s base low = record { arrays = g; left = left; opening = 
 -- where a function is given no such costs
 abbrev pub level : Given → (left : List ℕ) → Point → (base low : ℕ) → Level
 level g left s base low = filling g left [] s base low
+
+-- the level that code is given; one of its rows, which begins at the word `at`
+abbrev pub row_at : TableLevel → (at : ℕ) → Level
+row_at v at = level (given_of v.sheet.now) [] (point_of v.site) at v.low
+
+abbrev pub level_in : TableLevel → Level
+level_in v = row_at v v.base
 
 abbrev pub slots_in : Level → ℕ
 slots_in l = length l.arrays.heights

@@ -2,22 +2,27 @@
 #![tactic(auto)]
 
 pub mod budgets;
+pub mod level;
 pub mod rest;
 
-ghost use Rattle.std.specs.Prelude.{◌≡◌, List, ℕ, ◌+◌, ◌*◌, ◌<◌, ◌≤◌, length};
-ghost use Rattle.sheet.specs.Limits.{most_slots, most_colours, most_budgets};
+ghost use Rattle.std.specs.Prelude.{◌≡◌, ◌+◌, ◌*◌, ◌<◌, ◌≤◌, length};
+ghost use Rattle.sheet.specs.Limits.{most_slots, most_colours};
 ghost use Rattle.optimum.specs.Strips as model;
 ghost use Rattle.optimum.specs.OneSided.{mark_count};
-ghost use Rattle.arrays.specs.Arrays.{instance_by, point_by};
-ghost use Rattle.arrays.specs.declared.Measures as measured;
-ghost use Rattle.rows.specs.Rows.{strip_of, point_of, row_of, rows_of, most_place, Lies, marked_by, upper_part, lower_part, end_place, low_place, upper_end, LevelFits};
+ghost use Rattle.arrays.specs.Given.{instance_of, point_in};
+ghost use Rattle.arrays.specs.Ranked.{given_of, slot_count, colour_count};
+ghost use Rattle.rows.specs.Rows.{strip_of, point_of, row_of, rows_of, level_of, most_place, Lies, marked_by, upper_part, lower_part, end_place, low_place, upper_end};
 
-use arrays::Measures;
+use arrays::ranked::RankedSheet;
+use tips::barred_of;
 
 // How many marks a strip may have, optimum/specs/OneSided has the number for definitions; and the last of them.
 const MARK_COUNT: usize = 1;
 
 pub const LAST_MARK: u32 = 0;
+
+// That a strip lies between edges or labels of a sheet (Lies) and that a site is a sheet's (SiteIn) ties two values, so each stays a clause
+// of the functions that take both.
 
 // A strip: the labels above and below it (0: the top edge, k + 1: slot k, m + 1: the bottom edge) and their colours (0: none, c + 1: colour c);
 // d is the mark that the last site tied in it left.
@@ -54,45 +59,38 @@ pub struct PartRows {
 }
 
 // The site of rank j.
-pub fn site_at(
-    q: Measures,
-    heights: &[u32],
-    xs: &[u32],
-    ys: &[u32],
-    colours: &[u32],
-    j: usize,
-) -> Site
-    requires { (length heights.now ≤ most_slots) × (j < length xs.now) × (j < length ys.now) × (j < length colours.now) }
-    ensures { point_of result ≡ point_by q heights.now xs.now ys.now colours.now j }
+pub fn site_at(sheet: &RankedSheet, j: usize) -> Site
+    requires { j < length sheet.now.xs.now }
+    ensures { point_of result ≡ point_in (given_of sheet.now) j }
 {
-    let x = xs[j];
-    let y = ys[j];
-    let c = colours[j];
-    let barred = tips::barred_of(q, heights, xs, ys, j);
-    Site { x, y, c, barred }
+    Site {
+        x: sheet.xs[j],
+        y: sheet.ys[j],
+        c: sheet.colours[j],
+        barred: barred_of(sheet, j),
+    }
 }
 
 // How many rows a level has.
-pub fn rows_of(q: Measures, m: usize) -> usize
-    requires { (m ≤ most_slots) × (q.colours ≤ most_colours) }
-    ensures { result ≡ rows_of m q.colours }
+#[tactic(auto, unfolding(optimum::specs::OneSided::mark_count))]
+pub fn rows_of(sheet: &RankedSheet) -> usize
+    ensures { result ≡ rows_of (slot_count sheet.now) (colour_count sheet.now) }
 {
-    let colours = (q.colours as usize) + 1;
-    let ends = m + 2;
+    let colours = sheet.measures.colours as usize + 1;
+    let ends = sheet.heights.len() + 2;
     ends * colours * ends * colours * MARK_COUNT
 }
 
 // The place of a strip's row in its level.
-pub fn row_place(q: Measures, m: usize, p: Strip) -> usize
-    requires m_le_most_slots { (m ≤ most_slots) × (q.colours ≤ most_colours) × (q.budgets ≤ most_budgets) }
-    requires lies { Lies m q.colours (strip_of p) }
-    ensures { result ≡ row_of m q.colours (strip_of p) * q.budgets }
+pub fn row_place(sheet: &RankedSheet, p: Strip) -> usize
+    requires { Lies (slot_count sheet.now) (colour_count sheet.now) (strip_of p) }
+    ensures { result ≡ row_of (slot_count sheet.now) (colour_count sheet.now) (strip_of p) * sheet.now.measures.budgets }
 {
-    let colours = (q.colours as usize) + 1;
-    let ends = m + 2;
-    let upper = (p.a as usize) * colours + (p.ca as usize);
-    let strip = (upper * ends + (p.b as usize)) * colours + (p.cb as usize);
-    (strip * MARK_COUNT + (p.d as usize)) * (q.budgets as usize)
+    let colours = sheet.measures.colours as usize + 1;
+    let ends = sheet.heights.len() + 2;
+    let upper = p.a as usize * colours + p.ca as usize;
+    let strip = (upper * ends + p.b as usize) * colours + p.cb as usize;
+    (strip * MARK_COUNT + p.d as usize) * sheet.measures.budgets as usize
 }
 
 // A strip with another mark.
@@ -103,29 +101,28 @@ pub fn marked_by(p: Strip, d: u32) -> Strip
 }
 
 // The places of the rows of the two parts that a label at slot k leaves of a strip; the site leaves the mark d in the upper one.
-pub fn part_places(q: Measures, m: usize, p: Strip, s: Site, low: usize, k: u32, d: u32) -> PartRows
-    requires level_fits { LevelFits q m low most_place }
-    requires lies { Lies m q.colours (strip_of p) × (s.c < q.colours) × (k + 1 < p.b) × (d < mark_count) }
-    ensures { (result.upper ≡ low + row_of m q.colours (upper_part d (strip_of p) (point_of s) k) * q.budgets) × (result.lower ≡ low + row_of m q.colours (lower_part (strip_of p) (point_of s) k) * q.budgets) }
+pub fn part_places(sheet: &RankedSheet, p: Strip, s: Site, low: usize, k: u32, d: u32) -> PartRows
+    requires level_fits { low + level_of sheet.now.measures sheet.now.heights.now ≤ most_place }
+    requires lies { Lies (slot_count sheet.now) (colour_count sheet.now) (strip_of p) × (s.c < sheet.now.measures.colours) × (k + 1 < p.b) × (d < mark_count) }
+    ensures places { (result.upper ≡ low + row_of (slot_count sheet.now) (colour_count sheet.now) (upper_part d (strip_of p) (point_of s) k) * sheet.now.measures.budgets) × (result.lower ≡ low + row_of (slot_count sheet.now) (colour_count sheet.now) (lower_part (strip_of p) (point_of s) k) * sheet.now.measures.budgets) }
+    ensures within { (result.upper < low + level_of sheet.now.measures sheet.now.heights.now) × (result.lower < low + level_of sheet.now.measures sheet.now.heights.now) }
 {
     let c = s.c + 1;
     let upper = Strip {
-        a: p.a,
-        ca: p.ca,
         b: k + 1,
         cb: c,
-        d: d,
+        d,
+        ..p
     };
     let lower = Strip {
         a: k + 1,
         ca: c,
-        b: p.b,
-        cb: p.cb,
         d: 0,
+        ..p
     };
     PartRows {
-        upper: low + row_place(q, m, upper),
-        lower: low + row_place(q, m, lower),
+        upper: low + row_place(sheet, upper),
+        lower: low + row_place(sheet, lower),
     }
 }
 
@@ -136,8 +133,8 @@ pub fn next_end(colours: u32, e: End) -> End
 {
     if e.colour < colours {
         return End {
-            slot: e.slot,
             colour: e.colour + 1,
+            ..e
         };
     }
     End {
@@ -147,6 +144,7 @@ pub fn next_end(colours: u32, e: End) -> End
 }
 
 // The strip below the same upper end whose row comes next: by the mark, then by the lower end.
+#[tactic(auto, unfolding(optimum::specs::OneSided::mark_count))]
 pub fn next_below(colours: u32, p: Strip) -> Strip
     requires { (colours ≤ most_colours) × (p.b ≤ most_slots + 2) × (p.cb ≤ colours) × (p.d < mark_count) }
     ensures { (result.a ≡ p.a) × (result.ca ≡ p.ca) × (result.cb ≤ colours) × (result.d < mark_count) × (low_place colours (strip_of result) ≡ low_place colours (strip_of p) + 1) }
@@ -154,13 +152,11 @@ pub fn next_below(colours: u32, p: Strip) -> Strip
     if (p.d as usize) + 1 < MARK_COUNT {
         return Strip { d: p.d + 1, ..p };
     }
-    let e = next_end(
-        colours,
-        End {
-            slot: p.b,
-            colour: p.cb,
-        },
-    );
+    let lower = End {
+        slot: p.b,
+        colour: p.cb,
+    };
+    let e = next_end(colours, lower);
     Strip {
         b: e.slot,
         cb: e.colour,
@@ -169,6 +165,7 @@ pub fn next_below(colours: u32, p: Strip) -> Strip
     }
 }
 
+#[tactic(auto, unfolding(crate::specs::Rows::upper_end))]
 pub fn is_upper_end(e: End) -> bool
     ensures { result ≡ upper_end e.slot e.colour }
 {
@@ -180,16 +177,16 @@ pub fn is_upper_end(e: End) -> bool
 }
 
 // The strip that holds the height y, with its mark.
-pub fn hold_of(heights: &[u32], labels: &[u32], marks: &[u32], y: u32) -> Strip
-    requires { (length labels.now ≡ length heights.now) × (length heights.now ≤ most_slots) }
-    ensures { (q : measured.Measures) (bs rs ds : List ℕ) → strip_of result ≡ model.hold (instance_by q heights.now bs rs ds) labels.now marks.now y }
+pub fn hold_of(sheet: &RankedSheet, labels: &[u32], marks: &[u32], y: u32) -> Strip
+    requires { length labels.now ≡ length sheet.now.heights.now }
+    ensures { strip_of result ≡ model.hold (instance_of (given_of sheet.now)) labels.now marks.now y }
 {
     let mut a = 0;
     let mut ca = 0;
     for (i, &cb) in labels.iter().enumerate() {
         if cb != 0 {
             let b = i as u32 + 1;
-            if y < heights[i] {
+            if y < sheet.heights[i] {
                 let d = words::get(marks, a);
                 return Strip { a, ca, b, cb, d };
             }

@@ -1,6 +1,6 @@
 -- The slots that leave the gap to both ends of a strip are consecutive, since heights rise. Assumes nothing but that.
 use mathlib.Core.Path.{◌≡◌, refl, sym, ap₂, ◌∙◌}
-use mathlib.Core.Bool.{Bool, true, false, ◌&&◌}
+use mathlib.Core.Bool.{true, false, ◌&&◌}
 use mathlib.Core.List.{List}
 use Prim.Native.Nat.{ℕ, zero, suc, ◌+◌, ◌-◌, ◌<◌, ◌≤◌}
 use native.Mathlib.Omega.{arith}
@@ -18,14 +18,6 @@ use Rattle.optimum.proofs.Slots.{rise-le}
 use Rattle.arrays.specs.Arrays.{slots_by}
 use Rattle.strips.specs.declared.Window.{Window}
 use Rattle.strips.specs.Strips.{gap_left, FirstFar, FarEnd, WindowOf}
-
--- ---- the two scans: one slot more is near its end
-
-pub near_down : (t : ℕ → Bool) (a k : ℕ) → ((j : ℕ) → a ≤ j → j < k → t j ≡ false) → t k ≡ false → (j : ℕ) → a ≤ j → j < k + 1 → t j ≡ false
-near_down t a k h e j l u = by_order k j (λ i. let f : j ≡ k = omega arith in rw f e) (λ i. h j l i)
-
-pub near_up : (t : ℕ → Bool) (b k : ℕ) → ((j : ℕ) → k ≤ j → j + 1 < b → t j ≡ false) → t (k - 1) ≡ false → (j : ℕ) → k - 1 ≤ j → j + 1 < b → t j ≡ false
-near_up t b k h e j l u = by_order k j (λ i. h j i u) (λ i. let f : j ≡ k - 1 = omega arith in rw f e)
 
 -- ---- the window
 

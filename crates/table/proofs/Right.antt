@@ -23,7 +23,7 @@ use Rattle.arrays.specs.declared.Measures.{Measures}
 use Rattle.arrays.specs.Arrays.{turn_by}
 use Rattle.arrays.specs.Given.{Given, instance_of, point_in, points_of, OfSheet, SiteIn}
 use Rattle.strips.specs.Strips.{instance_on}
-use Rattle.rows.specs.Budgets.{Others, Splits, left_by}
+use Rattle.rows.specs.Budgets.{Others, SplitsOf, left_by}
 use Rattle.rows.specs.Rows.{row_of, rows_of, row_in, level_of, upper_part, lower_part}
 use Rattle.rows.proofs.Places.{row_low, row_fits}
 use Rattle.entries.proofs.Entries.{Falls, cell_row, entry-by}
@@ -34,7 +34,7 @@ use Rattle.arrays.proofs.Points.{points-long, point-at}
 use Rattle.marks.proofs.Points.{drop-point}
 use Rattle.marks.proofs.Asked.{asks-parts}
 use Rattle.marks.proofs.Reach.{asks-by, reached-on, reached-shape}
-use Rattle.table.specs.Levels.{RowFilled, TableReady, LevelRight, LevelMarked}
+use Rattle.table.specs.Levels.{RowFilled, LevelRight, LevelMarked}
 
 module _ {g : Given} (o : OfSheet g) where
   abbrev q : Measures
@@ -84,7 +84,7 @@ module _ {g : Given} (o : OfSheet g) where
 
   -- a level from the one below it
   pub level-right : (old new parts counts left : List ℕ) (j base low : ℕ) (s : Point) → s ≡ point_in g j
-      → Splits rs q.budgets parts counts → j < length xs
+      → SplitsOf rs q.budgets parts counts → j < length xs
       → ((v : ℕ) → v < q.budgets → get_or left v 0 ≡ left_by rs (get_or ds s.c 0) v)
       → ((p : Strip) → Shaped (length hs) q.colours p → RowFilled q hs bs parts counts left old new base low s p)
       → LevelMarked P q ss j old base → LevelRight P q ss (j + 1) old low → LevelRight P q ss j new base
@@ -185,7 +185,3 @@ module _ {g : Given} (o : OfSheet g) where
       past i =
           let s = ap (λ (z : ℕ). (length xs + 1) * z) e in
           d.past _ (omega arith) ∙ c.after _ (omega (arith, next_level (length xs) size)) ∙ m _ (omega arith)
-
--- the same in an area of the same length
-pub ready-area : {g : Given} {area now : ℕ} → TableReady g area → now ≡ area → TableReady g now
-ready-area r e = rw e r

@@ -4,21 +4,14 @@ use Rattle.search.specs.Plan.{T}
 use Rattle.optimum.specs.Strips.{Point, Strip, Instance, rules_of}
 use Rattle.optimum.specs.Reached.{Reached, TableOf}
 use Rattle.arrays.specs.declared.Measures.{Measures}
-use Rattle.arrays.specs.Given.{Given, instance_of, points_of, OfSheet, Bounded}
+use Rattle.arrays.specs.Given.{Given, instance_of, points_of}
 use Rattle.rows.specs.declared.End.{End}
-use Rattle.rows.specs.Budgets.{Others, Splits}
+use Rattle.rows.specs.Budgets.{Others}
 use Rattle.rows.specs.Rows.{row_of, level_of, row_in, end_place, end_words}
 use Rattle.parts.specs.Parts.{Marked}
-use Rattle.rows.specs.Level.{Level, slots_in, colours_in, words_in, Ready}
-use Rattle.marks.specs.Marks.{Shaped, HasEnd, TableFits}
-use Rattle.entries.specs.Entries.{BudgetsListed, OpeningListed, entry_by}
-
--- the level at the word `base` may be filled from the one at the word `low`
-pub record LevelReady (l : Level) (area : ℕ) : Type 0 where
-  pub ready : Ready l (words_in l) area
-  pub budgets : BudgetsListed l.arrays l.left
-  pub opening : OpeningListed l.arrays.measures l.arrays.heights l.site l.opening
-  pub bounded : Bounded l.arrays
+use Rattle.rows.specs.Level.{Level, slots_in, colours_in, words_in}
+use Rattle.marks.specs.Marks.{Shaped, HasEnd}
+use Rattle.entries.specs.Entries.{entry_by}
 
 -- if the strip p was marked, its row holds its entries, worked out from the rows of the level at the word `low`
 abbrev pub RowFilled : (q : Measures) → (heights bounds parts counts left old new : List ℕ) → (base low : ℕ) → Point → Strip → Type 0
@@ -41,13 +34,6 @@ abbrev pub LevelFilled : Level → (old new : List ℕ) → Type 0
 LevelFilled l old new = Others old new l.base (words_in l) × ((p : Strip) → Shaped (slots_in l) (colours_in l) p → StripFilled l old new p)
 
 -- ---- all levels
-
--- what the table is filled from: the arrays of a sheet, and lists of what may be taken from each budget; it fits the area
-pub record TableReady (g : Given) (area : ℕ) : Type 0 where
-  pub sheet : OfSheet g
-  pub bounded : Bounded g
-  pub splits : Splits g.radices g.measures.budgets g.parts g.counts
-  pub fits : TableFits g area
 
 -- level j of the table of the sites ss, which begins at the word `base`: right at every strip that is asked for; marked there
 abbrev pub LevelRight : (P : Instance) → Measures → List Point → (j : ℕ) → (work : List ℕ) → (base : ℕ) → Type 0

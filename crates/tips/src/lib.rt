@@ -6,7 +6,7 @@ ghost use Rattle.std.specs.Prelude.{◌≡◌, ◌<◌, ◌≤◌, length};
 ghost use Rattle.sheet.specs.Limits.{most_slots};
 ghost use Rattle.arrays.specs.Arrays.{near_slots, barred_by};
 
-use arrays::Measures;
+use arrays::ranked::RankedSheet;
 use rules::rule_5::{is_clear, is_counted};
 // The slots that are not clear of a site of height y, as bits.
 fn near_slots(gap: u32, heights: &[u32], y: u32) -> u64
@@ -21,16 +21,16 @@ fn near_slots(gap: u32, heights: &[u32], y: u32) -> u64
 }
 
 // The slots at which the site of rank j may open no label, as bits.
-pub fn barred_of(q: Measures, heights: &[u32], xs: &[u32], ys: &[u32], j: usize) -> u64
-    requires { (length heights.now ≤ most_slots) × (j < length xs.now) × (j < length ys.now) }
-    ensures { result ≡ barred_by q heights.now xs.now ys.now j }
+pub fn barred_of(sheet: &RankedSheet, j: usize) -> u64
+    requires { j < length sheet.now.xs.now }
+    ensures { result ≡ barred_by sheet.now.measures sheet.now.heights.now sheet.now.xs.now sheet.now.ys.now j }
 {
-    let gap = q.head.gap;
-    let x = xs[j];
+    let gap = sheet.measures.head.gap;
+    let x = sheet.xs[j];
     let mut barred: u64 = 0;
     for i in 0..j {
-        if is_counted(gap, x, xs[i]) {
-            barred |= near_slots(gap, heights, ys[i]);
+        if is_counted(gap, x, sheet.xs[i]) {
+            barred |= near_slots(gap, sheet.heights, sheet.ys[i]);
         }
     }
     barred

@@ -17,6 +17,8 @@ use Rattle.search.specs.Walk.{choose_by, walk_by}
 use Rattle.arrays.specs.declared.Measures.{Measures}
 use Rattle.arrays.proofs.Points.{points-long, point-at}
 use Rattle.arrays.specs.Given.{Given, instance_of, point_in, points_of, SiteIn}
+use Rattle.arrays.specs.declared.ranked.RankedSheet.{RankedSheet}
+use Rattle.arrays.specs.Ranked.{given_of}
 use Rattle.optimum.specs.Strips.{Point, Strip, Instance, State, hold, price, next, labels, marked}
 use Rattle.labelling.specs.Layout.{tie_word}
 use Rattle.optimum.specs.OneSided.{top_word, mark_count, write_ties}
@@ -30,7 +32,11 @@ use Rattle.arrays.specs.Arrays.{turn_by}
 use Rattle.arrays.proofs.Marks.{turn_low}
 use Rattle.optimum.proofs.StripsHeld.{hold-low}
 use Rattle.strips.specs.Steps.{price_in, budget_left}
-use Rattle.walk.specs.Walk.{Found, value_in, worth_in, level_words, WalkIn, Standing, tied_from}
+use Rattle.walk.specs.Walk.{Found, value_in, worth_in, level_words, LevelsFit, WalkIn, Standing, tied_from}
+
+-- what a ranked sheet says of itself is enough
+pub walk-in : (s : RankedSheet) {work : List ℕ} → LevelsFit (given_of s) work → WalkIn (given_of s) work
+walk-in s h = record { sheet = s.of_sheet; bounded = s.bounded; ranked = s.ranked; splits = s.listed; whole = h }
 
 module _ {g : Given} {work : List ℕ} (a : WalkIn g work) where
   abbrev q : Measures
@@ -67,13 +73,11 @@ module _ {g : Given} {work : List ℕ} (a : WalkIn g work) where
 
   -- the level of the sites after the first j
   pub level-of : (j : ℕ) (L M out : List ℕ) (v here : ℕ) → j < length order → Standing g work L M out j v here
-      → LevelIn g.parts g.counts work ((j + 1) * level_words g) q.colours q.budgets L M
+      → LevelIn g work ((j + 1) * level_words g) L M
   level-of j L M out v here l w =
       record {
-        few_slots = rw w.labels_long a.sheet.few_slots;
-        few_colours = a.sheet.few_colours;
-        splits = a.splits.within;
-        within = rw w.labels_long (let m = mul-le-mul_right (level_words g) later in omega (arith, m, a.whole));
+        long = w.labels_long;
+        within = let m = mul-le-mul_right (level_words g) later in omega (arith, m, a.whole);
         coloured = w.coloured;
         marked = w.marked;
       }

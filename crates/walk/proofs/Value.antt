@@ -29,7 +29,7 @@ use Rattle.optimum.proofs.Loops.{first_under, walk_step}
 use Rattle.optimum.proofs.Reached.{reached-next, reached-rows}
 use Rattle.optimum.proofs.StripsHeld.{next-fit}
 use Rattle.arrays.proofs.Marks.{turn_low}
-use Rattle.rows.specs.Budgets.{Splits}
+use Rattle.rows.specs.Budgets.{SplitsOf}
 use Rattle.rows.proofs.Splitting.{split-by}
 use Rattle.rows.specs.Rows.{level_size}
 use Rattle.rows.specs.Rest.{row_start, split_row, join_row, fold_rows, rest_rows}
@@ -44,7 +44,7 @@ module _ (q : Measures) (hs bs rs ds : List ℕ) where
     pub level-cells : cells P C R ≡ level_size (length hs) C R
     level-cells = refl
 
-    module _ (right : Splits rs R parts counts) where
+    module _ (right : SplitsOf rs R parts counts) where
       join-same : (base : ℕ) (acc : List ℕ) (a ca b cb d : ℕ) → length acc ≡ R
           → join_row parts counts acc work (base + row_start (length hs) C R a ca b cb d) ≡ join_cells P C R (drop base work) acc (record { a = a; ca = ca; b = b; cb = cb; d = d })
       unfolding join_row join_cells conv

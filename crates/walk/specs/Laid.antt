@@ -8,7 +8,7 @@ use Rattle.optimum.specs.Reached.{TableOf}
 use Rattle.arrays.specs.declared.Measures.{Measures}
 use Rattle.arrays.specs.Given.{Given, instance_of, points_of}
 use Rattle.costs.specs.Costs.{first_word_by}
-use Rattle.walk.specs.Walk.{WalkIn, level_words}
+use Rattle.walk.specs.Walk.{LevelsFit, level_words}
 
 -- no label is open, and the budget is full: R budgets
 abbrev pub empty_sheet : (P : Instance) → (R : ℕ) → State P
@@ -41,8 +41,8 @@ laid_out g out = out_by (instance_of g) g.measures (points_of g) g.order out
 abbrev pub laid_work : Given → (work : List ℕ) → List ℕ
 laid_work g work = zeroed 0 ((length (points_of g) + 1) * level_words g) work
 
--- what is asked where the table stands filled: the arrays are the sheet's, and there is room for the answer
+-- what is asked where the table stands filled: there is room for the answer
 pub record FilledIn (g : Given) (work out : List ℕ) : Type 0 where
-  pub arrays : WalkIn g work
+  pub whole : LevelsFit g work
   pub table : TableOf (instance_of g) g.measures.colours g.measures.budgets (points_of g) work
   pub answer_fits : length g.order < length out

@@ -4,7 +4,7 @@ use Rattle.search.specs.Walk.{Process, choose_by, walk_by}
 use Rattle.optimum.specs.Strips.{Point, Instance, State, labels as process}
 use Rattle.optimum.specs.OneSided.{top_word, mark_count, write_ties}
 use Rattle.arrays.specs.Given.{Given, instance_of, points_of, OfSheet, Bounded, Ranked}
-use Rattle.rows.specs.Budgets.{Splits}
+use Rattle.arrays.specs.Budgets.{SplitsOf}
 use Rattle.rows.specs.Rows.{level_size}
 use Rattle.rows.specs.Rest.{rest_rows}
 
@@ -24,13 +24,17 @@ worth_in g work = value_in (instance_of g) g.parts g.counts work g.measures.colo
 abbrev pub level_words : Given → ℕ
 level_words g = level_size (length g.heights) g.measures.colours g.measures.budgets
 
--- ---- what is asked: the arrays are a sheet's, lists say what may be taken from each budget, a table fits the work area
+-- ---- what is asked: a table fits the work area
+abbrev pub LevelsFit : Given → (work : List ℕ) → Type 0
+LevelsFit g work = (length g.order + 1) * level_words g ≤ length work
+
+-- with what the ranked sheet says of itself: the arrays are a sheet's, lists say what may be taken from each budget
 pub record WalkIn (g : Given) (work : List ℕ) : Type 0 where
   pub sheet : OfSheet g
   pub bounded : Bounded g
   pub ranked : Ranked g
-  pub splits : Splits g.radices g.measures.budgets g.parts g.counts
-  pub whole : (length g.order + 1) * level_words g ≤ length work
+  pub splits : SplitsOf g.radices g.measures.budgets g.parts g.counts
+  pub whole : LevelsFit g work
 
 -- the state with these labels open, their marks and the budget v
 abbrev pub state_of : (g : Given) → (labels marks : List ℕ) → (v : ℕ) → State (instance_of g)

@@ -17,9 +17,10 @@ loop-k-init c =
 pub parts_cost-parts-requires : goal.parts_cost-parts-requires
 parts_cost-parts-requires c =
     let p = c.requires in
+    let v = c.args.filling.now.level in
     record {
-      level_fits = (p.fits, p.lies);
-      c_lt_colours = (p.site.colour_low, omega (arith, p.high, c.loop-k-test.true), rw c.turn_at-turn.ensures (turn_low _ _ _));
+      level_fits = (p.within, p.lies);
+      c_lt_colours = (v.site_in.colour_low, omega (arith, p.high, c.loop-k-test.true), rw c.turn_at-turn.ensures (turn_low _ _ _));
     }
 
 pub loop-k-preserved : goal.loop-k-preserved
@@ -29,6 +30,6 @@ loop-k-preserved c =
     let f : l.k + 1 - a.window.from ≡ l.k - a.window.from + 1 = omega (arith, l.auto.k) in
     let g : a.window.from + (l.k - a.window.from) ≡ l.k = omega (arith, l.auto.k) in
     let p = c.requires in
-    let t = ap₂ (plus top_word) (p.listed.costs l.k (omega (arith, p.high, p.lies.b_low, c.loop-k-test.true)))
+    let t = ap₂ (plus top_word) (a.filling.now.opening_listed.costs l.k (omega (arith, p.high, p.lies.b_low, c.loop-k-test.true)))
     (rw c.turn_at-turn.ensures at c.parts_cost-parts.ensures) in
     rw f (c.lesser_sum-best.ensures ∙ single_more a.old l.best _ (l.k - a.window.from) _ l.invariant (rw g t))

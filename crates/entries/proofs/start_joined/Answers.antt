@@ -6,7 +6,7 @@ use Rattle.optimum.specs.OneSided.{mark_count}
 use Rattle.rows.specs.Rows.{strip_of, point_of, row_of, marked_by, Lies}
 use Rattle.rows.proofs.Places.{marked-lies}
 use Rattle.arrays.proofs.Marks.{turn_low}
-use Rattle.entries.proofs.Places.{own-fits, joins-fit}
+use Rattle.entries.proofs.Places.{own-fits, joins-fit, row-ready}
 use Rattle.entries.proofs.Terms.{joined_by}
 use Rattle.entries.proofs.start_joined.Goals as goal
 
@@ -19,39 +19,41 @@ joined-at low m C n e f = ap (λ (z : ℕ). low + z) f ∙ ap (λ (z : Strip). l
 
 pub row_place-requires : goal.row_place-requires
 row_place-requires c =
-    let f = c.requires.0.sheet in
-    let h = joined-lies c.requires.1 (turn_low _ _ _) c.risen_of.ensures in
-    record { m_le_most_slots = (f.few_slots, f.few_colours, f.few_budgets); lies = h }
+    joined-lies c.requires.lies (turn_low _ _ _) c.risen_of.ensures
 
 pub overflow_add-up : goal.overflow_add-up
 overflow_add-up c =
-    let h = own-fits c.requires.0 _ (joined-lies c.requires.1 (turn_low _ _ _) c.risen_of.ensures) in
+    let h = own-fits (row-ready c.args.level.now c.requires) _ (joined-lies c.requires.lies (turn_low _ _ _) c.risen_of.ensures) in
     omega (arith, c.row_place.ensures, h, c.ranges)
 
 pub row_place-requires-2 : goal.row_place-requires-2
 row_place-requires-2 c =
-    let f = c.requires.0.sheet in
-    let h = joined-lies c.requires.1 (turn_low _ _ _) c.fallen_of.ensures in
-    record { m_le_most_slots = (f.few_slots, f.few_colours, f.few_budgets); lies = h }
+    joined-lies c.requires.lies (turn_low _ _ _) c.fallen_of.ensures
 
 pub overflow_add-down : goal.overflow_add-down
 overflow_add-down c =
-    let h = own-fits c.requires.0 _ (joined-lies c.requires.1 (turn_low _ _ _) c.fallen_of.ensures) in
+    let h = own-fits (row-ready c.args.level.now c.requires) _ (joined-lies c.requires.lies (turn_low _ _ _) c.fallen_of.ensures) in
     omega (arith, c.row_place-2.ensures, h, c.ranges)
 
 pub start_row-requires : goal.start_row-requires
 start_row-requires c =
     let p = c.requires in
-    joins-fit p.0 (strip_of c.args.p) _ _ p.1 (turn_low _ _ _) (turn_low _ _ _) _ _
+    joins-fit (row-ready c.args.level.now p) (strip_of c.args.p) _ _ p.lies (turn_low _ _ _) (turn_low _ _ _) _ _
     (joined-at _ _ _ _ c.risen_of.ensures c.row_place.ensures) (joined-at _ _ _ _ c.fallen_of.ensures c.row_place-2.ensures)
+
+pub rise_cost-rise-requires : goal.rise_cost-rise-requires
+rise_cost-rise-requires c = let v = c.args.level.now in (v.site_in, c.requires.lies)
+
+pub fall_cost-fall-requires : goal.fall_cost-fall-requires
+fall_cost-fall-requires c = let v = c.args.level.now in (v.site_in, c.requires.lies)
 
 pub returns : goal.returns
 returns c =
-    let a = c.args in
-    let o = c.start_row.ensures in
-    λ bs. (
+    let v = c.args.level.now in
+    let g = v.sheet.now in
+    let o = c.start_row.ensures in (
       o.0,
-      λ v h. o.1 v h ∙ joined_by a.q a.heights.now bs a.work.now a.low (strip_of a.p) (point_of a.s) v _ _ _ _
-          (c.rise_cost-rise.ensures bs) (c.fall_cost-fall.ensures bs)
+      λ x h. o.1 x h ∙ joined_by g.measures g.heights.now g.bounds.now c.args.work.now v.low (strip_of c.args.p) (point_of v.site) x _ _ _ _
+          c.rise_cost-rise.ensures c.fall_cost-fall.ensures
           (joined-at _ _ _ _ c.risen_of.ensures c.row_place.ensures) (joined-at _ _ _ _ c.fallen_of.ensures c.row_place-2.ensures),
     )

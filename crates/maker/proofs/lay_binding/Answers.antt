@@ -30,16 +30,16 @@ work_for-table-requires c =
     let z = few (read_kept c.requires b) in
     (z.0, z.1, z.2, few-budgets c.requires b c.product_of-budgets.ensures)
 
-pub lay_one_sided-refusal-requires : goal.lay_one_sided-refusal-requires
-lay_one_sided-refusal-requires c = takes-numbers c.requires c.binding_numbers-kept.ensures c.product_of-budgets.ensures
+pub lay_one_sided-laid-requires : goal.lay_one_sided-laid-requires
+lay_one_sided-laid-requires c = takes-numbers c.requires c.binding_numbers-kept.ensures c.product_of-budgets.ensures
 
 pub zero_part-requires : goal.zero_part-requires
 zero_part-requires c =
     let b = c.binding_numbers-kept.ensures in
-    needs-less c.requires b c.product_of-budgets.ensures c.work_for-table.ensures c.lay_one_sided-refusal.ensures
+    needs-less c.requires b c.product_of-budgets.ensures c.work_for-table.ensures c.lay_one_sided-laid.ensures
 
 pub returns : goal.returns
 returns c =
     let b = c.binding_numbers-kept.ensures in
-    let l = c.lay_one_sided-refusal.ensures in
+    let l = c.lay_one_sided-laid.ensures in
     laid c.requires b c.product_of-budgets.ensures c.work_for-table.ensures l c.zero_part.ensures

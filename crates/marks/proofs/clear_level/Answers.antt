@@ -4,13 +4,14 @@ use mathlib.Core.Path.{refl, ◌∙◌}
 use Prim.Native.Nat.{◌+◌}
 use native.Mathlib.Nat.{le_refl}
 use native.Mathlib.Omega.{arith}
+use lib.ListN.{length}
 use Rattle.marks.proofs.clear_level.Goals as goal
 
 pub overflow_cast-ends : goal.overflow_cast-ends
-overflow_cast-ends c = omega (arith, c.requires.few_slots)
+overflow_cast-ends c = omega (arith, c.args.sheet.now.of_sheet.few_slots)
 
 pub overflow_add-ends : goal.overflow_add-ends
-overflow_add-ends c = omega (arith, c.requires.few_slots)
+overflow_add-ends c = omega (arith, c.args.sheet.now.of_sheet.few_slots)
 
 pub loop-above-init : goal.loop-above-init
 loop-above-init c = (omega arith, omega arith, refl, kept-none _ _)
@@ -22,7 +23,7 @@ clear_below-requires c =
 
 pub next_end-above-requires : goal.next_end-above-requires
 next_end-above-requires c =
-    let p = c.requires in
+    let p = c.args.sheet.now.of_sheet in
     let l = c.loop-above in
     (p.few_colours, omega (arith, l.invariant.1, p.few_slots), l.invariant.0)
 
@@ -30,7 +31,7 @@ pub loop-above-smaller : goal.loop-above-smaller
 loop-above-smaller c =
     let a = c.args in
     let l = c.loop-above in
-    omega (arith, c.next_end-above.ensures.1, later-end a.q.colours l.above.slot l.above.colour (a.m + 1) 0 l.invariant.0 (omega (arith, c.loop-above-test.true)))
+    omega (arith, c.next_end-above.ensures.1, later-end a.sheet.now.measures.colours l.above.slot l.above.colour (length a.sheet.now.heights.now + 1) 0 l.invariant.0 (omega (arith, c.loop-above-test.true)))
 
 pub loop-above-preserved : goal.loop-above-preserved
 loop-above-preserved c =
@@ -39,7 +40,7 @@ loop-above-preserved c =
     let f = c.clear_below in
     let e = c.next_end-above.ensures in (
       e.0,
-      omega (arith, c.loop-above-test.true, next-slot a.q.colours l.above.slot l.above.colour _ _ l.invariant.0 e.1),
+      omega (arith, c.loop-above-test.true, next-slot a.sheet.now.measures.colours l.above.slot l.above.colour _ _ l.invariant.0 e.1),
       f.auto.work ∙ l.invariant.2,
       kept_more l.invariant.3 (le_refl _) f.ensures,
     )

@@ -11,20 +11,14 @@ pub overflow_mul-j : goal.overflow_mul-j
 overflow_mul-j c =
     let a = c.args in
     let l = c.loop-j in
-    omega (arith, row_within l.j a.levels a.size c.loop-j-test.true, c.requires.levels_bound.1)
+    omega (arith, row_within l.j a.levels a.size c.loop-j-test.true, c.requires.few_levels.1)
 
 pub clear_level-requires : goal.clear_level-requires
 clear_level-requires c =
     let a = c.args in
     let p = c.requires in
     let l = c.loop-j in
-    record {
-      few_slots = p.level_fits.few_slots;
-      few_colours = p.level_fits.few_colours;
-      few_budgets = p.level_fits.few_budgets;
-      some_budget = p.level_fits.some_budget;
-      within = omega (arith, row_within l.j a.levels a.size c.loop-j-test.true, p.levels_bound.1, p.levels_bound.2, l.invariant.0);
-    }
+    omega (arith, row_within l.j a.levels a.size c.loop-j-test.true, p.few_levels.1, p.level_words, l.invariant.0)
 
 pub loop-j-preserved : goal.loop-j-preserved
 loop-j-preserved c =
@@ -32,5 +26,5 @@ loop-j-preserved c =
     let l = c.loop-j in
     let f = c.clear_level in (
       f.auto.work ∙ l.invariant.0,
-      kept_more l.invariant.1 (omega (arith, row_within l.j a.levels a.size c.loop-j-test.true, c.requires.levels_bound.2)) f.ensures,
+      kept_more l.invariant.1 (omega (arith, row_within l.j a.levels a.size c.loop-j-test.true, c.requires.level_words)) f.ensures,
     )

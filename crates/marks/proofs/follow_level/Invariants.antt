@@ -6,7 +6,7 @@ use lib.ListN.{length}
 use Rattle.marks.proofs.follow_level.Given as goal
 
 abbrev pub invariant-loop-above : goal.invariant-loop-above
-invariant-loop-above l = (l.above.colour ≤ l.q.colours) × (l.above.slot ≤ length l.heights + 1) × (length l.work ≡ length l.initial.work) × Passed l.q l.heights l.bounds l.base l.low (point_of l.s) l.initial.work l.work (end_place l.q.colours l.above.slot l.above.colour)
+invariant-loop-above l = (l.above.colour ≤ l.level.sheet.now.measures.colours) × (l.above.slot ≤ length l.level.sheet.now.heights.now + 1) × (length l.work ≡ length l.initial.work) × Passed l.level.sheet.now.measures l.level.sheet.now.heights.now l.level.sheet.now.bounds.now l.level.base l.level.low (point_of l.level.site) l.initial.work l.work (end_place l.level.sheet.now.measures.colours l.above.slot l.above.colour)
 
 abbrev pub decreases-loop-above : goal.decreases-loop-above
-decreases-loop-above l = end_place l.q.colours (length l.heights + 1) 0 - end_place l.q.colours l.above.slot l.above.colour
+decreases-loop-above l = end_place l.level.sheet.now.measures.colours (length l.level.sheet.now.heights.now + 1) 0 - end_place l.level.sheet.now.measures.colours l.above.slot l.above.colour

@@ -19,41 +19,42 @@ shape_of-work-then-not-is_inside c = c.mark_own.auto.work
 
 pub returns-then-not-is_inside : goal.returns-then-not-is_inside
 returns-then-not-is_inside c =
-    let a = c.args in
+    let v = c.args.level.now in
+    let g = v.sheet.now in
     let o = c.mark_own.ensures in
-    (o.0, λ k. marked-out a.q a.heights.now a.bounds.now (strip_of a.p) (point_of a.s) c.mark_own.new.work a.low (sym (c.is_inside.ensures a.q a.bounds.now) ∙ c.if-not-is_inside.true) (o.1 refl))
+    (o.0, λ k. marked-out g.measures g.heights.now g.bounds.now (strip_of c.args.p) (point_of v.site) c.mark_own.new.work v.low (sym c.is_inside.ensures ∙ c.if-not-is_inside.true) (o.1 refl))
 
 pub mark_joins-requires : goal.mark_joins-requires
-mark_joins-requires c =
-    let p = c.requires in record { strip_fits = (p.fits, p.lies); of_sheet = (on-slots p.sheet, p.site) }
+mark_joins-requires c = (c.requires.fits, c.requires.lies)
 
 pub site_opens-requires : goal.site_opens-requires
 site_opens-requires c =
-    let p = c.requires in omega (arith, p.site.colour_low, p.bounded)
+    let v = c.args.level.now in omega (arith, v.site_in.colour_low, v.sheet.now.bounded)
 
-pub open_window-requires : goal.open_window-requires
-open_window-requires c =
-    let p = c.requires in (on-slots p.sheet, p.site, p.lies.b_low)
+pub open_window-window-requires : goal.open_window-window-requires
+open_window-window-requires c =
+    let v = c.args.level.now in (v.site_in, c.requires.lies.b_low)
 
 pub mark_window-requires : goal.mark_window-requires
 mark_window-requires c =
     let p = c.requires in
-    record { strip_fits = (rw c.mark_joins.auto.work p.fits, p.lies); c_lt_colours = (p.site.colour_low, c.open_window.ensures.high) }
+    record { strip_fits = (rw c.mark_joins.auto.work p.fits, p.lies); window_low = c.open_window-window.ensures.high }
 
 pub shape_of-work-then-site_opens : goal.shape_of-work-then-site_opens
 shape_of-work-then-site_opens c = c.mark_window.auto.work ∙ c.mark_joins.auto.work
 
 pub returns-then-site_opens : goal.returns-then-site_opens
 returns-then-site_opens c =
-    let a = c.args in
+    let v = c.args.level.now in
+    let g = v.sheet.now in
     let p = c.requires in
     let o = c.mark_joins.ensures in
     let w = c.mark_window.ensures in
-    let i = sym (c.is_inside.ensures a.q a.bounds.now) ∙ c.if-not-is_inside.false in (
+    let i = sym c.is_inside.ensures ∙ c.if-not-is_inside.false in (
       marking-join _ _ _ _ _ o.0 w.0,
-      λ k. marked-in a.q a.heights.now a.bounds.now (strip_of a.p) (point_of a.s) _ a.low c.open_window.result (on-slots p.sheet) p.site i
-          (λ h. w.0.kept _ (o.1 a.bounds.now h)) (λ h. w.0.kept _ (o.2 a.bounds.now h))
-          (λ s. (c.open_window.ensures, w.1)),
+      λ k. marked-in g.measures g.heights.now g.bounds.now (strip_of c.args.p) (point_of v.site) _ v.low c.open_window-window.result (on-slots g.of_sheet) v.site_in i
+          (λ h. w.0.kept _ (o.1 h)) (λ h. w.0.kept _ (o.2 h))
+          (λ s. (c.open_window-window.ensures, w.1)),
     )
 
 pub shape_of-work-else-site_opens : goal.shape_of-work-else-site_opens
@@ -61,13 +62,14 @@ shape_of-work-else-site_opens c = c.mark_joins.auto.work
 
 pub returns-else-site_opens : goal.returns-else-site_opens
 returns-else-site_opens c =
-    let a = c.args in
+    let v = c.args.level.now in
+    let g = v.sheet.now in
     let p = c.requires in
     let o = c.mark_joins.ensures in
-    let i = sym (c.is_inside.ensures a.q a.bounds.now) ∙ c.if-not-is_inside.false in (
+    let i = sym c.is_inside.ensures ∙ c.if-not-is_inside.false in (
       o.0,
-      λ k. marked-in a.q a.heights.now a.bounds.now (strip_of a.p) (point_of a.s) c.mark_joins.new.work a.low (record { from = 0; to = 0 }) (on-slots p.sheet) p.site i
-          (o.1 a.bounds.now) (o.2 a.bounds.now)
+      λ k. marked-in g.measures g.heights.now g.bounds.now (strip_of c.args.p) (point_of v.site) c.mark_joins.new.work v.low (record { from = 0; to = 0 }) (on-slots g.of_sheet) v.site_in i
+          o.1 o.2
           (λ s. clash s (sym c.site_opens.ensures ∙ c.if-site_opens.false)),
     )
 

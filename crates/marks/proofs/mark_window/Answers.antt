@@ -12,7 +12,7 @@ loop-k-init c = (marking-none _ _ _, refl, λ i a b e. absurd (omega arith))
 pub is_barred-requires : goal.is_barred-requires
 is_barred-requires c =
     let p = c.requires in
-    omega (arith, c.loop-k-test.true, c.loop-k.auto.k, p.c_lt_colours.1 (omega (arith, c.loop-k-test.true, c.loop-k.auto.k)), p.strip_fits.0.few_slots, p.strip_fits.1.b_low)
+    omega (arith, c.loop-k-test.true, c.loop-k.auto.k, p.window_low (omega (arith, c.loop-k-test.true, c.loop-k.auto.k)), c.args.level.now.sheet.now.of_sheet.few_slots, p.strip_fits.1.b_low)
 
 -- a slot that is barred is passed over
 pub loop-k-preserved-then-is_barred : goal.loop-k-preserved-then-is_barred
@@ -21,7 +21,7 @@ loop-k-preserved-then-is_barred c =
       l.invariant.0,
       l.invariant.1,
       λ i a b e. by_equal i l.k
-          (λ q. clash (sym c.is_barred.ensures ∙ c.if-is_barred.true) (ap (has_slot c.args.s.barred) (sym q) ∙ e))
+          (λ q. clash (sym c.is_barred.ensures ∙ c.if-is_barred.true) (ap (has_slot c.args.level.now.site.barred) (sym q) ∙ e))
           (λ n. l.invariant.2 i a (omega arith) e),
     )
 
@@ -30,7 +30,7 @@ mark_parts-requires c =
     let p = c.requires in
     let l = c.loop-k in
     let t = c.loop-k-test.true in
-    record { level_fits = (rw l.invariant.1 p.strip_fits.0, p.strip_fits.1); c_lt_colours = (p.c_lt_colours.0, omega (arith, t, p.c_lt_colours.1 (omega (arith, t, l.auto.k))), rw c.turn_at-turn.ensures (turn_low _ _ _)) }
+    record { level_fits = (rw l.invariant.1 p.strip_fits.0, p.strip_fits.1); c_lt_colours = (c.args.level.now.site_in.colour_low, omega (arith, t, p.window_low (omega (arith, t, l.auto.k))), rw c.turn_at-turn.ensures (turn_low _ _ _)) }
 
 pub loop-k-preserved : goal.loop-k-preserved
 loop-k-preserved c =

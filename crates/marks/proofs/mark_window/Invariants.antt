@@ -9,4 +9,4 @@ use Rattle.parts.specs.Parts.{Marking, PartsMarked}
 use Rattle.marks.proofs.mark_window.Given as goal
 
 abbrev pub invariant-loop-k : goal.invariant-loop-k
-invariant-loop-k l = Marking l.initial.work l.work l.low (level_of l.q l.heights) × (length l.work ≡ length l.initial.work) × ((i : ℕ) → l.initial.k ≤ i → i < l.k → has_slot l.s.barred i ≡ false → PartsMarked l.q l.work l.low (length l.heights) (strip_of l.p) (point_of l.s) i (turn_by l.heights (point_of l.s) i))
+invariant-loop-k l = Marking l.initial.work l.work l.level.low (level_of l.level.sheet.now.measures l.level.sheet.now.heights.now) × (length l.work ≡ length l.initial.work) × ((i : ℕ) → l.initial.k ≤ i → i < l.k → has_slot l.level.site.barred i ≡ false → PartsMarked l.level.sheet.now.measures l.work l.level.low (length l.level.sheet.now.heights.now) (strip_of l.p) (point_of l.level.site) i (turn_by l.level.sheet.now.heights.now (point_of l.level.site) i))

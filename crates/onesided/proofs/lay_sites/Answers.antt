@@ -8,7 +8,7 @@ use Rattle.onesided.proofs.Parts.{measures-are, radices, draws, by-words}
 use Rattle.arrays.specs.Arrays.{radices_by, draws_by}
 use Rattle.arrays.specs.Given.{given}
 use Rattle.onesided.specs.Laying.{TakesOneSided, RankedSites, arrays_of}
-use Rattle.onesided.proofs.Facts.{arrays-are, lays-is}
+use Rattle.onesided.proofs.Facts.{arrays-are, arrays-held, lays-is, with-splits}
 use Rattle.onesided.proofs.Called.{laid-is}
 use mathlib.Core.Path.{◌≡◌, refl, ap, ◌∙◌}
 use mathlib.Core.List.{List, []}
@@ -27,8 +27,8 @@ arrays t x y r =
     let p = t.read in
     arrays-are _ (measures-are p t.product) (heights p).0 (bounds p).0 (radices p x).0 (draws p y).0 (by-words p r)
 
-pub overflow_cast-q : goal.overflow_cast-q
-overflow_cast-q c = omega (arith, few c.requires.takes_one_sided.read)
+pub overflow_cast-measures : goal.overflow_cast-measures
+overflow_cast-measures c = omega (arith, few c.requires.takes_one_sided.read)
 
 pub slice_bounds-bounds-end : goal.slice_bounds-bounds-end
 slice_bounds-bounds-end c = stands _ _ (bounds c.requires.takes_one_sided.read).1
@@ -49,20 +49,40 @@ draws_of-draws-requires c =
 pub slice_bounds-radices-end : goal.slice_bounds-radices-end
 slice_bounds-radices-end c = stands _ _ (radices c.requires.takes_one_sided.read c.radices_of-radices.ensures).1
 
-pub slice_bounds-lay_ranked-end-2 : goal.slice_bounds-lay_ranked-end-2
-slice_bounds-lay_ranked-end-2 c = (radices c.requires.takes_one_sided.read c.radices_of-radices.ensures).1
+pub slice_bounds-radices-end-2 : goal.slice_bounds-radices-end-2
+slice_bounds-radices-end-2 c = (radices c.requires.takes_one_sided.read c.radices_of-radices.ensures).1
 
 pub slice_bounds-draws-end : goal.slice_bounds-draws-end
 slice_bounds-draws-end c = stands _ _ (draws c.requires.takes_one_sided.read c.draws_of-draws.ensures).1
 
-pub slice_bounds-lay_ranked-end-3 : goal.slice_bounds-lay_ranked-end-3
-slice_bounds-lay_ranked-end-3 c = (draws c.requires.takes_one_sided.read c.draws_of-draws.ensures).1
+pub slice_bounds-sheet-end-2 : goal.slice_bounds-sheet-end-2
+slice_bounds-sheet-end-2 c = (draws c.requires.takes_one_sided.read c.draws_of-draws.ensures).1
+
+pub splits_of-splits-requires : goal.splits_of-splits-requires
+splits_of-splits-requires c =
+    let p = c.requires.takes_one_sided in
+    let e = arrays p c.radices_of-radices.ensures c.draws_of-draws.ensures c.requires.ranked_sites in
+    (arrays-held p.read.words p.takes.1 _ e).0.few_budgets
+
+pub invariant_of-radices : goal.invariant_of-radices
+invariant_of-radices c =
+    let p = c.requires.takes_one_sided in
+    let e = arrays p c.radices_of-radices.ensures c.draws_of-draws.ensures c.requires.ranked_sites in
+    record { divides = (arrays-held p.read.words p.takes.1 _ e).0.divides }
+
+pub invariant_of-sheet : goal.invariant_of-sheet
+invariant_of-sheet c =
+    let p = c.requires.takes_one_sided in
+    let e = arrays p c.radices_of-radices.ensures c.draws_of-draws.ensures c.requires.ranked_sites in
+    let h = arrays-held p.read.words p.takes.1 _ e in
+    record { of_sheet = with-splits h.0 _ _; bounded = h.1; ranked = h.2; listed = c.splits_of-splits.ensures }
 
 pub lay_ranked-requires : goal.lay_ranked-requires
 lay_ranked-requires c =
     let p = c.requires.takes_one_sided in
     let e = arrays p c.radices_of-radices.ensures c.draws_of-draws.ensures c.requires.ranked_sites in
-    lays-is p.read.words p.takes.1 _ _ _ e p.takes.4 p.takes.2 p.takes.3
+    let l = lays-is p.read.words p.takes.1 _ _ _ e p.takes.4 p.takes.2 p.takes.3 in
+    record { fits = l.fits; answer_fits = l.answer_fits }
 
 pub returns : goal.returns
 returns c =

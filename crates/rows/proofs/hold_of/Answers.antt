@@ -3,26 +3,24 @@ use native.Mathlib.Omega.{arith}
 use lib.ListN.{length}
 use Rattle.rows.proofs.Holding.{looking-none, looking-skip, looking-past, looking-here, looking-end}
 use Rattle.rows.proofs.hold_of.Goals as goal
-use Rattle.rows.proofs.hold_of.Goals.{then-cb-ne0+else-y-heights, else-cb-ne0}
+use Rattle.rows.proofs.hold_of.Goals.{then-cb-ne0+else-y-sheet, else-cb-ne0}
 
 pub loop-i-init : goal.loop-i-init
 loop-i-init c = looking-none _ _ _ _
 
-pub returns-then-y-heights : goal.returns-then-y-heights
-returns-then-y-heights c =
-    let l = c.loop-i in
-    rw c.get-d.ensures (looking-here _ _ _ _ _ _ l.i l.invariant (omega (arith, c.requires)) c.if-cb-ne0.true c.if-y-heights.true)
+pub returns-then-y-sheet : goal.returns-then-y-sheet
+returns-then-y-sheet c =
+    rw c.get-d.ensures (looking-here c.loop-i.invariant (omega (arith, c.requires)) c.if-cb-ne0.true c.if-y-sheet.true)
 
 pub loop-i-preserved : goal.loop-i-preserved
 loop-i-preserved c =
-    let l = c.loop-i in
+    let f = c.loop-i.invariant in
     elim c.if-cb-ne0.branch [
-      | then-cb-ne0+else-y-heights w ↦ rw (w.a-is, w.ca-is) (looking-past _ _ _ _ _ _ l.i l.invariant (omega (arith, c.requires)) w.if-cb-ne0.true w.if-y-heights.false)
-      | else-cb-ne0 w ↦ rw (w.a-is, w.ca-is) (looking-skip _ _ _ _ _ _ l.i l.invariant (omega (arith, c.requires)) w.if-cb-ne0.false)
+      | then-cb-ne0+else-y-sheet w ↦ rw (w.a-is, w.ca-is) (looking-past f (omega (arith, c.requires)) w.if-cb-ne0.true w.if-y-sheet.false)
+      | else-cb-ne0 w ↦ rw (w.a-is, w.ca-is) (looking-skip f (omega (arith, c.requires)) w.if-cb-ne0.false)
     ]
 
 pub returns : goal.returns
 returns c =
-    let l = c.loop-i in
-    let end : l.i ≡ length c.args.heights.now = omega (arith, c.requires) in
-    rw (c.get-d-2.ensures, c.requires.0) (looking-end _ _ _ _ _ _ _ l.invariant end)
+    let end : c.loop-i.i ≡ length c.args.sheet.now.heights.now = omega (arith, c.requires) in
+    rw (c.get-d-2.ensures, c.requires) (looking-end c.loop-i.invariant end)

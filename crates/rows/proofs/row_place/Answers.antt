@@ -7,8 +7,8 @@ use Rattle.rows.proofs.row_place.Goals as goal
 pub overflow_mul-result-2 : goal.overflow_mul-result-2
 unfolding mark_count
 overflow_mul-result-2 c =
-    let h = c.requires.m_le_most_slots in
-    omega (arith, (sized _ _ _ _ h.0 h.1 h.2 c.requires.lies).place)
+    let o = c.args.sheet.now.of_sheet in
+    omega (arith, (sized _ _ _ _ o.few_slots o.few_colours o.few_budgets c.requires).place)
 
 pub returns : goal.returns
 unfolding mark_count

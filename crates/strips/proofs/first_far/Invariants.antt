@@ -6,4 +6,4 @@ use Prim.Native.Nat.{ℕ, ◌<◌, ◌≤◌}
 use Rattle.strips.proofs.first_far.Given as goal
 
 abbrev pub invariant-loop-k : goal.invariant-loop-k
-invariant-loop-k l = (l.p.a < l.k → l.k < l.p.b) × ((j : ℕ) → l.p.a ≤ j → j < l.k → far_from (slots_by l.q l.heights) l.p.a l.p.ca j l.c ≡ false)
+invariant-loop-k l = (l.p.a < l.k → l.k < l.p.b) × ((j : ℕ) → l.p.a ≤ j → j < l.k → far_from (slots_by l.sheet.measures l.sheet.heights.now) l.p.a l.p.ca j l.c ≡ false)

@@ -1,38 +1,26 @@
+use Rattle.arrays.specs.Ranked.{given_of}
 use Rattle.rows.specs.Rows.{strip_of, point_of}
-use Rattle.strips.specs.Strips.{open_cost, join_cost}
 use Rattle.strips.proofs.Steps.{step-opens, step-joins}
-use Rattle.arrays.proofs.Narrowed.{on-slots}
 use mathlib.Core.Path.{refl, sym, ap₂, ◌∙◌}
 use mathlib.Core.Bool.{true, false, ◌||◌}
-use native.Mathlib.Omega.{arith}
 use Rattle.strips.proofs.step_of.Goals as goal
-
-pub open_cost-price-requires : goal.open_cost-price-requires
-open_cost-price-requires c = let p = c.requires in (on-slots p.0, p.2, omega (arith, p.3))
 
 pub returns-then-is_below : goal.returns-then-is_below
 returns-then-is_below c = let a = c.args in
-    let r = step-opens a.q a.heights.now a.bounds.now a.radices.now a.draws.now (strip_of a.p) (point_of a.s) a.k a.v c.get-draw.result c.open_cost-price.result true
-    (sym c.opens.ensures ∙ c.if-opens.true) c.get-draw.ensures (sym c.if-is_below.true ∙ c.is_below.ensures) c.open_cost-price.ensures in
+    let r = step-opens (given_of a.sheet.now) (strip_of a.p) (point_of a.s) a.k a.v true (sym c.opens.ensures ∙ c.if-opens.true) c.get-draw.ensures (sym c.if-is_below.true ∙ c.is_below.ensures) c.open_cost-price.ensures in
     record { left_value = c.saturating_sub-left.ensures ∙ r.0; price_value = r.1 }
 
 pub returns-else-is_below : goal.returns-else-is_below
 returns-else-is_below c = let a = c.args in
-    let r = step-opens a.q a.heights.now a.bounds.now a.radices.now a.draws.now (strip_of a.p) (point_of a.s) a.k a.v c.get-draw.result (open_cost a.q a.heights.now (point_of a.s) a.k) false
-    (sym c.opens.ensures ∙ c.if-opens.true) c.get-draw.ensures (sym c.if-is_below.false ∙ c.is_below.ensures) refl in
+    let r = step-opens (given_of a.sheet.now) (strip_of a.p) (point_of a.s) a.k a.v false (sym c.opens.ensures ∙ c.if-opens.true) c.get-draw.ensures (sym c.if-is_below.false ∙ c.is_below.ensures) refl in
     record { left_value = c.saturating_sub-left.ensures ∙ r.0; price_value = r.1 }
-
-pub join_cost-price-requires : goal.join_cost-price-requires
-join_cost-price-requires c = let p = c.requires in (on-slots p.0, p.2)
 
 pub returns-then-joins : goal.returns-then-joins
 returns-then-joins c = let a = c.args in
-    let r = step-joins a.q a.heights.now a.bounds.now a.radices.now a.draws.now (strip_of a.p) (point_of a.s) a.k a.v c.join_cost-price.result true
-    (sym c.opens.ensures ∙ c.if-opens.false) (sym c.if-joins.true ∙ ap₂ ◌||◌ (c.joins_up.ensures a.bounds.now) (c.joins_down.ensures a.bounds.now)) c.join_cost-price.ensures in
+    let r = step-joins (given_of a.sheet.now) (strip_of a.p) (point_of a.s) a.k a.v true (sym c.opens.ensures ∙ c.if-opens.false) (sym c.if-joins.true ∙ ap₂ ◌||◌ c.joins_up.ensures c.joins_down.ensures) c.join_cost-price.ensures in
     record { left_value = r.0; price_value = r.1 }
 
 pub returns-else-joins : goal.returns-else-joins
 returns-else-joins c = let a = c.args in
-    let r = step-joins a.q a.heights.now a.bounds.now a.radices.now a.draws.now (strip_of a.p) (point_of a.s) a.k a.v (join_cost a.q a.heights.now (point_of a.s) a.k) false
-    (sym c.opens.ensures ∙ c.if-opens.false) (sym c.if-joins.false ∙ ap₂ ◌||◌ (c.joins_up.ensures a.bounds.now) (c.joins_down.ensures a.bounds.now)) refl in
+    let r = step-joins (given_of a.sheet.now) (strip_of a.p) (point_of a.s) a.k a.v false (sym c.opens.ensures ∙ c.if-opens.false) (sym c.if-joins.false ∙ ap₂ ◌||◌ c.joins_up.ensures c.joins_down.ensures) refl in
     record { left_value = r.0; price_value = r.1 }

@@ -1,48 +1,43 @@
 use Rattle.rows.proofs.Levels.{level-small, place-small, last_within}
-use Rattle.arrays.proofs.Narrowed.{no-radices}
-use Rattle.table.proofs.Right.{done-last, done_more, done_all, ready-area}
+use Rattle.table.proofs.Right.{done-last, done_more, done_all}
 use mathlib.Core.Path.{◌≡◌, refl, ap, ◌∙◌}
 use Prim.Native.Nat.{ℕ, ◌*◌}
 use native.Mathlib.Omega.{arith}
 use lib.ListN.{length}
 use Rattle.table.proofs.fill_table.Goals as goal
 
-pub rows_of-rows-requires : goal.rows_of-rows-requires
-rows_of-rows-requires c =
-    let g = c.requires in (g.sheet.few_slots, g.sheet.few_colours)
-
 pub overflow_mul-size : goal.overflow_mul-size
 overflow_mul-size c =
     let g = c.requires in
-    omega (arith, level-small g.sheet, ap (λ (z : ℕ). z * c.args.q.budgets) c.rows_of-rows.ensures)
+    omega (arith, level-small c.args.sheet.now.of_sheet, ap (λ (z : ℕ). z * c.args.sheet.now.measures.budgets) c.rows_of-rows.ensures)
 
 pub mark_table-requires : goal.mark_table-requires
 mark_table-requires c =
-    let g = c.requires in (no-radices g.sheet, g.bounded, g.fits, c.rows_of-rows.ensures)
+    let g = c.requires in (g, c.rows_of-rows.ensures)
 
-pub overflow_mul-xs : goal.overflow_mul-xs
-overflow_mul-xs c =
+pub overflow_mul-sites : goal.overflow_mul-sites
+overflow_mul-sites c =
     let g = c.requires in
-    omega (arith, place-small g.sheet (length c.args.xs.now) _ (omega (arith, g.sheet.few_sites)) (ap (λ (z : ℕ). z * c.args.q.budgets) c.rows_of-rows.ensures))
+    omega (arith, place-small c.args.sheet.now.of_sheet (length c.args.sheet.now.xs.now) _ (omega (arith, c.args.sheet.now.of_sheet.few_sites)) (ap (λ (z : ℕ). z * c.args.sheet.now.measures.budgets) c.rows_of-rows.ensures))
 
 pub zero_level-requires : goal.zero_level-requires
 zero_level-requires c =
     let g = c.requires in
     let a = c.args in
-    last_within (length a.xs.now) _ _ _ _ (ap (λ (z : ℕ). z * a.q.budgets) c.rows_of-rows.ensures) g.fits c.mark_table.auto.work
+    last_within (length a.sheet.now.xs.now) _ _ _ _ (ap (λ (z : ℕ). z * a.sheet.now.measures.budgets) c.rows_of-rows.ensures) g c.mark_table.auto.work
 
 pub loop-j-init : goal.loop-j-init
 loop-j-init c =
     let a = c.args in
-    let e = ap (λ (z : ℕ). z * a.q.budgets) c.rows_of-rows.ensures in
+    let e = ap (λ (z : ℕ). z * a.sheet.now.measures.budgets) c.rows_of-rows.ensures in
     let z = c.zero_level.ensures in
-    (e, refl, λ o. done-last o c.mark_table.new.work c.zero_level.new.work _ e c.mark_table.ensures.0 z.0 z.1)
+    (e, refl, done-last a.sheet.now.of_sheet c.mark_table.new.work c.zero_level.new.work _ e c.mark_table.ensures.0 z.0 z.1)
 
 pub fill_site-requires : goal.fill_site-requires
 fill_site-requires c =
     let p = c.requires in
     let l = c.loop-j in (
-      ready-area p (l.invariant.1 ∙ c.zero_level.auto.work ∙ c.mark_table.auto.work),
+      rw (l.invariant.1 ∙ c.zero_level.auto.work ∙ c.mark_table.auto.work) p,
       (l.invariant.0, omega (arith, c.loop-j-test.true, l.auto.j)),
     )
 
@@ -53,7 +48,7 @@ loop-j-preserved c =
     let f = c.fill_site in (
       l.invariant.0,
       f.auto.work ∙ l.invariant.1,
-      λ o. done_more o _ l.work f.new.work _ l.j _ l.invariant.0 (omega (arith, c.loop-j-test.true)) l.auto.j f.auto.work f.ensures.0 f.ensures.1 (l.invariant.2 o),
+      done_more a.sheet.now.of_sheet _ l.work f.new.work _ l.j _ l.invariant.0 (omega (arith, c.loop-j-test.true)) l.auto.j f.auto.work f.ensures.0 f.ensures.1 l.invariant.2,
     )
 
 pub shape_of-work : goal.shape_of-work
@@ -67,4 +62,4 @@ returns c =
     let z : l.j ≡ 0 = omega (arith, c.loop-j-test.false) in
     let m = c.mark_table in
     let o = c.zero_level in
-    done_all p.sheet a.work.now m.new.work o.new.work l.work _ l.invariant.0 (o.auto.work ∙ m.auto.work) m.ensures.1 o.ensures.0 (rw z at (l.invariant.2 p.sheet))
+    done_all a.sheet.now.of_sheet a.work.now m.new.work o.new.work l.work _ l.invariant.0 (o.auto.work ∙ m.auto.work) m.ensures.1 o.ensures.0 (rw z at l.invariant.2)

@@ -7,4 +7,4 @@ use Rattle.rows.specs.Rows.{point_of}
 use Rattle.table.proofs.opening_costs.Given as goal
 
 abbrev pub invariant-loop-k : goal.invariant-loop-k
-invariant-loop-k l = (length l.out ≡ most_slots) × ((x : ℕ) → x < l.k → get_or l.out x 0 ≡ open_cost l.q l.heights (point_of l.s) x)
+invariant-loop-k l = (length l.out ≡ most_slots) × ((x : ℕ) → x < l.k → get_or l.out x 0 ≡ open_cost l.sheet.measures l.sheet.heights.now (point_of l.s) x)

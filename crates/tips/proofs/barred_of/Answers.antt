@@ -9,12 +9,12 @@ pub loop-i-init : goal.loop-i-init
 loop-i-init c = barred-none _ _ _ _ _
 
 pub loop-i-preserved : goal.loop-i-preserved
-loop-i-preserved c = let a = c.args in
+loop-i-preserved c = let a = c.args.sheet.now in
     let l = c.loop-i in
     let n = c.is_counted.ensures in
     elim c.if-is_counted.branch [
-      | then-is_counted w ↦ w.barred-is ∙ ap₂ bit_or l.invariant w.near_slots-barred.ensures ∙ barred-more a.q.head.gap a.heights.now a.xs.now a.ys.now a.j l.i (sym n ∙ w.if-is_counted.true)
-      | else-is_counted w ↦ w.barred-is ∙ l.invariant ∙ barred-past a.q.head.gap a.heights.now a.xs.now a.ys.now a.j l.i (sym n ∙ w.if-is_counted.false)
+      | then-is_counted w ↦ w.barred-is ∙ ap₂ bit_or l.invariant w.near_slots-barred.ensures ∙ barred-more a.measures.head.gap a.heights.now a.xs.now a.ys.now c.args.j l.i (sym n ∙ w.if-is_counted.true)
+      | else-is_counted w ↦ w.barred-is ∙ l.invariant ∙ barred-past a.measures.head.gap a.heights.now a.xs.now a.ys.now c.args.j l.i (sym n ∙ w.if-is_counted.false)
     ]
 
 pub returns : goal.returns

@@ -18,7 +18,7 @@ use Rattle.optimum.proofs.Pairs.{zeros}
 use Rattle.optimum.proofs.Reached.{reached-start}
 use Rattle.search.specs.Walk.{walk_by}
 use Rattle.rows.specs.Rest.{LevelIn, rest_rows}
-use Rattle.walk.specs.Walk.{Found, value_in, worth_in, level_words, Standing, tied_from}
+use Rattle.walk.specs.Walk.{Found, value_in, worth_in, level_words, WalkIn, Standing, tied_from}
 use Rattle.walk.proofs.Value.{Met, met-value, walk-right}
 use Rattle.walk.proofs.Tying.{long}
 use Rattle.costs.specs.Costs.{first_word_by}
@@ -33,7 +33,7 @@ zeros-part (suc m) (suc n) h = ap (λ (l : List ℕ). 0 ∷ l) (zeros-part m n (
 pub front_long : (m n : ℕ) → m ≤ n → m ≡ length (take m (replicate {A = ℕ} n 0))
 front_long m n h = sym (ap length (zeros-part m n h) ∙ length-replicate m 0)
 
-module _ {g : Given} {work out : List ℕ} (L M : List ℕ) (f : FilledIn g work out) (z : L ≡ replicate (length g.heights) 0) (y : M ≡ replicate (length g.heights + 1) 0) where
+module _ {g : Given} {work out : List ℕ} (L M : List ℕ) (a : WalkIn g work) (f : FilledIn g work out) (z : L ≡ replicate (length g.heights) 0) (y : M ≡ replicate (length g.heights + 1) 0) where
   abbrev q : Measures
   q = g.measures
 
@@ -56,17 +56,15 @@ module _ {g : Given} {work out : List ℕ} (L M : List ℕ) (f : FilledIn g work
   no-mark = y ∙ ap (λ (n : ℕ). replicate n 0) (add-one (length hs))
 
   abbrev rising : Rising P.slots
-  rising = f.arrays.sheet.rising
+  rising = a.sheet.rising
 
   -- the first level stands in the work area
-  pub first-level : LevelIn g.parts g.counts work 0 q.colours q.budgets L M
+  pub first-level : LevelIn g work 0 L M
   first-level =
       let l : length L ≡ length hs = ap length z ∙ length-replicate (length hs) 0 in
       record {
-        few_slots = rw l f.arrays.sheet.few_slots;
-        few_colours = f.arrays.sheet.few_colours;
-        splits = f.arrays.splits.within;
-        within = rw l (let e = whole (length g.order) (level_words g) in omega (arith, f.arrays.whole, e));
+        long = l;
+        within = let e = whole (length g.order) (level_words g) in omega (arith, f.whole, e);
         coloured = λ i. rw z (omega (arith, zeros (length hs) i));
         marked = λ i. rw y (omega (arith, some-mark, zeros (length hs + 1) i));
       }
@@ -74,12 +72,12 @@ module _ {g : Given} {work out : List ℕ} (L M : List ℕ) (f : FilledIn g work
       whole : (n s : ℕ) → s ≤ (n + 1) * s
       whole n s = omega arith
 
-  met : Met q hs g.bounds g.radices g.draws g.parts g.counts work q.colours q.budgets f.arrays.splits rising points f.table 0 none unmarked (q.budgets - 1)
+  met : Met q hs g.bounds g.radices g.draws g.parts g.counts work q.colours q.budgets a.splits rising points f.table 0 none unmarked (q.budgets - 1)
   met =
-      record { long = length-replicate (length hs) 0; marks_long = length-replicate (suc (length hs)) 0; budget = omega (arith, f.arrays.sheet.some_budget); reached = λ p i. reached-start P rising points p i }
+      record { long = length-replicate (length hs) 0; marks_long = length-replicate (suc (length hs)) 0; budget = omega (arith, a.sheet.some_budget); reached = λ p i. reached-start P rising points p i }
 
   worth : worth_in g work (empty_sheet P q.budgets) points ≡ least_cost P q.budgets points
-  worth = met-value q hs g.bounds g.radices g.draws g.parts g.counts work q.colours q.budgets f.arrays.splits rising points f.table 0 points none unmarked (q.budgets - 1) refl (omega arith) met
+  worth = met-value q hs g.bounds g.radices g.draws g.parts g.counts work q.colours q.budgets a.splits rising points f.table 0 points none unmarked (q.budgets - 1) refl (omega arith) met
 
   pub least-is : rest_rows g.parts g.counts work 0 (length L) q.colours q.budgets L M (q.budgets - 1) ≡ least_cost P q.budgets points
   unfolding value_in
@@ -93,19 +91,19 @@ module _ {g : Given} {work out : List ℕ} (L M : List ℕ) (f : FilledIn g work
   walked : least_cost P q.budgets points < top_word
       → (walk_by (labels P) (worth_in g work) (empty_sheet P q.budgets) points ≡ walk_by (labels P) (value P) (empty_sheet P q.budgets) points)
       × Found (labels P) (worth_in g work) (empty_sheet P q.budgets) points
-  walked h = walk-right q hs g.bounds g.radices g.draws g.parts g.counts work q.colours q.budgets f.arrays.splits rising points f.table points 0 none unmarked (q.budgets - 1) refl (omega arith) met h
+  walked h = walk-right q hs g.bounds g.radices g.draws g.parts g.counts work q.colours q.budgets a.splits rising points f.table points 0 none unmarked (q.budgets - 1) refl (omega arith) met h
 
   pub starts : (least x : ℕ) → least ≡ least_cost P q.budgets points → least < top_word → Standing g work L M (set out 0 x) 0 (q.budgets - 1) least
   starts least x e h =
       rw (z, no-mark)
       (record {
         tied = omega arith;
-        answer_fits = rw (length-set out 0 x) (omega (arith, f.answer_fits, long f.arrays));
+        answer_fits = rw (length-set out 0 x) (omega (arith, f.answer_fits, long a));
         labels_long = length-replicate (length hs) 0;
         coloured = λ i. omega (arith, zeros (length hs) i);
         marks_long = length-replicate (suc (length hs)) 0 ∙ sym (add-one (length hs));
         marked = λ i. omega (arith, some-mark, zeros (suc (length hs)) i);
-        budget = omega (arith, f.arrays.sheet.some_budget);
+        budget = omega (arith, a.sheet.some_budget);
         low = h;
         worth = e ∙ sym worth;
         found = (walked (omega arith)).1;

@@ -5,4 +5,4 @@ use Prim.Native.Nat.{◌+◌}
 use Rattle.costs.proofs.masks.mask_below.Given as goal
 
 abbrev pub invariant-loop-w : goal.invariant-loop-w
-invariant-loop-w l = l.mask ≡ mask_from (λ u. below l.radices u l.v) (l.v + 1) l.w
+invariant-loop-w l = l.mask ≡ mask_from (λ u. below l.radices.list.now u l.v) (l.v + 1) l.w

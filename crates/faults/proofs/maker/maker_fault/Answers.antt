@@ -1,25 +1,21 @@
 -- `maker::maker_fault` meets its contract.
-use mathlib.Core.Path.{sym}
+use mathlib.Core.Path.{refl, sym}
 use native.Mathlib.Omega.{arith}
-use Rattle.faults.proofs.Faults.{fault-sheet, fault-side, fault-work, fault-out, fault-none}
+use Rattle.faults.proofs.Faults.{fault-side, fault-work, fault-out, fault-none}
 use Rattle.faults.proofs.maker.maker_fault.Goals as goal
-
-pub returns-then-refusal-ne0 : goal.returns-then-refusal-ne0
-returns-then-refusal-ne0 c = let a = c.args in
-    sym (fault-sheet a.refusal a.two_sided a.needed a.sites a.work a.out (λ none. omega (arith, c.if-refusal-ne0.true)))
 
 pub returns-then-two_sided : goal.returns-then-two_sided
 returns-then-two_sided c = let a = c.args in
-    sym (fault-side a.refusal a.two_sided a.needed a.sites a.work a.out (omega (arith, c.if-refusal-ne0.false)) c.if-two_sided.true)
+    sym (fault-side 0 a.two_sided a.needed a.sites a.work a.out refl c.if-two_sided.true)
 
 pub returns-then-work-needed : goal.returns-then-work-needed
 returns-then-work-needed c = let a = c.args in
-    sym (fault-work a.refusal a.two_sided a.needed a.sites a.work a.out (omega (arith, c.if-refusal-ne0.false)) c.if-two_sided.false (omega (arith, c.if-work-needed.true)))
+    sym (fault-work 0 a.two_sided a.needed a.sites a.work a.out refl c.if-two_sided.false (omega (arith, c.if-work-needed.true)))
 
 pub returns-then-out-sites : goal.returns-then-out-sites
 returns-then-out-sites c = let a = c.args in
-    sym (fault-out a.refusal a.two_sided a.needed a.sites a.work a.out (omega (arith, c.if-refusal-ne0.false)) c.if-two_sided.false (omega (arith, c.if-work-needed.false)) (omega (arith, c.if-out-sites.true)))
+    sym (fault-out 0 a.two_sided a.needed a.sites a.work a.out refl c.if-two_sided.false (omega (arith, c.if-work-needed.false)) (omega (arith, c.if-out-sites.true)))
 
 pub returns : goal.returns
 returns c = let a = c.args in
-    sym (fault-none a.refusal a.two_sided a.needed a.sites a.work a.out (omega (arith, c.if-refusal-ne0.false)) c.if-two_sided.false (omega (arith, c.if-work-needed.false)) (omega (arith, c.if-out-sites.false)))
+    sym (fault-none 0 a.two_sided a.needed a.sites a.work a.out refl c.if-two_sided.false (omega (arith, c.if-work-needed.false)) (omega (arith, c.if-out-sites.false)))

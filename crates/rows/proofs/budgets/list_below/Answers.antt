@@ -13,7 +13,7 @@ pub loop-w-init : goal.loop-w-init
 unfolding mask_of
 loop-w-init c =
     let mask = c.mask_below-mask.ensures ∙ sym (mask-all _ _) in
-    (c.requires.v_lt_most_budgets.1, mask, listed-none _ _ _, others-none _ _ _)
+    (c.requires.1, mask, listed-none _ _ _, others-none _ _ _)
 
 pub loop-w-preserved : goal.loop-w-preserved
 loop-w-preserved c =
@@ -22,12 +22,12 @@ loop-w-preserved c =
     let n : l.count < most_budgets = omega (arith, l.invariant.2.few) in
     let x = a.v * most_budgets + l.count in
     let m = l.invariant.1 in
-    let may = λ (u : ℕ). below a.radices.now u a.v in
+    let may = λ (u : ℕ). below a.radices.list.now u a.v in
     let same = λ (i : ℕ) (h : i < l.count). get_or-set_other l.parts x (a.v * most_budgets + i) l.w 0 (λ e. omega arith) in
     let last = get_or-set_same l.parts x l.w 0 (omega (arith, l.invariant.0)) in (
       simp length-set l.invariant.0,
       ap (λ (z : ℕ). z / 2) m ∙ mask-half may (a.v + 1) l.w (omega arith),
       rw (c.from-count.ensures, m, mask_low may (a.v + 1) l.w (omega arith))
-          (listed_next a.radices.now a.v l.w l.count _ _ same last l.invariant.2),
+          (listed_next a.radices.list.now a.v l.w l.count _ _ same last l.invariant.2),
       others-set a.parts.now l.parts (a.v * most_budgets) most_budgets l.count l.w n l.invariant.3,
     )

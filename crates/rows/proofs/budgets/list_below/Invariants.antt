@@ -8,4 +8,4 @@ use lib.ListN.{length, get_or}
 use Rattle.rows.proofs.budgets.list_below.Given as goal
 
 abbrev pub invariant-loop-w : goal.invariant-loop-w
-invariant-loop-w l = (length l.parts ≡ splits_length) × (l.mask ≡ mask_from (λ u. below l.radices u l.v) (l.v + 1) l.w) × Listed l.radices l.v l.w l.count (λ i. get_or l.parts (l.v * most_budgets + i) 0) × Others l.initial.parts l.parts (l.v * most_budgets) most_budgets
+invariant-loop-w l = (length l.parts ≡ splits_length) × (l.mask ≡ mask_from (λ u. below l.radices.list.now u l.v) (l.v + 1) l.w) × Listed l.radices.list.now l.v l.w l.count (λ i. get_or l.parts (l.v * most_budgets + i) 0) × Others l.initial.parts l.parts (l.v * most_budgets) most_budgets

@@ -6,10 +6,10 @@ use Rattle.rows.proofs.rest.join_row.Goals as goal
 pub loop-v-preserved : goal.loop-v-preserved
 loop-v-preserved c =
     let l = c.loop-v in
-    joined-more _ _ _ _ _ _ l.v _ _ l.invariant (omega arith) c.requires.0 c.least_split.ensures
+    joined-more l.invariant (omega arith) c.args.splits.now.within (omega arith) c.least_split.ensures
 
 pub returns : goal.returns
 returns c =
     let l = c.loop-v in
     let e : l.v ≡ 0 = omega arith in
-    joined-all _ _ _ _ _ _ (rw e at l.invariant)
+    joined-all (rw e at l.invariant)

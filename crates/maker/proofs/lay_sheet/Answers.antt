@@ -1,4 +1,4 @@
--- `maker::make_layout` meets its contract.
+-- `maker::lay_sheet` meets its contract.
 use Rattle.std.specs.Prelude.{Ok, Err}
 use Rattle.sheet.specs.Sheet.{sheet_in, sheet_fault, work_for}
 use Rattle.labelling.specs.Promise.{TakesSheet}
@@ -15,7 +15,8 @@ use Rattle.reader.specs.Opened.{opened_of, sheet_opened}
 use Rattle.reader.specs.Read.{read_of, read_post}
 use Rattle.reader.proofs.Opening.{refusal_is, accepted-read, accepted-sizes}
 use Rattle.maker.proofs.Calls.{call, refused, taken}
-use mathlib.Core.Path.{◌≡◌, ◌∙◌}
+use mathlib.Core.Path.{◌≡◌, refl, ap, ◌∙◌}
+use Rattle.std.proofs.lemmas.Result.{err_from_is_err_and}
 use mathlib.Core.Bool.{Bool}
 use mathlib.Core.List.{List}
 use Prim.Native.Nat.{ℕ, ◌<◌}
@@ -23,7 +24,7 @@ use native.Mathlib.Omega.{arith}
 use lib.ListN.{length, get_or}
 use mir.Syntax.{w32}
 use mir.Val.{Fits}
-use Rattle.maker.proofs.make_layout.Goals as goal
+use Rattle.maker.proofs.lay_sheet.Goals as goal
 
 -- what the call gives and leaves where it refuses
 abbrev Refuses : (ws k o : List ℕ) → (number : ℕ) → Type 0
@@ -41,35 +42,44 @@ module _ (ws k o : List ℕ) (d : Numbers) {r : Sizes} (e : opened_of (Ok d) ≡
   read-is : r ≡ read_post ws
   read-is = z ∙ accepted-sizes ws d e
 
-  module _ {two : Bool} {f : ℕ} (side : two ≡ (sheet_in ws).is_two_sided) (q : f ≡ maker_fault r.refusal two r.work r.n (length k) (length o)) where
+  unrefused : r.refusal ≡ 0
+  unrefused = ap (λ (x : Sizes). x.refusal) z
+
+  module _ {two : Bool} {f : ℕ} (side : two ≡ (sheet_in ws).is_two_sided) (q : f ≡ maker_fault 0 two r.work r.n (length k) (length o)) where
+    same-fault : f ≡ maker_fault r.refusal two r.work r.n (length k) (length o)
+    same-fault = rw unrefused q
+
     unserved : (f ≡ 0 → ⊥) → Refuses ws k o f
-    unserved = refused ws k o r read-is two side f q
+    unserved = refused ws k o r read-is two side f same-fault
 
     takes : ((i : ℕ) → Fits w32 (get_or ws i 0)) → f ≡ 0 → TakesSheet ws k o × (r.work ≡ work_for (sheet_in ws))
-    takes u v = taken ws k o r read-is two side f q (λ i. omega (arith, u i)) v
+    takes u v = taken ws k o r read-is two side f same-fault (λ i. omega (arith, u i)) v
 
-pub returns-in-Err : goal.returns-in-Err
-returns-in-Err c =
+pub returns-in_err-numbers : goal.returns-in_err-numbers
+returns-in_err-numbers c =
     let a = c.args in
-    let facts = unopened a.sheet.now a.work.now a.out.now c.in-Err.refusal c.in-Err.ensures c.number.ensures in
-    record { value = facts.0; work_after = facts.1.0; out_after = facts.1.1 }
+    let p = err_from_is_err_and c.from_residual.result c.from_residual.ensures.1 in
+    let facts = unopened a.sheet.now a.work.now a.out.now c.in_err-numbers.field-0.0 c.in_err-numbers.ensures refl in
+    record { value = rw (p.1, p.2) facts.0; work_after = facts.1.0; out_after = facts.1.1 }
 
-pub returns-then-fault-ne0 : goal.returns-then-fault-ne0
-returns-then-fault-ne0 c =
+pub returns-in_err-maker_fault : goal.returns-in_err-maker_fault
+returns-in_err-maker_fault c =
     let a = c.args in
-    let facts = unserved a.sheet.now a.work.now a.out.now c.in-Ok.numbers c.in-Ok.ensures c.sizes_of-sizes.ensures c.is_two_sided.ensures c.maker_fault-fault.ensures c.if-fault-ne0.true in
-    record { value = facts.0; work_after = facts.1.0; out_after = facts.1.1 }
+    let p = err_from_is_err_and c.from_residual-in_err-maker_fault.result c.from_residual-in_err-maker_fault.ensures.1 in
+    let r = c.in_err-maker_fault.field-0.0 in
+    let facts = unserved a.sheet.now a.work.now a.out.now c.in_ok-numbers.numbers c.in_ok-numbers.ensures c.sizes_of-sizes.ensures c.is_two_sided.ensures c.in_err-maker_fault.ensures (λ e. omega (arith, e, number-above r)) in
+    record { value = rw (p.1, p.2) facts.0; work_after = facts.1.0; out_after = facts.1.1 }
 
 -- what is laid out
 pub lay_binding-requires : goal.lay_binding-requires
 lay_binding-requires c =
     let a = c.args in
-    let t = takes a.sheet.now a.work.now a.out.now c.in-Ok.numbers c.in-Ok.ensures c.sizes_of-sizes.ensures c.is_two_sided.ensures c.maker_fault-fault.ensures c.type_inv.sheet c.if-fault-ne0.false in
-    record { read = accepted-read a.sheet.now c.in-Ok.numbers c.in-Ok.ensures; takes = t.0; words-needed = t.1 }
+    let t = takes a.sheet.now a.work.now a.out.now c.in_ok-numbers.numbers c.in_ok-numbers.ensures c.sizes_of-sizes.ensures c.is_two_sided.ensures c.in_ok-maker_fault.ensures c.type_inv.sheet refl in
+    record { read = accepted-read a.sheet.now c.in_ok-numbers.numbers c.in_ok-numbers.ensures; takes = t.0; words-needed = t.1 }
 
 pub returns : goal.returns
 returns c =
     let a = c.args in
-    let t = takes a.sheet.now a.work.now a.out.now c.in-Ok.numbers c.in-Ok.ensures c.sizes_of-sizes.ensures c.is_two_sided.ensures c.maker_fault-fault.ensures c.type_inv.sheet c.if-fault-ne0.false in
-    let made = c.lay_binding.ensures _ t.0 (accepted-read a.sheet.now c.in-Ok.numbers c.in-Ok.ensures).numbers in
+    let t = takes a.sheet.now a.work.now a.out.now c.in_ok-numbers.numbers c.in_ok-numbers.ensures c.sizes_of-sizes.ensures c.is_two_sided.ensures c.in_ok-maker_fault.ensures c.type_inv.sheet refl in
+    let made = c.lay_binding.ensures _ t.0 (accepted-read a.sheet.now c.in_ok-numbers.numbers c.in_ok-numbers.ensures).numbers in
     record { value = made.fault-is; work_after = made.work-is; out_after = made.out-is }

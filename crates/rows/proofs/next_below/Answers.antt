@@ -1,7 +1,0 @@
-use borrow.Author.Rules.{rules}
-use Rattle.optimum.specs.OneSided.{mark_count}
-use Rattle.rows.proofs.next_below.Goals as goal
-
-pub returns : goal.returns
-unfolding mark_count
-returns c = search rules

@@ -1,6 +1,0 @@
-use Rattle.strips.proofs.Decisions.{joins-down-by}
-use mathlib.Core.Path.{refl}
-use Rattle.strips.proofs.joins_down.Goals as goal
-
-pub returns : goal.returns
-returns c = λ bs. rw (c.is_clear.ensures, joins-down-by) refl
