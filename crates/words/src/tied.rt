@@ -3,7 +3,7 @@ ghost use Rattle.std.specs.Prelude.{◌≡◌};
 ghost use Rattle.words.specs.Starts.{start_of};
 
 // A site with its colour, its slot and the slot's height.
-#[derive(Clone, Copy)]
+#[derive(Clone, Copy, PartialEq, Eq)]
 pub struct TiedSite {
     pub x: u32,
     pub y: u32,
@@ -13,7 +13,7 @@ pub struct TiedSite {
 }
 
 // What stands before the slots: side, aim, gap and width, and the charge.
-#[derive(Clone, Copy)]
+#[derive(Clone, Copy, PartialEq, Eq)]
 pub struct Head {
     pub twosided: bool,
     pub shortest: bool,
