@@ -27,6 +27,7 @@ pub struct ColourSize {
     pub sites: u8,
 }
 
+// A C struct: its refusal is a number, 0 for none, and its eight colours are an array.
 #[repr(C)]
 #[derive(Drop)]
 pub struct Sizes {

@@ -1,5 +1,5 @@
-// A site's drop and its share of the length. Document 01 names the form of a drop: an i32 from two heights, its magnitude by a helper with
-// negation. So neither `abs_diff` of the heights nor `unsigned_abs` stands here.
+// A site's drop and its share of the length. A rule of the project names the form of a drop: an i32 from two heights, its magnitude by a
+// helper with negation. So neither `abs_diff` of the heights nor `unsigned_abs` stands here.
 ghost use Rattle.std.specs.Prelude.{◌≡◌, ◌<◌, pos, nat_abs, ◌-ℤ◌};
 ghost use Rattle.labelling.specs.Layout.{share_by};
 ghost use Rattle.lists.specs.Signs.{sign_top};

@@ -14,7 +14,7 @@ ghost use Rattle.sheet.specs.Sheet.{bits, rank_by};
 ghost use Rattle.sheet.specs.Words.{rank_in};
 ghost use Rattle.search.specs.Cost.{plus};
 
-// The cost of "none".
+// The cost of "none": a number and no Option, since sums saturate at it and the least of two is `min`, without a branch.
 pub const NONE: u32 = u32::MAX;
 
 // The place right after the head, where a charge may stand.
@@ -32,6 +32,7 @@ pub const MOST_SITES: usize = 32;
 
 pub const MOST_BUDGETS: u32 = 64;
 
+// The bound that stands for none in a colour's word, and so in arrays of bounds.
 pub const UNBOUNDED: u32 = 255;
 
 pub const KIND_TOP: u32 = 268435456;
