@@ -1,4 +1,6 @@
 // A line of each sort: of a used slot, of a site, and the last.
+ghost use Rattle.std.specs.Prelude.{◌<◌};
+ghost use Rattle.lists.specs.Signs.{sign_top};
 ghost use Rattle.text.specs.Puts.{Puts};
 ghost use Rattle.page_lines.specs.Columns.{field, field_after};
 ghost use Rattle.page_lines.specs.Lines.{slot_line, drop_text, site_line, total_line};
@@ -6,6 +8,7 @@ ghost use Rattle.page_lines.specs.Lines.{slot_line, drop_text, site_line, total_
 use crate::columns::{Columns, put_end, put_field, put_plain};
 use std::cmp::Ordering;
 use text::Text;
+use words::drops::{drop_of, magnitude};
 
 // The columns of a label's line.
 const SLOT: Columns = Columns {
@@ -93,17 +96,20 @@ pub fn put_slot_line(text: &mut Text, label: Label)
 
 // A drop, by the height of its slot and its own: + or - just before its digits, none at zero.
 fn put_drop(text: &mut Text, columns: Columns, height: u32, y: u32)
+    requires { (height < sign_top) × (y < sign_top) }
     ensures { Puts text.old text.new (field_after columns.after (field columns.from columns.to (drop_text height y))) }
 {
-    let sign: &[u8] = match height.cmp(&y) {
+    let drop = drop_of(height, y);
+    let sign: &[u8] = match drop.cmp(&0) {
         Ordering::Greater => b"+",
         Ordering::Less => b"-",
         Ordering::Equal => b"",
     };
-    put_field(text, columns, sign, u64::from(height.abs_diff(y)));
+    put_field(text, columns, sign, u64::from(magnitude(drop)));
 }
 
 pub fn put_site_line(text: &mut Text, site: u32, slot: u32, height: u32, y: u32)
+    requires { (height < sign_top) × (y < sign_top) }
     ensures { Puts text.old text.new (site_line site slot height y) }
 {
     text.put_bytes(b"  drop");

@@ -39,6 +39,7 @@ pub fn lay_least(sheet: &RankedSheet, work: &[u32], out: &mut [u32]) -> Result<(
         &mut labels[..m],
         &mut marks[..places],
         out,
+        0,
         whole,
     );
     Ok(())

@@ -50,21 +50,23 @@ fn tie_site(
     }
 }
 
-// THE WALK: ties all sites by rising rank.
+// THE WALK: ties the sites from rank j on, one a call, so that the number of untied sites falls.
 pub fn walk(
     sheet: &RankedSheet,
     work: &[u32],
     labels: &mut [u32],
     marks: &mut [u32],
     out: &mut [u32],
-    whole: Left,
+    j: usize,
+    left: Left,
 )
     requires { let g = given_of sheet.now in
-        LevelsFit g work.now × Standing g work.now labels.old marks.old out.old 0 whole.budget whole.cost }
-    ensures { out.new ≡ tied_from (given_of sheet.now) work.now labels.old marks.old out.old 0 whole.budget }
+        LevelsFit g work.now × Standing g work.now labels.old marks.old out.old j left.budget left.cost }
+    ensures { out.new ≡ tied_from (given_of sheet.now) work.now labels.old marks.old out.old j left.budget }
 {
-    let mut left = whole;
-    for j in 0..sheet.order.len() {
-        left = tie_site(sheet, work, labels, marks, out, j, left);
+    if j == sheet.order.len() {
+        return;
     }
+    let after = tie_site(sheet, work, labels, marks, out, j, left);
+    walk(sheet, work, labels, marks, out, j + 1, after);
 }

@@ -11,6 +11,11 @@ overflow_cast-i c =
     let o = c.args.opened.now in
     omega (arith, c.requires, sites-few (layout-read o.sheet.now o.layout.now o.accepted o.read o.formed))
 
+pub put_site_line-requires : goal.put_site_line-requires
+put_site_line-requires c =
+    let p = c.sites-sites.result.low in
+    (omega (arith, c.get-height.ensures, p.heights c.slot_at-slot.result), omega (arith, p.ys c.args.i))
+
 pub returns : goal.returns
 returns c =
     let o = c.args.opened.now in
