@@ -6,14 +6,13 @@ use native.Mathlib.Omega.{arith}
 use Rattle.optimum.specs.Strips.{Strip}
 use Rattle.optimum.specs.OneSided.{mark_count}
 use Rattle.rows.specs.Budgets.{Others}
-use Rattle.rows.specs.Rows.{row_of, row_in, Lies, marked_by, upper_part, lower_part, LevelFits}
+use Rattle.rows.specs.Rows.{row_of, row_in, Lies, marked_by, upper_part, lower_part}
 use Rattle.rows.proofs.Places.{row_fits, marked-lies, upper-lies, lower-lies}
 use Rattle.rows.specs.declared.level.TableLevel.{TableLevel}
 use Rattle.rows.specs.Level.{Level, row_at, slots_in, colours_in, budgets_in, Ready}
 use Rattle.entries.specs.declared.filling.Filling.{Filling}
 use Rattle.entries.specs.Entries.{RowFits, PartsFit}
 use Rattle.entries.specs.Filled.{filled_at}
-use Rattle.rows.proofs.Levels.{level-fits}
 
 -- rows past the words that changed are the same
 pub same_rows : (old new : List ℕ) (base count low m C n : ℕ) → base + count ≤ low → Others old new base count → row_in new low m C n ≡ row_in old low m C n
@@ -56,9 +55,6 @@ module _ {l : Level} {area : ℕ} (r : Ready l (budgets_in l) area) where
         upper_apart = omega (arith, f, r.apart);
         lower_apart = omega (arith, g, r.apart);
       }
-
-  pub below-fits : LevelFits l.arrays.measures (slots_in l) l.low area
-  below-fits = level-fits r.sheet r.within
 
 -- a row of a level that code is given, and the level below it
 pub row-ready : (v : TableLevel) {at : ℕ} {p : Strip} {area : ℕ} → RowFits (row_at v at) p area → Ready (row_at v at) (budgets_in (row_at v at)) area

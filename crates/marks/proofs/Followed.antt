@@ -15,9 +15,8 @@ use Rattle.optimum.proofs.Levels.{pack-lt}
 use Rattle.optimum.proofs.Marks.{some-mark}
 use Rattle.arrays.specs.declared.Measures.{Measures}
 use Rattle.strips.specs.Strips.{instance_on}
-use Rattle.rows.specs.Rows.{row_of, level_of, Lies, end_place, low_place, upper_end, LevelFits}
+use Rattle.rows.specs.Rows.{row_of, level_of, Lies, end_place, low_place, upper_end}
 use Rattle.rows.proofs.Places.{row_fits}
-use Rattle.rows.proofs.Levels.{level-fits}
 use Rattle.rows.specs.Level.{Ready, Level, slots_in, colours_in, budgets_in, words_in}
 use Rattle.marks.specs.Marks.{Shaped, Led}
 use Rattle.parts.specs.Parts.{Marked, Marking}
@@ -168,9 +167,6 @@ pub start-lies : (m C a ca : ℕ) → a ≤ m → ca ≤ C → Lies m C (record 
 start-lies m C a ca h k = record { a_low = omega arith; ca_low = omega arith; b_low = omega arith; cb_low = omega arith; d_low = some-mark }
 
 module _ {l : Level} {area : ℕ} (r : Ready l (words_in l) area) where
-  pub fits-of : LevelFits l.arrays.measures (slots_in l) l.low area
-  fits-of = level-fits r.sheet r.within
-
   -- a row of the upper level
   pub at_low : (p : Strip) → Lies (slots_in l) (colours_in l) p → (at : ℕ) → at ≡ l.base + row_of (slots_in l) (colours_in l) p * budgets_in l → at + budgets_in l ≤ l.low
   at_low p h at e = omega (arith, e, r.apart, row_fits (slots_in l) (colours_in l) (budgets_in l) p h)

@@ -101,6 +101,7 @@ fn follow_below(work: &mut [u32], level: &TableLevel, above: End)
         d: 0,
     };
     let mut at = level.base + rows::row_place(sheet, p);
+    // The strip and its row step together: a range over rows would take each row apart by division to find its strip.
     while p.b < ends {
         mark_row(work, level, p, at);
         at += n;
@@ -115,6 +116,7 @@ fn follow_level(work: &mut [u32], level: &TableLevel)
 {
     let q = level.sheet.measures;
     let ends = (level.sheet.heights.len() as u32) + 1;
+    // An end is two numbers, slot and colour: a range would go over their places and take each apart by division.
     let mut above = End { slot: 0, colour: 0 };
     while above.slot < ends {
         follow_below(work, level, above);
@@ -173,6 +175,7 @@ fn clear_level(work: &mut [u32], sheet: &RankedSheet, base: usize)
 {
     let q = sheet.measures;
     let ends = (sheet.heights.len() as u32) + 1;
+    // An end is two numbers, slot and colour: a range would go over their places and take each apart by division.
     let mut above = End { slot: 0, colour: 0 };
     while above.slot < ends {
         clear_below(work, sheet, above, base);

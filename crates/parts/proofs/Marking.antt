@@ -10,7 +10,7 @@ use Rattle.search.specs.Cost.{plus}
 use Rattle.optimum.specs.OneSided.{top_word, mark_count}
 use Rattle.optimum.specs.Strips.{Point, Strip}
 use Rattle.arrays.specs.declared.Measures.{Measures}
-use Rattle.rows.specs.Rows.{row_of, rows_of, row_in, most_place, Lies, upper_part, lower_part, LevelFits}
+use Rattle.rows.specs.Rows.{row_of, rows_of, row_in, Lies, upper_part, lower_part, LevelFits}
 use Rattle.rows.proofs.Places.{row_fits, upper-lies, lower-lies}
 use Rattle.parts.specs.Parts.{parts_cost, Marked, Marking, PartsMarked}
 
@@ -46,11 +46,6 @@ module _ {q : Measures} {m low area : ℕ} (r : LevelFits q m low area) (p : Str
 
   pub own-marked : (old : List ℕ) (at : ℕ) → area ≡ length old → at ≡ low + row_of m q.colours p * q.budgets → Marked (set old at 1) low m q.colours q.budgets p
   own-marked old at a e = rw (← e) (get_or-set_same old at 1 0 (omega (arith, e, a, own-within)))
-
--- its places are numbers that code holds
-pub fits-place : {q : Measures} {m low area : ℕ} → LevelFits q m low area → low + rows_of m q.colours * q.budgets ≤ most_place → LevelFits q m low most_place
-fits-place r h =
-    record { few_slots = r.few_slots; few_colours = r.few_colours; few_budgets = r.few_budgets; some_budget = r.some_budget; within = h }
 
 -- what is marked stays so
 pub parts-kept : (q : Measures) (old new : List ℕ) (low m size : ℕ) (p : Strip) (s : Point) {k d : ℕ} → Marking old new low size → PartsMarked q old low m p s k d → PartsMarked q new low m p s k d

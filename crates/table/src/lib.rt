@@ -39,6 +39,7 @@ fn fill_below(work: &mut [u32], filling: &Filling, above: End)
         d: 0,
     };
     let mut at = filling.level.base + rows::row_place(sheet, p);
+    // The strip and its row step together: a range over rows would take each row apart by division to find its strip.
     while p.b < ends {
         entries::fill_row(work, filling, p, at);
         at += n;
@@ -53,6 +54,7 @@ fn fill_level(work: &mut [u32], filling: &Filling)
 {
     let q = filling.level.sheet.measures;
     let ends = (filling.level.sheet.heights.len() as u32) + 1;
+    // An end is two numbers, slot and colour: a range would go over their places and take each apart by division.
     let mut above = End { slot: 0, colour: 0 };
     while above.slot < ends {
         fill_below(work, filling, above);
