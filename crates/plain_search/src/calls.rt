@@ -1,8 +1,8 @@
 // What a call of the layout maker should answer and leave, by the search. Some calls are lent too little.
 use crate::search::{Found, search};
-use crate::small_sheet::Sheet;
 use crate::small_sheet::recipe::Recipe;
-use std::alloc::{AllocError, Global};
+use crate::small_sheet::{MOST_SITES, Sheet};
+use arrayvec::ArrayVec;
 
 // The first word of a layout, whose count of labels stands above 21 bits, and a tie.
 const LAYOUT: u32 = 8 << 28;
@@ -10,6 +10,9 @@ const LAYOUT: u32 = 8 << 28;
 const TIE: u32 = 9 << 28;
 
 const LABELS_BIT: u32 = 21;
+
+// So many words has an answer at most.
+const MOST_ANSWER_WORDS: usize = 1 + MOST_SITES;
 
 // The low half of a word is below this.
 const HALF_TOP: usize = 65536;
@@ -26,8 +29,8 @@ pub enum Refusal {
 #[derive(Drop)]
 pub struct Call {
     pub sheet: Sheet,
-    work: usize,
-    answer: usize,
+    pub work: usize,
+    pub answer: usize,
     // the areas' words before the call come from it
     areas: u32,
     pub(crate) outcome: Result<Found, Refusal>,
@@ -40,63 +43,48 @@ fn old_word(place: usize, seed: u32) -> u32 {
     LAYOUT | u32::from(place.wrapping_mul(7).wrapping_add(half))
 }
 
-fn area(alloc: Global, words: usize, seed: u32) -> Result<Vec<u32>, AllocError> {
-    (0..words).map(|place| old_word(place, seed)).collect(alloc)
-}
-
-// Does an area hold what a call writes in front, and else what it held before?
-fn is_left(area: &[u32], front: &[u32], seed: u32) -> bool {
-    area.iter().enumerate().all(|(place, word)| {
-        *word
-            == front
-                .get(place)
-                .copied()
-                .unwrap_or_else(|| old_word(place, seed))
-    })
+// Does an area hold what it held before a call, from a place on?
+fn is_old(area: &[u32], from: usize, seed: u32) -> bool {
+    let mut words = area.iter().enumerate().skip(from);
+    words.all(|(place, word)| *word == old_word(place, seed))
 }
 
 // A two-sided sheet is refused whatever is lent.
-fn outcome_of(
-    alloc: Global,
-    sheet: &Sheet,
-    work: usize,
-    answer: usize,
-) -> Result<Result<Found, Refusal>, AllocError> {
+fn outcome_of(sheet: &Sheet, work: usize, answer: usize) -> Result<Found, Refusal> {
     if sheet.two_sided {
-        return Ok(Err(Refusal::TwoSided));
+        return Err(Refusal::TwoSided);
     }
     if work < sheet.work_words() {
-        return Ok(Err(Refusal::Work));
+        return Err(Refusal::Work);
     }
     if answer < sheet.answer_words() {
-        return Ok(Err(Refusal::Answer));
+        return Err(Refusal::Answer);
     }
-    Ok(search(alloc, sheet)?.ok_or(Refusal::NoLayout))
+    search(sheet, sheet.terms).ok_or(Refusal::NoLayout)
 }
 
 impl Call {
     // The next call of a recipe.
-    pub fn draw(alloc: Global, recipe: &mut Recipe) -> Result<Call, AllocError> {
-        let sheet = recipe.sheet(alloc)?;
+    pub fn draw(recipe: &mut Recipe) -> Call {
+        let sheet = recipe.sheet();
         let work = recipe.lent(sheet.work_words());
         let answer = recipe.lent(sheet.answer_words());
         recipe.skip();
-        let outcome = outcome_of(alloc, &sheet, work, answer)?;
-        Ok(Call {
+        let outcome = outcome_of(&sheet, work, answer);
+        Call {
             sheet,
             work,
             answer,
             areas: recipe.areas_seed(),
             outcome,
-        })
+        }
     }
 
-    pub fn work_area(&self, alloc: Global) -> Result<Vec<u32>, AllocError> {
-        area(alloc, self.work, self.areas)
-    }
-
-    pub fn answer_area(&self, alloc: Global) -> Result<Vec<u32>, AllocError> {
-        area(alloc, self.answer, self.areas)
+    // Puts into an area what it holds before the call.
+    pub fn fill(&self, area: &mut [u32]) {
+        for (place, word) in area.iter_mut().enumerate() {
+            *word = old_word(place, self.areas);
+        }
     }
 
     // The number that the call gives.
@@ -108,42 +96,36 @@ impl Call {
     }
 
     // The needed work words are zero after an answer, and where there is no layout.
-    fn work_written(&self, alloc: Global) -> Result<Vec<u32>, AllocError> {
-        let words = match self.outcome {
+    fn is_work_left(&self, work: &[u32]) -> bool {
+        let written = match self.outcome {
             Ok(_) | Err(Refusal::NoLayout) => self.sheet.work_words(),
             Err(_) => 0,
         };
-        vec![in alloc; 0; words]
+        work.iter().take(written).all(|word| *word == 0) && is_old(work, written, self.areas)
     }
 
     // An answer stands in front: count and length, then a word for each site.
-    fn answer_written(&self, alloc: Global) -> Result<Vec<u32>, AllocError> {
-        let mut words = Vec::new(alloc);
+    fn answer_written(&self) -> ArrayVec<u32, MOST_ANSWER_WORDS> {
+        let mut words = ArrayVec::new();
         if let Ok(found) = &self.outcome {
             let size = found.size;
-            words.push(LAYOUT | size.labels << LABELS_BIT | size.length)?;
+            let _ = words.try_push(LAYOUT | size.labels << LABELS_BIT | size.length);
             for site in &self.sheet.sites {
                 let tie = found.ties.iter().find(|tie| tie.site == *site);
-                words.extend(tie.map(|tie| TIE | u32::from(tie.slot.number)))?;
+                let _ = words.extend(tie.map(|tie| TIE | u32::from(tie.slot.number)));
             }
         }
-        Ok(words)
+        words
+    }
+
+    fn is_answer_left(&self, answer: &[u32]) -> bool {
+        let written = self.answer_written();
+        answer.iter().zip(&written).all(|(word, other)| word == other)
+            && is_old(answer, written.len(), self.areas)
     }
 
     // Are a call's answer and both areas after it as they should be?
-    pub fn is_right(
-        &self,
-        alloc: Global,
-        fault: u8,
-        work: &[u32],
-        answer: &[u32],
-    ) -> Result<bool, AllocError> {
-        let work_written = self.work_written(alloc)?;
-        let answer_written = self.answer_written(alloc)?;
-        Ok(
-            fault == self.fault()
-                && is_left(work, &work_written, self.areas)
-                && is_left(answer, &answer_written, self.areas),
-        )
+    pub fn is_right(&self, fault: u8, work: &[u32], answer: &[u32]) -> bool {
+        fault == self.fault() && self.is_work_left(work) && self.is_answer_left(answer)
     }
 }

@@ -2,8 +2,7 @@
 use crate::calls::{Call, Refusal};
 use crate::rules::Layout;
 use crate::search::{Found, search};
-use crate::small_sheet::Sheet;
-use std::alloc::{AllocError, Global};
+use crate::small_sheet::{Sheet, Terms};
 
 // What a sheet and the call with it can be.
 #[derive(Clone, Copy)]
@@ -65,6 +64,7 @@ fn has_site_on_slot(sheet: &Sheet) -> bool {
 fn spends_bound(sheet: &Sheet, found: &Found) -> bool {
     let layout = Layout {
         sheet,
+        terms: sheet.terms,
         ties: &found.ties,
     };
     sheet.colours.iter().any(|colour| {
@@ -73,29 +73,28 @@ fn spends_bound(sheet: &Sheet, found: &Found) -> bool {
 }
 
 // Is the answer another than without the charge?
-fn charge_alters(alloc: Global, sheet: &Sheet, found: &Found) -> Result<bool, AllocError> {
-    if matches!(sheet.charge, None | Some(0)) {
-        return Ok(false);
+fn charge_alters(sheet: &Sheet, found: &Found) -> bool {
+    if matches!(sheet.terms.charge, None | Some(0)) {
+        return false;
     }
-    let uncharged = Sheet {
+    let uncharged = Terms {
         charge: None,
-        ..sheet.clone()?
+        ..sheet.terms
     };
-    let other = search(alloc, &uncharged)?;
-    Ok(other.is_none_or(|other| other.ties != found.ties))
+    search(sheet, uncharged).is_none_or(|other| other.ties != found.ties)
 }
 
 // Is the answer, or that there is none, another than where rule 5 counts no site left of a tip? With gap 1 it counts none.
-fn tip_alters(alloc: Global, sheet: &Sheet, found: Option<&Found>) -> Result<bool, AllocError> {
-    if sheet.clearance == 1 {
-        return Ok(false);
+fn tip_alters(sheet: &Sheet, found: Option<&Found>) -> bool {
+    if sheet.terms.clearance == 1 {
+        return false;
     }
-    let uncleared = Sheet {
+    let uncleared = Terms {
         clearance: 1,
-        ..sheet.clone()?
+        ..sheet.terms
     };
-    let other = search(alloc, &uncleared)?;
-    Ok(other.as_ref().map(|other| &other.ties) != found.map(|found| &found.ties))
+    let other = search(sheet, uncleared);
+    other.as_ref().map(|other| &other.ties) != found.map(|found| &found.ties)
 }
 
 impl Call {
@@ -104,40 +103,36 @@ impl Call {
     }
 
     // Is the call of a kind? It differs if it was not right.
-    fn is_of(&self, alloc: Global, kind: Kind, right: bool) -> Result<bool, AllocError> {
+    fn is_of(&self, kind: Kind, right: bool) -> bool {
         let sheet = &self.sheet;
         let found = self.outcome.as_ref().ok();
-        Ok(match kind {
+        match kind {
             Kind::Any => true,
             Kind::TwoSided => sheet.two_sided,
             Kind::Shortest => sheet.shortest,
             Kind::EqualRows => has_equal_rows(sheet),
             Kind::OnSlots => has_site_on_slot(sheet),
-            Kind::Charged => sheet.charge.is_some(),
-            Kind::ChargeOfZero => sheet.charge == Some(0),
+            Kind::Charged => sheet.terms.charge.is_some(),
+            Kind::ChargeOfZero => sheet.terms.charge == Some(0),
             Kind::WorkRefused => self.is_refused(Refusal::Work),
             Kind::AnswerRefused => self.is_refused(Refusal::Answer),
             Kind::NoLayout => self.is_refused(Refusal::NoLayout),
             Kind::Answered => found.is_some(),
             Kind::Equals => found.is_some_and(|found| 1 < found.equals),
             Kind::BoundSpent => found.is_some_and(|found| spends_bound(sheet, found)),
-            Kind::ChargeAlters => match found {
-                Some(found) => charge_alters(alloc, sheet, found)?,
-                None => false,
-            },
+            Kind::ChargeAlters => found.is_some_and(|found| charge_alters(sheet, found)),
             Kind::TipAlters => {
                 let is_searched = found.is_some() || self.is_refused(Refusal::NoLayout);
-                is_searched && tip_alters(alloc, sheet, found)?
+                is_searched && tip_alters(sheet, found)
             }
             Kind::Differs => !right,
-        })
+        }
     }
 
     // Each kind that the call is of once more.
-    pub fn count(&self, alloc: Global, right: bool, counts: &mut [u32]) -> Result<(), AllocError> {
+    pub fn count(&self, right: bool, counts: &mut [u32]) {
         for (count, kind) in counts.iter_mut().zip(KINDS) {
-            *count = count.saturating_add(u32::from(self.is_of(alloc, kind, right)?));
+            *count = count.saturating_add(u32::from(self.is_of(kind, right)));
         }
-        Ok(())
     }
 }

@@ -1,8 +1,8 @@
 // The rules of a lawful layout, each as its sentence says.
-use crate::small_sheet::{Colour, Sheet, Site, Slot};
+use crate::small_sheet::{Colour, Sheet, Site, Slot, Terms};
 
 // A site and the slot that it is tied to.
-#[derive(Clone, Copy, Eq, PartialEq)]
+#[derive(Clone, Copy, Default, Eq, PartialEq)]
 pub struct Tie {
     pub site: Site,
     pub slot: Slot,
@@ -26,10 +26,11 @@ impl Size {
     }
 }
 
-// A layout of a sheet: a tie for each site.
+// A layout of a sheet: a tie for each site. The charge and the clearance are not always the sheet's own.
 #[derive(Clone, Copy)]
 pub struct Layout<'a> {
     pub sheet: &'a Sheet,
+    pub terms: Terms,
     pub ties: &'a [Tie],
 }
 
@@ -78,7 +79,7 @@ impl Layout<'_> {
         let near = site.y.abs_diff(slot.height);
         let between = site.y.min(label.height)..=site.y.max(label.height);
         let is_crossed = end <= site.x && between.contains(&slot.height);
-        let is_counted = end < site.x.saturating_add(self.sheet.clearance);
+        let is_counted = end < site.x.saturating_add(self.terms.clearance);
         let gap = self.sheet.gap;
         label == slot || gap <= over && !is_crossed && (!is_counted || gap <= near)
     }
@@ -97,7 +98,7 @@ impl Layout<'_> {
         if drop == 0 {
             return 0;
         }
-        drop.unsigned_abs() + u32::from(self.sheet.charge.unwrap_or(0))
+        drop.unsigned_abs() + u32::from(self.terms.charge.unwrap_or(0))
     }
 
     // The labels and their backbones; a slot that is not used counts nothing.

@@ -1,21 +1,24 @@
 // The best lawful layout of a sheet: all layouts are tried, in the order in which equals come.
 use crate::rules::{Layout, Size, Tie};
-use crate::small_sheet::{Sheet, Site};
-use std::alloc::{AllocError, Global};
+use crate::small_sheet::{MOST_SITES, Sheet, Site, Terms};
+use arrayvec::ArrayVec;
+
+// No layout of a small sheet has more.
+pub type Ties = ArrayVec<Tie, MOST_SITES>;
 
 #[derive(Drop)]
 pub struct Found {
     // of the best layout, from left to right
-    pub ties: Vec<Tie>,
+    pub ties: Ties,
     pub size: Size,
     // layouts tried so far with the same count and length as the best
     pub equals: u32,
 }
 
 // Takes a layout if it is lawful, and better than the best before it.
-fn take(alloc: Global, layout: Layout<'_>, best: &mut Option<Found>) -> Result<(), AllocError> {
+fn take(layout: Layout<'_>, best: &mut Option<Found>) {
     if !layout.is_lawful() {
-        return Ok(());
+        return;
     }
     let shortest = layout.sheet.shortest;
     let size = layout.size();
@@ -25,43 +28,43 @@ fn take(alloc: Global, layout: Layout<'_>, best: &mut Option<Found>) -> Result<(
             found.equals = found.equals.saturating_add(1);
         }
         _ => {
-            let ties = layout.ties.to_vec(alloc)?;
             *best = Some(Found {
-                ties,
+                ties: Ties::try_from(layout.ties).unwrap_or_default(),
                 size,
                 equals: 1,
             });
         }
     }
-    Ok(())
 }
 
 // Tries each slot for the first of the sites that are left, with all that can follow: the rightmost site's slot counts up first.
 fn try_slots(
     sheet: &Sheet,
+    terms: Terms,
     left: &[Site],
-    ties: &mut Vec<Tie>,
+    ties: &mut Ties,
     best: &mut Option<Found>,
-) -> Result<(), AllocError> {
+) {
     let Some((site, left)) = left.split_first() else {
-        return take(*ties.allocator(), Layout { sheet, ties }, best);
+        return take(Layout { sheet, terms, ties }, best);
     };
     for slot in &sheet.slots {
-        ties.push(Tie {
+        let tie = Tie {
             site: *site,
             slot: *slot,
-        })?;
-        try_slots(sheet, left, ties, best)?;
-        ties.pop();
+        };
+        if ties.try_push(tie).is_ok() {
+            try_slots(sheet, terms, left, ties, best);
+            ties.pop();
+        }
     }
-    Ok(())
 }
 
 // With no site there is one layout, and with no slot and some site there is none.
-pub fn search(alloc: Global, sheet: &Sheet) -> Result<Option<Found>, AllocError> {
-    let mut sites = sheet.sites.clone()?;
+pub fn search(sheet: &Sheet, terms: Terms) -> Option<Found> {
+    let mut sites = ArrayVec::<Site, MOST_SITES>::try_from(sheet.sites.as_slice()).unwrap_or_default();
     sites.sort_unstable_by_key(|site| site.x);
     let mut best = None;
-    try_slots(sheet, &sites, &mut Vec::new(alloc), &mut best)?;
-    Ok(best)
+    try_slots(sheet, terms, &sites, &mut Ties::new(), &mut best);
+    best
 }

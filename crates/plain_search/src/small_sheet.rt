@@ -2,20 +2,29 @@
 pub mod recipe;
 pub mod words;
 
-#[derive(Clone, Copy, Eq, PartialEq)]
+use arrayvec::ArrayVec;
+
+// A recipe draws no more slots, colours and sites.
+pub const MOST_SLOTS: usize = 5;
+
+pub const MOST_COLOURS: usize = 3;
+
+pub const MOST_SITES: usize = 5;
+
+#[derive(Clone, Copy, Default, Eq, PartialEq)]
 pub struct Slot {
     pub number: u8,
     pub height: u8,
 }
 
-#[derive(Clone, Copy)]
+#[derive(Clone, Copy, Default)]
 pub struct Colour {
     pub number: u8,
     // so many labels it may have, if there is a bound
     pub bound: Option<u8>,
 }
 
-#[derive(Clone, Copy, Eq, PartialEq)]
+#[derive(Clone, Copy, Default, Eq, PartialEq)]
 pub struct Site {
     pub x: u8,
     pub y: u8,
@@ -23,20 +32,26 @@ pub struct Site {
     pub colour: u8,
 }
 
-#[derive(Clone, Drop)]
+// What of a sheet a search can be asked to leave out.
+#[derive(Clone, Copy)]
+pub struct Terms {
+    // of the charge word, if there is one
+    pub charge: Option<u8>,
+    // rule 5 counts a site left of a tip, a backbone's left end, by less than this: the gap. With 1 it counts none there, as in document 01
+    pub clearance: u8,
+}
+
+#[derive(Drop)]
 pub struct Sheet {
     pub two_sided: bool,
     // is the aim the shortest layout, rather than the one with the fewest labels?
     pub shortest: bool,
     pub gap: u8,
-    // rule 5 counts a site left of a tip, a backbone's left end, by less than this: the gap. With 1 it counts none there, as in document 01
-    pub clearance: u8,
     pub width: u8,
-    // of the charge word, if there is one
-    pub charge: Option<u8>,
-    pub slots: Vec<Slot>,
-    pub colours: Vec<Colour>,
-    pub sites: Vec<Site>,
+    pub terms: Terms,
+    pub slots: ArrayVec<Slot, MOST_SLOTS>,
+    pub colours: ArrayVec<Colour, MOST_COLOURS>,
+    pub sites: ArrayVec<Site, MOST_SITES>,
 }
 
 impl Sheet {

@@ -5,26 +5,33 @@ use plain_search::calls::Call;
 use plain_search::met::KINDS;
 use plain_search::small_sheet::recipe::Recipe;
 use plain_search::small_sheet::words::sheet_words;
-use std::alloc::{AllocError, Global};
 
 const SHEETS: u32 = 20000;
 
-fn is_call_right(alloc: Global, call: &Call) -> Result<bool, AllocError> {
-    let words = sheet_words(alloc, &call.sheet)?;
-    let mut work = call.work_area(alloc)?;
-    let mut answer = call.answer_area(alloc)?;
-    let fault = make_layout(&words, &mut work, &mut answer);
-    call.is_right(alloc, fault, &work, &answer)
+// Words enough for each call: the recipe's sheets need no more than 8192 for work and 6 for an answer, and up to two more are lent.
+const WORK_WORDS: usize = 8194;
+
+const ANSWER_WORDS: usize = 8;
+
+fn is_call_right(call: &Call) -> bool {
+    let words = sheet_words(&call.sheet);
+    let mut work = [0u32; WORK_WORDS];
+    let mut answer = [0u32; ANSWER_WORDS];
+    let work = &mut work[..call.work.min(WORK_WORDS)];
+    let answer = &mut answer[..call.answer.min(ANSWER_WORDS)];
+    call.fill(work);
+    call.fill(answer);
+    let fault = make_layout(&words, work, answer);
+    call.is_right(fault, work, answer)
 }
 
 // How often each kind is met.
-pub fn count_sheets(alloc: Global) -> Result<[u32; KINDS.len()], AllocError> {
+pub fn count_sheets() -> [u32; KINDS.len()] {
     let mut counts = [0u32; KINDS.len()];
     let mut recipe = Recipe::new();
     for _ in 0..SHEETS {
-        let call = Call::draw(alloc, &mut recipe)?;
-        let right = is_call_right(alloc, &call)?;
-        call.count(alloc, right, &mut counts)?;
+        let call = Call::draw(&mut recipe);
+        call.count(is_call_right(&call), &mut counts);
     }
-    Ok(counts)
+    counts
 }

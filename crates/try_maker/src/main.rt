@@ -5,13 +5,16 @@
 mod compare;
 mod examples;
 
-use cases::print_counts;
+use cases::{TEXT_BYTES, print_counts};
 use compare::count_sheets;
 use examples::lay_out_lines;
 use std::io;
+use stream::read_full;
 
 fn main(rt: HostRuntime) -> io::Result<()> {
-    let text = io::read_to_string(rt.alloc(), rt.stdin())?;
-    lay_out_lines(&rt, text.as_str())?;
-    print_counts(&rt, text.as_str(), &count_sheets(rt.alloc())?)
+    let mut text = [0u8; TEXT_BYTES];
+    let got = read_full(&mut rt.stdin(), &mut text)?;
+    let text = &text[..got];
+    lay_out_lines(&rt, text)?;
+    print_counts(&rt, text, &count_sheets())
 }

@@ -1,33 +1,41 @@
 // Groups of cases as text: > and a mark, the group's name, then a line for each case; after the mark * the lines are of sets of faults.
 use crate::compare::{Tally, differs};
 use crate::sets::read_sets;
-use cases::words_of;
-use std::alloc::Global;
+use cases::{Words, take_words};
 use std::io;
 
 // A line that does not begin with a blank is a remark.
-fn read_cases(alloc: Global, lines: &str) -> io::Result<Tally> {
+fn read_cases(lines: &[u8]) -> Tally {
     let mut tally = Tally::default();
-    for line in lines.lines().filter(|line| line.starts_with(' ')) {
-        let words = words_of(alloc, line)?;
-        tally.count(differs(alloc, &words)?);
+    for line in lines.split(|b| *b == b'\n') {
+        if line.starts_with(b" ") {
+            let mut words = Words::new();
+            take_words(line, &mut words);
+            tally.count(differs(&words));
+        }
     }
-    Ok(tally)
+    tally
 }
 
-fn read_group(rt: &(impl Print + AllocGlobal), group: &str) -> io::Result<Tally> {
-    let (title, lines) = group.split_once('\n').unwrap_or((group, ""));
-    let (name, tally) = match title.strip_prefix('*') {
-        Some(name) => (name, read_sets(rt.alloc(), lines)?),
-        None => (title.trim_start(), read_cases(rt.alloc(), lines)?),
+// A group with no mark and no name has no line.
+fn read_group(rt: &impl Print, group: &[u8]) -> io::Result<Tally> {
+    let end = group.iter().position(|b| *b == b'\n');
+    let (title, lines) = group.split_at(end.unwrap_or(group.len()));
+    let Some((mark, name)) = title.split_first() else {
+        return Ok(Tally::default());
     };
-    println!(rt; "{name}: {tally}")?;
+    let tally = match mark {
+        b'*' => read_sets(lines),
+        _ => read_cases(lines),
+    };
+    rt.write_all(name)?;
+    println!(rt; ": {tally}")?;
     Ok(tally)
 }
 
-pub fn read_groups(rt: &(impl Print + AllocGlobal), text: &str) -> io::Result<Tally> {
+pub fn read_groups(rt: &impl Print, text: &[u8]) -> io::Result<Tally> {
     let mut all = Tally::default();
-    for group in text.split('>').skip(1) {
+    for group in text.split(|b| *b == b'>').skip(1) {
         all += read_group(rt, group)?;
     }
     Ok(all)

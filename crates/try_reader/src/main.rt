@@ -5,11 +5,14 @@ mod compare;
 mod groups;
 mod sets;
 
+use cases::TEXT_BYTES;
 use groups::read_groups;
 use std::io;
+use stream::read_full;
 
 fn main(rt: HostRuntime) -> io::Result<()> {
-    let text = io::read_to_string(rt.alloc(), rt.stdin())?;
-    let all = read_groups(&rt, text.as_str())?;
+    let mut text = [0u8; TEXT_BYTES];
+    let got = read_full(&mut rt.stdin(), &mut text)?;
+    let all = read_groups(&rt, &text[..got])?;
     println!(rt; "all: {all}")
 }

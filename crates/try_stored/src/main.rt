@@ -3,12 +3,13 @@
 // 01 and 02: the verdict, then each stroke, by its ends in units, up to the place that is refused, then the page, if there is one.
 #![tactic(auto)]
 
-use cases::take_case;
+use cases::{TEXT_BYTES, line_of, take_case};
 use judge::{Verdict, judge_layout};
 use page::write_page;
 use points::in_points;
 use points::stroke::{End, Stroke};
 use std::io;
+use stream::read_full;
 use strokes::stroke_at;
 
 // More places than a stored sheet has strokes: at most a backbone and a drop for each of 32 sites.
@@ -68,17 +69,25 @@ fn print_page(rt: &impl Print, stored: &[u32]) -> io::Result<()> {
     rt.write_all(page.get(..size).unwrap_or_default())
 }
 
-fn try_line(rt: &(impl Print + AllocGlobal), line: &str) -> io::Result<()> {
+fn try_line(rt: &impl Print, line: &[u8]) -> io::Result<()> {
     let stored = take_case(rt, line)?;
     print_verdict(rt, judge_layout(&stored))?;
     print_strokes(rt, &stored)?;
     print_page(rt, &stored)
 }
 
-fn main(rt: HostRuntime) -> io::Result<()> {
-    let text = io::read_to_string(rt.alloc(), rt.stdin())?;
-    for line in text.lines().filter(|line| !line.starts_with('#')) {
-        try_line(&rt, line)?;
+// An empty line is a case with no name and no words.
+fn try_lines(rt: &impl Print, text: &[u8]) -> io::Result<()> {
+    for line in text.split_inclusive(|b| *b == b'\n') {
+        if !line.starts_with(b"#") {
+            try_line(rt, line_of(line))?;
+        }
     }
     Ok(())
+}
+
+fn main(rt: HostRuntime) -> io::Result<()> {
+    let mut text = [0u8; TEXT_BYTES];
+    let got = read_full(&mut rt.stdin(), &mut text)?;
+    try_lines(&rt, &text[..got])
 }

@@ -1,8 +1,8 @@
 // Small sheets from a fixed arithmetic recipe: numbers drawn from a seed, and from a second one what is not of the sheet's first form.
 ghost use Rattle.std.specs.Prelude.{◌≤◌};
 
-use crate::small_sheet::{Colour, Sheet, Site, Slot};
-use std::alloc::{AllocError, Global};
+use crate::small_sheet::{Colour, MOST_COLOURS, MOST_SITES, MOST_SLOTS, Sheet, Site, Slot, Terms};
+use arrayvec::ArrayVec;
 
 // The most work words that a sheet here may need.
 const MOST_WORK_WORDS: usize = 8192;
@@ -73,14 +73,14 @@ impl Recipe {
     }
 
     // Slots one to five apart.
-    fn slots(&mut self, alloc: Global, count: u8) -> Result<Vec<Slot>, AllocError> {
-        let mut slots = Vec::new(alloc);
+    fn slots(&mut self, count: u8) -> ArrayVec<Slot, MOST_SLOTS> {
+        let mut slots = ArrayVec::new();
         let mut height = self.draw(2);
         for number in 0..count {
-            slots.push(Slot { number, height })?;
+            let _ = slots.try_push(Slot { number, height });
             height = height.saturating_add(self.draw(4)).saturating_add(1);
         }
-        Ok(slots)
+        slots
     }
 
     // None, 1 or 2; one time in six 3, or 0 one time in eight of these.
@@ -94,13 +94,13 @@ impl Recipe {
         }
     }
 
-    fn colours(&mut self, alloc: Global, count: u8) -> Result<Vec<Colour>, AllocError> {
-        let mut colours = Vec::new(alloc);
+    fn colours(&mut self, count: u8) -> ArrayVec<Colour, MOST_COLOURS> {
+        let mut colours = ArrayVec::new();
         for number in 0..count {
             let bound = self.bound();
-            colours.push(Colour { number, bound })?;
+            let _ = colours.try_push(Colour { number, bound });
         }
-        Ok(colours)
+        colours
     }
 
     // The first column from the drawn one on that no site has, and then from the left.
@@ -115,27 +115,26 @@ impl Recipe {
     // Sites in free columns, not above a row. Each has the colour of the one before it or the next, as far as there is one.
     fn sites(
         &mut self,
-        alloc: Global,
         count: u8,
         width: u8,
         top: u8,
         last: u8,
-    ) -> Result<Vec<Site>, AllocError> {
-        let mut sites = Vec::new(alloc);
+    ) -> ArrayVec<Site, MOST_SITES> {
+        let mut sites = ArrayVec::new();
         let mut colour = u8::from(self.is_one_in_eight());
         for _ in 0..count {
             colour = colour.min(last);
             let x = self.free_column(width, &sites);
             let y = self.draw(top);
-            sites.push(Site { x, y, colour })?;
+            let _ = sites.try_push(Site { x, y, colour });
             colour = colour.saturating_add(self.draw(1));
         }
-        Ok(sites)
+        sites
     }
 
     // The next sheet: two-sided one time in eight; four or five slots, two colours more often than one or three, three to five sites;
     // without bounds where they ask for too much work.
-    pub fn sheet(&mut self, alloc: Global) -> Result<Sheet, AllocError> {
+    pub fn sheet(&mut self) -> Sheet {
         let two_sided = self.is_one_in_eight();
         let shortest = self.draw(1) == 1;
         let first = self.draw(2);
@@ -145,21 +144,23 @@ impl Recipe {
         let last_colour = self.draw(3).div_ceil(2);
         let site_count = self.size(2, 2);
         let charge = self.charge();
-        let slots = self.slots(alloc, slot_count)?;
+        let slots = self.slots(slot_count);
         self.lowest = slots.first().map_or(self.lowest, |slot| slot.height);
         let top = slots
             .last()
             .map_or(self.lowest, |slot| slot.height)
             .saturating_add(2);
-        let colours = self.colours(alloc, last_colour + 1)?;
-        let sites = self.sites(alloc, site_count, width, top, last_colour)?;
+        let colours = self.colours(last_colour + 1);
+        let sites = self.sites(site_count, width, top, last_colour);
         let mut sheet = Sheet {
             two_sided,
             shortest,
             gap,
-            clearance: gap,
             width,
-            charge,
+            terms: Terms {
+                charge,
+                clearance: gap,
+            },
             slots,
             colours,
             sites,
@@ -167,7 +168,7 @@ impl Recipe {
         if MOST_WORK_WORDS < sheet.work_words() {
             take_bounds(&mut sheet.colours);
         }
-        Ok(sheet)
+        sheet
     }
 
     // How many words a call is lent: one too few one time in 32, else up to two too many.

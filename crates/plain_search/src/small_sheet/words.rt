@@ -1,6 +1,11 @@
 // A small sheet as words.
-use crate::small_sheet::{Colour, Sheet};
-use std::alloc::{AllocError, Global};
+use crate::small_sheet::{Colour, MOST_COLOURS, MOST_SITES, MOST_SLOTS, Sheet};
+use arrayvec::ArrayVec;
+
+// No small sheet has more words: a head, a charge, and its slots, colours and sites.
+pub const MOST_WORDS: usize = 2 + MOST_SLOTS + MOST_COLOURS + MOST_SITES;
+
+pub type Words = ArrayVec<u32, MOST_WORDS>;
 
 // The kind stands above 28 bits: words of a head, a slot, a colour, a site and a charge.
 const HEAD: u32 = 1 << 28;
@@ -30,29 +35,25 @@ fn head_word(sheet: &Sheet) -> u32 {
 }
 
 // A colour's word, and those of its sites after it.
-fn push_colour(words: &mut Vec<u32>, sheet: &Sheet, colour: Colour) -> Result<(), AllocError> {
-    words.push(COLOUR | u32::from(colour.bound.unwrap_or(NO_BOUND)))?;
+fn push_colour(words: &mut Words, sheet: &Sheet, colour: Colour) {
+    let _ = words.try_push(COLOUR | u32::from(colour.bound.unwrap_or(NO_BOUND)));
     for site in sheet
         .sites
         .iter()
         .filter(|site| site.colour == colour.number)
     {
-        words.push(SITE | u32::from(site.x) << FIELD_BIT | u32::from(site.y))?;
+        let _ = words.try_push(SITE | u32::from(site.x) << FIELD_BIT | u32::from(site.y));
     }
-    Ok(())
 }
 
-fn push_colours(words: &mut Vec<u32>, sheet: &Sheet) -> Result<(), AllocError> {
+// There is room for each word.
+pub fn sheet_words(sheet: &Sheet) -> Words {
+    let mut words = Words::new();
+    let _ = words.try_push(head_word(sheet));
+    let _ = words.extend(sheet.terms.charge.map(|charge| CHARGE | u32::from(charge)));
+    let _ = words.extend(sheet.slots.iter().map(|slot| SLOT | u32::from(slot.height)));
     for colour in &sheet.colours {
-        push_colour(words, sheet, *colour)?;
+        push_colour(&mut words, sheet, *colour);
     }
-    Ok(())
-}
-
-pub fn sheet_words(alloc: Global, sheet: &Sheet) -> Result<Vec<u32>, AllocError> {
-    let mut words = vec![in alloc; head_word(sheet)]?;
-    words.extend(sheet.charge.map(|charge| CHARGE | u32::from(charge)))?;
-    words.extend(sheet.slots.iter().map(|slot| SLOT | u32::from(slot.height)))?;
-    push_colours(&mut words, sheet)?;
-    Ok(words)
+    words
 }
