@@ -120,7 +120,10 @@ impl Call {
 
     fn is_answer_left(&self, answer: &[u32]) -> bool {
         let written = self.answer_written();
-        answer.iter().zip(&written).all(|(word, other)| word == other)
+        answer
+            .iter()
+            .zip(&written)
+            .all(|(word, other)| word == other)
             && is_old(answer, written.len(), self.areas)
     }
 

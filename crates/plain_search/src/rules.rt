@@ -1,4 +1,6 @@
 // The rules of a lawful layout, each as its sentence says.
+ghost use Rattle.std.specs.Prelude.{◌≤◌, nat_abs};
+
 use crate::small_sheet::{Colour, Sheet, Site, Slot, Terms};
 
 // A site and the slot that it is tied to.
@@ -94,11 +96,11 @@ impl Layout<'_> {
     // A site's share of the length: its drop without its sign, and the charge if the drop is not zero. The drop is its label's height
     // less its own, below zero when the backbone lies above it.
     fn share(&self, tie: Tie) -> u32 {
-        let drop = i32::from(tie.slot.height) - i32::from(tie.site.y);
+        let drop = drop_of(tie.slot.height, tie.site.y);
         if drop == 0 {
             return 0;
         }
-        drop.unsigned_abs() + u32::from(self.terms.charge.unwrap_or(0))
+        magnitude(drop) + u32::from(self.terms.charge.unwrap_or(0))
     }
 
     // The labels and their backbones; a slot that is not used counts nothing.
@@ -125,4 +127,22 @@ impl Layout<'_> {
         }
         size
     }
+}
+
+// A site's drop: its label's height less its own, below zero when the backbone lies above it.
+fn drop_of(label: u8, y: u8) -> i32
+    ensures { nat_abs result ≤ 255 }
+{
+    i32::from(label) - i32::from(y)
+}
+
+// A drop without its sign.
+fn magnitude(drop: i32) -> u32
+    requires { nat_abs drop ≤ 255 }
+    ensures { result ≤ 255 }
+{
+    if drop < 0 {
+        return (-drop) as u32;
+    }
+    drop as u32
 }

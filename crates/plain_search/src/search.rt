@@ -62,7 +62,9 @@ fn try_slots(
 
 // With no site there is one layout, and with no slot and some site there is none.
 pub fn search(sheet: &Sheet, terms: Terms) -> Option<Found> {
-    let mut sites = ArrayVec::<Site, MOST_SITES>::try_from(sheet.sites.as_slice()).unwrap_or_default();
+    let mut sites = ArrayVec::<Site, MOST_SITES>::try_from(
+        sheet.sites.as_slice(),
+    ).unwrap_or_default();
     sites.sort_unstable_by_key(|site| site.x);
     let mut best = None;
     try_slots(sheet, terms, &sites, &mut Ties::new(), &mut best);

@@ -113,13 +113,7 @@ impl Recipe {
     }
 
     // Sites in free columns, not above a row. Each has the colour of the one before it or the next, as far as there is one.
-    fn sites(
-        &mut self,
-        count: u8,
-        width: u8,
-        top: u8,
-        last: u8,
-    ) -> ArrayVec<Site, MOST_SITES> {
+    fn sites(&mut self, count: u8, width: u8, top: u8, last: u8) -> ArrayVec<Site, MOST_SITES> {
         let mut sites = ArrayVec::new();
         let mut colour = u8::from(self.is_one_in_eight());
         for _ in 0..count {
