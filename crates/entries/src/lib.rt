@@ -120,7 +120,7 @@ fn open_slot(work: &mut [u32], filling: &Filling, p: Strip, base: usize, k: u32)
         RowFits l (strip_of p) (length work.old) × LeavesGap l (strip_of p) k }
     ensures { SlotTried (filled_at filling.now base) (strip_of p) k work.old work.new }
 {
-    let level = filling.level;
+    let level = &filling.level;
     let sheet = level.sheet;
     let cost = filling.opening[k as usize];
     if cost == NONE {
@@ -161,7 +161,7 @@ fn least_open(work: &[u32], filling: &Filling, p: Strip, window: Window, old: u3
     ensures { let level = filling.now.level in
         result ≡ min old (window_least (given_of level.sheet.now) work.now level.low (strip_of p) (point_of level.site) window) }
 {
-    let level = filling.level;
+    let level = &filling.level;
     let sheet = level.sheet;
     let s = level.site;
     let low = level.low;
