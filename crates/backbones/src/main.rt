@@ -38,7 +38,7 @@ fn put_answer(text: &mut Text, sheet: &[u32], answer: &[u32])
 {
     let numbers = numbers_of(sheet);
     let sites = numbers.sites;
-    let colours = numbers.colours;
+    let colours = numbers.site_colours();
     put_layout(text, answer, &colours[..sites]);
 }
 

@@ -12,9 +12,10 @@ use Rattle.sheet.specs.Sheet.{Sheet, body_of, sheet_in, product_of}
 use Rattle.sheet.proofs.Accepted.{Sound, sound}
 use Rattle.sizes.specs.Budgets.{product_by}
 use Rattle.decoding.specs.declared.Numbers.{Numbers}
-use Rattle.decoding.specs.Decoding.{numbers_by, bounds_of, site_counts_of, xs_of, ys_of, colours_of, SheetRead}
+use Rattle.decoding.specs.Decoding.{numbers_by, bounds_of, site_counts_of, xs_of, ys_of, colours_of, bounds_in, site_counts_in, xs_in, ys_in, site_colours_in, SheetRead}
 use Rattle.decoding.proofs.Budgets.{product-are, bounds-low, site-counts-low}
 use Rattle.decoding.proofs.Fields.{bounds-long, site-counts-long, xs-long, ys-long, colours-long}
+use Rattle.decoding.proofs.Records.{bounds-array, site-counts-array, xs-array, ys-array, site-colours-array}
 use Rattle.decoding.proofs.Fits.{sites-fit}
 use Rattle.decoding.proofs.Places.{sheet-read}
 
@@ -53,30 +54,30 @@ module _ {d : Numbers} (r : SheetRead d) where
   pub heights : IsFront d.heights d.slots s.slots
   heights = part most_slots s.slots d.heights d.slots (ap (λ (z : Numbers). z.heights) r.numbers) slots-are
 
-  pub bounds : IsFront d.bounds d.kinds (bounds_of s.colours)
-  bounds = part most_colours (bounds_of s.colours) d.bounds d.kinds (ap (λ (z : Numbers). z.bounds) r.numbers) (kinds-are ∙ sym (bounds-long s.colours))
+  pub bounds : IsFront (bounds_in d.colour_list) d.kinds (bounds_of s.colours)
+  bounds = part most_colours (bounds_of s.colours) (bounds_in d.colour_list) d.kinds (ap (λ (z : Numbers). bounds_in z.colour_list) r.numbers ∙ bounds-array s.colours) (kinds-are ∙ sym (bounds-long s.colours))
 
-  pub counts : IsFront d.site_counts d.kinds (site_counts_of s.colours)
-  counts = part most_colours (site_counts_of s.colours) d.site_counts d.kinds (ap (λ (z : Numbers). z.site_counts) r.numbers) (kinds-are ∙ sym (site-counts-long s.colours))
+  pub counts : IsFront (site_counts_in d.colour_list) d.kinds (site_counts_of s.colours)
+  counts = part most_colours (site_counts_of s.colours) (site_counts_in d.colour_list) d.kinds (ap (λ (z : Numbers). site_counts_in z.colour_list) r.numbers ∙ site-counts-array s.colours) (kinds-are ∙ sym (site-counts-long s.colours))
 
-  pub xs : IsFront d.xs d.sites (xs_of s.sites)
-  xs = part most_sites (xs_of s.sites) d.xs d.sites (ap (λ (z : Numbers). z.xs) r.numbers) (sites-are ∙ sym (xs-long s.sites))
+  pub xs : IsFront (xs_in d.site_list) d.sites (xs_of s.sites)
+  xs = part most_sites (xs_of s.sites) (xs_in d.site_list) d.sites (ap (λ (z : Numbers). xs_in z.site_list) r.numbers ∙ xs-array s.sites) (sites-are ∙ sym (xs-long s.sites))
 
-  pub ys : IsFront d.ys d.sites (ys_of s.sites)
-  ys = part most_sites (ys_of s.sites) d.ys d.sites (ap (λ (z : Numbers). z.ys) r.numbers) (sites-are ∙ sym (ys-long s.sites))
+  pub ys : IsFront (ys_in d.site_list) d.sites (ys_of s.sites)
+  ys = part most_sites (ys_of s.sites) (ys_in d.site_list) d.sites (ap (λ (z : Numbers). ys_in z.site_list) r.numbers ∙ ys-array s.sites) (sites-are ∙ sym (ys-long s.sites))
 
-  pub colours : IsFront d.colours d.sites (colours_of s.sites)
-  colours = part most_sites (colours_of s.sites) d.colours d.sites (ap (λ (z : Numbers). z.colours) r.numbers) (sites-are ∙ sym (colours-long s.sites))
+  pub colours : IsFront (site_colours_in d.site_list) d.sites (colours_of s.sites)
+  colours = part most_sites (colours_of s.sites) (site_colours_in d.site_list) d.sites (ap (λ (z : Numbers). site_colours_in z.site_list) r.numbers ∙ site-colours-array s.sites) (sites-are ∙ sym (colours-long s.sites))
 
   -- what is asked of the bounds and of the counts of sites
-  pub bounds-fit : (length (take d.kinds d.bounds) ≤ most_colours) × ((i : ℕ) → get_or (take d.kinds d.bounds) i 0 < byte_top) × (product_by (take d.kinds d.bounds) ≤ most_budgets)
+  pub bounds-fit : (length (take d.kinds (bounds_in d.colour_list)) ≤ most_colours) × ((i : ℕ) → get_or (take d.kinds (bounds_in d.colour_list)) i 0 < byte_top) × (product_by (take d.kinds (bounds_in d.colour_list)) ≤ most_budgets)
   bounds-fit =
       rw bounds.0 (omega (arith, bounds-long s.colours, fine.few-colours), bounds-low (body_of r.words), omega (arith, product-are s.colours, fine.product))
 
-  pub counts-fit : (length (take d.kinds d.site_counts) ≡ length (take d.kinds d.bounds)) × ((i : ℕ) → get_or (take d.kinds d.site_counts) i 0 < byte_top)
+  pub counts-fit : (length (take d.kinds (site_counts_in d.colour_list)) ≡ length (take d.kinds (bounds_in d.colour_list))) × ((i : ℕ) → get_or (take d.kinds (site_counts_in d.colour_list)) i 0 < byte_top)
   counts-fit = (sym counts.1 ∙ bounds.1, λ i. rw counts.0 (omega (arith, site-counts-low (body_of r.words) i, sites-fit r.words r.accepted)))
 
-  pub product_is : product_by (take d.kinds d.bounds) ≡ product_of s.colours
+  pub product_is : product_by (take d.kinds (bounds_in d.colour_list)) ≡ product_of s.colours
   product_is = ap product_by bounds.0 ∙ product-are s.colours
 
   -- THE SHEET is that of any words that have these numbers

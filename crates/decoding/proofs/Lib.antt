@@ -3,3 +3,4 @@ pub mod Fields
 pub mod Fits
 pub mod Fronts
 pub mod Places
+pub mod Records

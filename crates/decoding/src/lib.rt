@@ -2,14 +2,12 @@
 // to those that have refused first: each asks for an accepted sheet, or for an array that is long enough.
 #![tactic(auto)]
 
-ghost use Rattle.std.specs.Prelude.{◌≡◌, ℕ, ◌≤◌, map};
-ghost use Rattle.std.specs.Iterator.{ActsAs};
-ghost use Rattle.sheet.specs.Limits.{most_colours, most_sites};
-ghost use Rattle.sheet.specs.Sheet.{colours_in, sites_in, sheet_in, sheet_fault};
+ghost use Rattle.std.specs.Prelude.{◌≡◌, ◌≤◌};
+ghost use Rattle.sheet.specs.Limits.{most_slots, most_colours, most_sites};
+ghost use Rattle.sheet.specs.Sheet.{slots_in, colours_in, sites_in, sheet_in, sheet_fault};
 ghost use Rattle.sheet.specs.Words.{count_kind};
-ghost use Rattle.decoding.specs.Decoding.{numbers_by, no_numbers, head_by, site_counts_of, colours_of, of_kind};
+ghost use Rattle.decoding.specs.Decoding.{numbers_by, no_numbers, head_by, bounds_in, xs_in, ys_in, site_colours_in, colour_array, site_array};
 ghost use Rattle.lists.specs.Arrays.{padded};
-ghost use Rattle.words.specs.Kinds.{kind_number};
 
 use words::arrays::padded;
 use words::body::{body_of, count_kind, sites_run};
@@ -35,45 +33,78 @@ fn head_of(sheet: &[u32]) -> Head
     }
 }
 
-// A field of each word of a kind, in an array: zeros past the last.
-fn fields_of<const N: usize, F: FnMut(u32) -> u32 + Drop>(
-    body: &[u32],
-    kind: Kind,
-    field: F,
-) -> [u32; N]
-    requires callable { (f : _) (w : _) → F.pre f w }
-    requires few { count_kind (kind_number kind) body.now ≤ N }
-    ensures { (of : ℕ → ℕ) → ActsAs F.FnMut field of → result ≡ padded N (map of (of_kind (kind_number kind) body.now)) }
+// The slots' heights: zeros past the last.
+fn heights_of(body: &[u32]) -> [u32; MOST_SLOTS]
+    requires { count_kind 2 body.now ≤ most_slots }
+    ensures { result ≡ padded most_slots (slots_in body.now) }
 {
     let words = body.iter().copied();
-    padded(words.filter(|w| is_kind(*w, kind)).map(field))
+    padded(words.filter(|w| is_kind(*w, Kind::Slot)).map(low_field))
 }
 
-// How many sites each colour has.
-fn site_counts_of(body: &[u32]) -> [u32; MOST_COLOURS]
-    requires few_colours { count_kind 3 body.now ≤ most_colours }
-    requires few_sites { count_kind 4 body.now ≤ most_sites }
-    ensures { result ≡ padded most_colours (site_counts_of (colours_in body.now)) }
-{
-    let words = body.iter().enumerate();
-    let colours = words.filter(|(_, w)| is_kind(**w, Kind::Colour));
-    padded(colours.map(|(place, _)| sites_run(body, place + 1) as u32))
+// ---- colours and sites
+
+// A colour: its label bound (255 unbounded) and its count of sites.
+#[derive(Clone, Copy)]
+pub struct Colour {
+    pub bound: u32,
+    pub sites: u32,
 }
 
-// The number of each site's colour: that of the last colour before it.
-fn colours_of(body: &[u32]) -> [u32; MOST_SITES]
+// A site: x from the left edge, y downwards from the top, the number of its colour.
+#[derive(Clone, Copy)]
+pub struct Site {
+    pub x: u32,
+    pub y: u32,
+    pub colour: u32,
+}
+
+// What stands past the last colour, and past the last site.
+const NO_COLOUR: Colour = Colour { bound: 0, sites: 0 };
+
+const NO_SITE: Site = Site {
+    x: 0,
+    y: 0,
+    colour: 0,
+};
+
+fn colours_of(body: &[u32]) -> [Colour; MOST_COLOURS]
+    requires few_colours { count_kind 3 body.now ≤ most_colours }
+    requires few_sites { count_kind 4 body.now ≤ most_sites }
+    ensures { result ≡ colour_array (colours_in body.now) }
+{
+    let mut array = [NO_COLOUR; MOST_COLOURS];
+    let mut colours = 0;
+    for (place, w) in body.iter().enumerate() {
+        if is_kind(*w, Kind::Colour) {
+            array[colours] = Colour {
+                bound: byte_field(*w),
+                sites: sites_run(body, place + 1) as u32,
+            };
+            colours += 1;
+        }
+    }
+    array
+}
+
+// A site's colour is the last before it.
+fn sites_of(body: &[u32]) -> [Site; MOST_SITES]
     requires few_sites { count_kind 4 body.now ≤ most_sites }
     requires few_colours { count_kind 3 body.now ≤ most_colours }
-    ensures { result ≡ padded most_sites (colours_of (sites_in 0 body.now)) }
+    ensures { result ≡ site_array (sites_in 0 body.now) }
 {
-    let mut array = [0; MOST_SITES];
+    let mut array = [NO_SITE; MOST_SITES];
     let mut colours: u32 = 0;
     let mut sites = 0;
     for w in body {
         if is_kind(*w, Kind::Colour) {
             colours += 1;
         } else if is_kind(*w, Kind::Site) {
-            array[sites] = colours.saturating_sub(1);
+            array[sites] = Site {
+                x: high_field(*w),
+                y: low_field(*w),
+                colour: colours.saturating_sub(1),
+            };
             sites += 1;
         }
     }
@@ -82,9 +113,8 @@ fn colours_of(body: &[u32]) -> [u32; MOST_SITES]
 
 // ---- all of them
 
-// An accepted sheet's numbers, by value: what its head and its charge say, how many slots (m), colours (C) and sites (n) it has, and their arrays.
-// Kept as counts beside arrays of a fixed size, one for each field: the engine has no heap, theorems name the fields, and the judge's loops over
-// sites are compiled to several sites at a time, which a list of records is not.
+// An accepted sheet's numbers, by value: what its head and its charge say, how many slots (m), colours (C) and sites (n) it has, and lists of
+// these. The counts stand beside arrays of a fixed size, since the engine has no heap: past its count each array has zeros.
 #[derive(Clone, Copy)]
 pub struct Numbers {
     pub head: Head,
@@ -92,11 +122,35 @@ pub struct Numbers {
     pub kinds: usize,
     pub sites: usize,
     pub heights: [u32; MOST_SLOTS],
-    pub bounds: [u32; MOST_COLOURS],
-    pub site_counts: [u32; MOST_COLOURS],
-    pub xs: [u32; MOST_SITES],
-    pub ys: [u32; MOST_SITES],
-    pub colours: [u32; MOST_SITES],
+    pub colour_list: [Colour; MOST_COLOURS],
+    pub site_list: [Site; MOST_SITES],
+}
+
+// One number of each colour or site in an array of its own, for what reads that number alone: sizes, and the table's inner loops.
+impl Numbers {
+    pub fn bounds(&self) -> [u32; MOST_COLOURS]
+        ensures { result ≡ bounds_in self.now.colour_list }
+    {
+        self.colour_list.map(|colour| colour.bound)
+    }
+
+    pub fn xs(&self) -> [u32; MOST_SITES]
+        ensures { result ≡ xs_in self.now.site_list }
+    {
+        self.site_list.map(|site| site.x)
+    }
+
+    pub fn ys(&self) -> [u32; MOST_SITES]
+        ensures { result ≡ ys_in self.now.site_list }
+    {
+        self.site_list.map(|site| site.y)
+    }
+
+    pub fn site_colours(&self) -> [u32; MOST_SITES]
+        ensures { result ≡ site_colours_in self.now.site_list }
+    {
+        self.site_list.map(|site| site.colour)
+    }
 }
 
 // What stands for the numbers of a sheet that is refused: zeros.
@@ -115,11 +169,8 @@ pub fn no_numbers() -> Numbers
         kinds: 0,
         sites: 0,
         heights: [0; MOST_SLOTS],
-        bounds: [0; MOST_COLOURS],
-        site_counts: [0; MOST_COLOURS],
-        xs: [0; MOST_SITES],
-        ys: [0; MOST_SITES],
-        colours: [0; MOST_SITES],
+        colour_list: [NO_COLOUR; MOST_COLOURS],
+        site_list: [NO_SITE; MOST_SITES],
     }
 }
 
@@ -133,11 +184,8 @@ pub fn numbers_of(sheet: &[u32]) -> Numbers
         slots: count_kind(body, Kind::Slot),
         kinds: count_kind(body, Kind::Colour),
         sites: count_kind(body, Kind::Site),
-        heights: fields_of(body, Kind::Slot, low_field),
-        bounds: fields_of(body, Kind::Colour, byte_field),
-        site_counts: site_counts_of(body),
-        xs: fields_of(body, Kind::Site, high_field),
-        ys: fields_of(body, Kind::Site, low_field),
-        colours: colours_of(body),
+        heights: heights_of(body),
+        colour_list: colours_of(body),
+        site_list: sites_of(body),
     }
 }

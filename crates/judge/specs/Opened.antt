@@ -1,4 +1,5 @@
 -- What a stored sheet is opened to. Assumes nothing: these are definitions.
+use Rattle.decoding.specs.Decoding.{site_colours_in, xs_in, ys_in}
 use Rattle.std.specs.Prelude.{◌≡◌, Bool, ◌&&◌, not, cond, List, ℕ, ◌+◌, eqb, length, get_or}
 use Rattle.sheet.specs.Sheet.{all, kind_of, sheet_in, sheet_fault}
 use Rattle.labelling.specs.Layout.{ties_at, layout_body, is_layout}
@@ -18,7 +19,7 @@ parts_fault ss ls = cond (not (eqb (sheet_fault ss) 0)) (sheet_fault ss) (cond (
 pub record SitesRead (d : Numbers) (layout : List ℕ) (h : Head) (hs us vs cs ts : List ℕ) : Type 0 where
   pub head : h ≡ d.head
   pub heights : hs ≡ d.heights
-  pub xs : us ≡ d.xs
-  pub ys : vs ≡ d.ys
-  pub colours : cs ≡ d.colours
+  pub xs : us ≡ xs_in d.site_list
+  pub ys : vs ≡ ys_in d.site_list
+  pub colours : cs ≡ site_colours_in d.site_list
   pub ties : ts ≡ layout_body layout

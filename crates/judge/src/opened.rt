@@ -2,7 +2,7 @@
 ghost use Rattle.std.specs.Prelude.{◌≡◌, true, IfOk};
 ghost use Rattle.sheet.specs.Sheet.{sheet_in, sheet_fault};
 ghost use Rattle.labelling.specs.Layout.{left_end, is_used, is_layout, layout_ties, broken_by, sheet_part, layout_part, judge_fault, stored_fault};
-ghost use Rattle.decoding.specs.Decoding.{numbers_by, sheet_by};
+ghost use Rattle.decoding.specs.Decoding.{numbers_by, sheet_by, site_colours_in, xs_in, ys_in};
 ghost use Rattle.faults.specs.Refusals.{number_in};
 ghost use Rattle.layouts.specs.Broken.{broken_number};
 ghost use Rattle.judge.specs.Opened.{SitesRead, parts_fault};
@@ -33,14 +33,12 @@ pub struct Opened<'a> {
 impl Opened<'_> {
     // The sites with their ties.
     pub fn sites(&self) -> TiedSites<'_>
-        ensures { SitesRead self.entry.now.numbers self.entry.now.layout.now result.head result.heights.now result.xs.now result.ys.now result.colours.now result.ties.now }
+        ensures { SitesRead self.entry.now.numbers self.entry.now.layout.now result.head result.heights.now (xs_in result.sites.now) (ys_in result.sites.now) (site_colours_in result.sites.now) result.ties.now }
     {
         TiedSites {
             head: self.numbers.head,
             heights: &self.numbers.heights,
-            xs: &self.numbers.xs,
-            ys: &self.numbers.ys,
-            colours: &self.numbers.colours,
+            sites: &self.numbers.site_list,
             ties: &self.layout[TIES_AT..],
         }
     }
@@ -64,8 +62,8 @@ impl Opened<'_> {
     pub fn broken_rule(&self) -> Option<Rule>
         ensures { broken_number result ≡ broken_by (sheet_in self.now.sheet.now) self.now.layout.now }
     {
-        let Numbers { kinds, bounds, .. } = self.numbers;
-        broken_by(&self.sites(), self.layout[0], &bounds[..kinds])
+        let colours = &self.numbers.colour_list[..self.numbers.kinds];
+        broken_by(&self.sites(), self.layout[0], colours)
     }
 }
 

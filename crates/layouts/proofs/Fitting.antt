@@ -1,5 +1,5 @@
 -- The decoded numbers of an accepted sheet and the ties of a layout of it fit what the loops ask. Assumes nothing.
-use mathlib.Core.Path.{◌≡◌, ap}
+use mathlib.Core.Path.{◌≡◌, ap, ◌∙◌}
 use mathlib.Core.Bool.{true}
 use mathlib.Core.List.{List}
 use Prim.Native.Nat.{ℕ, ◌<◌}
@@ -12,10 +12,10 @@ use Rattle.sheet.specs.Sheet.{Sheet, sheet_in, sheet_fault}
 use Rattle.sheet.proofs.Accepted.{sound}
 use Rattle.labelling.specs.Layout.{ties_at, layout_body, layout_ties, is_layout}
 use Rattle.labelling.proofs.Words.{height-low, y-low, formed, formed-ties}
-use Rattle.decoding.specs.Decoding.{head_by, xs_of, ys_of, colours_of, LayoutRead}
+use Rattle.decoding.specs.Decoding.{SiteNumbers, head_by, ys_of, ys_in, site_array, LayoutRead}
 use Rattle.decoding.specs.declared.Numbers.{Numbers}
-use Rattle.decoding.proofs.Fields.{xs-long, ys-long, colours-long}
 use Rattle.decoding.proofs.Places.{ys-at}
+use Rattle.decoding.proofs.Records.{ys-array, site-array-long}
 use Rattle.words.specs.declared.tied.Head.{Head}
 use Rattle.layouts.specs.Model.{Fits, Low}
 
@@ -34,13 +34,11 @@ module _ (ss ls : List ℕ) (ok : sheet_fault ss ≡ 0) (form : is_layout (sheet
   tie-low : (i : ℕ) → i < length (layout_body ls) → get_or (layout_ties ls) i 0 < length s.slots
   tie-low i l = (formed-ties s ls (formed s ls form)).low i (omega (arith, long))
 
-  pub fits : (hs xs ys cs ws : List ℕ) → hs ≡ padded most_slots s.slots → xs ≡ padded most_sites (xs_of s.sites) → ys ≡ padded most_sites (ys_of s.sites) → cs ≡ padded most_sites (colours_of s.sites) → ws ≡ layout_body ls → Fits hs xs ys cs ws
-  fits hs xs ys cs ws eh ex ey ec ew =
-      rw (eh, ex, ey, ec, ew)
+  pub fits : (hs : List ℕ) (us : List SiteNumbers) (ws : List ℕ) → hs ≡ padded most_slots s.slots → us ≡ site_array s.sites → ws ≡ layout_body ls → Fits hs us ws
+  fits hs us ws eh es ew =
+      rw (eh, es, ew)
       (record {
-        xs-long = omega (arith, long, xs-long s.sites, padded-long most_sites (xs_of s.sites));
-        ys-long = omega (arith, long, ys-long s.sites, padded-long most_sites (ys_of s.sites));
-        colours-long = omega (arith, long, colours-long s.sites, padded-long most_sites (colours_of s.sites));
+        sites-long = omega (arith, long, site-array-long s.sites);
         slots-low = λ i l. omega (arith, tie-low i l, padded-long most_slots s.slots);
         few = omega (arith, long, (sound ss ok).few-sites);
       })
@@ -60,10 +58,11 @@ module _ {d : Numbers} {ls : List ℕ} (r : LayoutRead d ls) where
   abbrev ws : List ℕ
   ws = r.read.words
 
-  pub fits_read : (ts : List ℕ) → ts ≡ layout_body ls → Fits d.heights d.xs d.ys d.colours ts
+  pub fits_read : (ts : List ℕ) → ts ≡ layout_body ls → Fits d.heights d.site_list ts
   fits_read ts e =
-      fits ws ls r.read.accepted r.form _ _ _ _ _ (ap (λ (z : Numbers). z.heights) r.read.numbers) (ap (λ (z : Numbers). z.xs) r.read.numbers) (ap (λ (z : Numbers). z.ys) r.read.numbers) (ap (λ (z : Numbers). z.colours) r.read.numbers) e
+      fits ws ls r.read.accepted r.form _ _ _ (ap (λ (z : Numbers). z.heights) r.read.numbers) (ap (λ (z : Numbers). z.site_list) r.read.numbers) e
 
-  pub low_read : Low d.head d.heights d.ys
+  pub low_read : Low d.head d.heights (ys_in d.site_list)
   low_read =
-      low ws ls r.read.accepted r.form _ _ _ (ap (λ (z : Numbers). z.head) r.read.numbers) (ap (λ (z : Numbers). z.heights) r.read.numbers) (ap (λ (z : Numbers). z.ys) r.read.numbers)
+      let s : Sheet = sheet_in ws in
+      low ws ls r.read.accepted r.form _ _ _ (ap (λ (z : Numbers). z.head) r.read.numbers) (ap (λ (z : Numbers). z.heights) r.read.numbers) (ap (λ (z : Numbers). ys_in z.site_list) r.read.numbers ∙ ys-array s.sites)

@@ -15,6 +15,7 @@ use Rattle.sheet.specs.Sheet.{bits}
 use Rattle.labelling.specs.Layout.{ties_in, share_by}
 use Rattle.labelling.proofs.Distances.{share-le}
 use Rattle.labelling.specs.Counted.{all_before, sum_before, is_taken, is_first}
+use Rattle.decoding.specs.Decoding.{ColourNumbers, bounds_in}
 use Rattle.words.specs.declared.tied.Head.{Head}
 use Rattle.layouts.specs.declared.labels.Among.TheVariants.{All}
 use Rattle.layouts.specs.Model.{one_if, among_by, Low, least_before, left_on, length_at, most_added}
@@ -58,14 +59,17 @@ sum-from f a (suc n) =
 pub count-range : (p : ℕ → Bool) (n : ℕ) → count_by p (range_with_len 0 n) ≡ sum_before (λ i. one_if (p i)) n
 count-range p n = sum-from (λ i. one_if (p i)) 0 n ∙ ap (λ (g : ℕ → ℕ). sum_before g n) (fun_ext λ i. ap (λ (k : ℕ). one_if (p k)) (let e : 0 + i ≡ i = omega arith in e))
 
-all-places_from : (f : ℕ → ℕ → Bool) (a : ℕ) (xs : List ℕ) → list_all (λ (p : ℕ × ℕ). f p.0 p.1) (enumerate_from a xs) ≡ all_before (λ i. f (a + i) (get_or xs i 0)) (length xs)
-all-places_from f a [] = unfold all_before in refl
-all-places_from f a (x ∷ xs) =
-    ap₂ ◌&&◌ (ap (λ (k : ℕ). f k x) (let e : a ≡ a + 0 = omega arith in e)) (all-places_from f (a + 1) xs ∙ ap (λ (g : ℕ → Bool). all_before g (length xs)) (fun_ext λ i. ap (λ (k : ℕ). f k (get_or xs i 0)) (let e : a + 1 + i ≡ a + suc i = omega arith in e))) ∙
-    sym (all-front (λ i. f (a + i) (get_or (x ∷ xs) i 0)) (length xs))
+all-bounds_from : (f : ℕ → ℕ → Bool) (a : ℕ) (ks : List ColourNumbers) →
+    list_all (λ (p : ℕ × ColourNumbers). f p.0 p.1.bound) (enumerate_from a ks) ≡ all_before (λ i. f (a + i) (get_or (bounds_in ks) i 0)) (length (bounds_in ks))
+unfolding bounds_in
+all-bounds_from f a [] = unfold all_before in refl
+all-bounds_from f a (k ∷ ks) =
+    ap₂ ◌&&◌ (ap (λ (c : ℕ). f c k.bound) (let e : a ≡ a + 0 = omega arith in e)) (all-bounds_from f (a + 1) ks ∙ ap (λ (g : ℕ → Bool). all_before g (length (bounds_in ks))) (fun_ext λ i. ap (λ (c : ℕ). f c (get_or (bounds_in ks) i 0)) (let e : a + 1 + i ≡ a + suc i = omega arith in e))) ∙
+    sym (all-front (λ i. f (a + i) (get_or (bounds_in (k ∷ ks)) i 0)) (length (bounds_in ks)))
 
-pub all-places : (f : ℕ → ℕ → Bool) (xs : List ℕ) → list_all (λ (p : ℕ × ℕ). f p.0 p.1) (enumerate_from 0 xs) ≡ all_before (λ i. f i (get_or xs i 0)) (length xs)
-all-places f xs = all-places_from f 0 xs ∙ ap (λ (g : ℕ → Bool). all_before g (length xs)) (fun_ext λ i. ap (λ (k : ℕ). f k (get_or xs i 0)) (let e : 0 + i ≡ i = omega arith in e))
+pub all-bounds : (f : ℕ → ℕ → Bool) (ks : List ColourNumbers) →
+    list_all (λ (p : ℕ × ColourNumbers). f p.0 p.1.bound) (enumerate_from 0 ks) ≡ all_before (λ i. f i (get_or (bounds_in ks) i 0)) (length (bounds_in ks))
+all-bounds f ks = all-bounds_from f 0 ks ∙ ap (λ (g : ℕ → Bool). all_before g (length (bounds_in ks))) (fun_ext λ i. ap (λ (k : ℕ). f k (get_or (bounds_in ks) i 0)) (let e : 0 + i ≡ i = omega arith in e))
 
 -- A SUM
 pub sum-none : (f : ℕ → ℕ) → 0 ≡ sum_before f 0

@@ -7,7 +7,7 @@ use Rattle.sheet.specs.Limits.{most_slots, most_sites}
 use Rattle.sheet.specs.Sheet.{Sheet, sheet_in}
 use Rattle.labelling.specs.Layout.{left_end, ties_in, layout_body, layout_ties}
 use Rattle.labelling.proofs.Words.{length-ties_in}
-use Rattle.decoding.specs.Decoding.{numbers_by, sheet_by, Decoded, LayoutRead}
+use Rattle.decoding.specs.Decoding.{numbers_by, sheet_by, Decoded, LayoutRead, site_colours_in, xs_in, ys_in}
 use Rattle.decoding.specs.declared.Numbers.{Numbers}
 use Rattle.decoding.proofs.Fronts.{few}
 use Rattle.decoding.proofs.Places.{decoded, sheet-back, sheet-read}
@@ -24,11 +24,11 @@ module _ {d : Numbers} {ls : List ℕ} (p : LayoutRead d ls) where
   sheet-is = sheet-read p.read.numbers
 
   -- ITS NUMBERS stand in the arrays
-  pub decoded-read : Decoded s d.heights d.xs d.ys d.colours
+  pub decoded-read : Decoded s d.heights (xs_in d.site_list) (ys_in d.site_list) (site_colours_in d.site_list)
   decoded-read =
       let t : Sheet = sheet_in p.read.words in
-      subst⁻¹ (λ (z : Numbers). Decoded (sheet_by z) z.heights z.xs z.ys z.colours) p.read.numbers
-      (subst⁻¹ (λ (z : Sheet). Decoded z (numbers_by t).heights (numbers_by t).xs (numbers_by t).ys (numbers_by t).colours) (sheet-back t) (decoded t most_slots most_sites))
+      subst⁻¹ (λ (z : Numbers). Decoded (sheet_by z) z.heights (xs_in z.site_list) (ys_in z.site_list) (site_colours_in z.site_list)) p.read.numbers
+      (subst⁻¹ (λ (z : Sheet). Decoded z (numbers_by t).heights (xs_in (numbers_by t).site_list) (ys_in (numbers_by t).site_list) (site_colours_in (numbers_by t).site_list)) (sheet-back t) (decoded t most_slots))
 
   pub slots-long : d.slots ≡ length s.slots
   slots-long = ap (λ (z : Numbers). z.slots) p.read.numbers ∙ sym (ap (λ (z : Sheet). length z.slots) sheet-is)
@@ -44,8 +44,8 @@ module _ {d : Numbers} {ls : List ℕ} (p : LayoutRead d ls) where
   ties-long = length-ties_in (layout_body ls) ∙ body-long
 
   -- THE LEFT END, as code finds it
-  pub left-read : (ts : List ℕ) (k : ℕ) → ts ≡ layout_body ls → left_on d.head d.xs (ties_in ts) (length ts) k ≡ left_end s (layout_ties ls) k
-  left-read ts k e = rw (e, body-long) (left_is s d.heights d.xs d.ys d.colours decoded-read (layout_ties ls) ties-long k)
+  pub left-read : (ts : List ℕ) (k : ℕ) → ts ≡ layout_body ls → left_on d.head (xs_in d.site_list) (ties_in ts) (length ts) k ≡ left_end s (layout_ties ls) k
+  left-read ts k e = rw (e, body-long) (left_is s d.heights (xs_in d.site_list) (ys_in d.site_list) (site_colours_in d.site_list) decoded-read (layout_ties ls) ties-long k)
 
   pub sites-few : d.sites ≤ most_sites
   sites-few = (few p.read).2

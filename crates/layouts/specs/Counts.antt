@@ -6,7 +6,7 @@ use Rattle.sheet.specs.Sheet.{sheet_in}
 use Rattle.labelling.specs.Layout.{layout_body, layout_ties, layout_words, sheet_part, layout_part, judge_fault}
 use Rattle.labelling.specs.Promise.{a, JudgedAs}
 use Rattle.labelling.specs.Slots.{ColourHas}
-use Rattle.decoding.specs.Decoding.{numbers_by}
+use Rattle.decoding.specs.Decoding.{numbers_by, site_colours_in}
 use Rattle.layouts.specs.declared.labels.Among.TheVariants.{Of}
 use Rattle.layouts.specs.Model.{count_on}
 
@@ -14,7 +14,7 @@ use Rattle.layouts.specs.Model.{count_on}
 -- stored list of words is read into and on the words of its ties
 abbrev pub labels_compared : (stored : List ℕ) → (colour : ℕ) → ℕ
 labels_compared ws c =
-    count_on (Of c) (numbers_by (sheet_in (sheet_part ws))).colours (layout_ties (layout_part ws)) (length (layout_body (layout_part ws)))
+    count_on (Of c) (site_colours_in (numbers_by (sheet_in (sheet_part ws))).site_list) (layout_ties (layout_part ws)) (length (layout_body (layout_part ws)))
 
 -- in every list of words that the judge does not refuse it is the number of different slots that the colour's sites have, and no other number is
 abbrev pub SlotsCounted : Type 0

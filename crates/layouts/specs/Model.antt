@@ -5,6 +5,7 @@ use Rattle.sheet.specs.Limits.{most_sites, number_top}
 use Rattle.rules.specs.Rules.{colours_pass, bound_kept, gaps_pass, misses_pass, clears_pass, is_stated}
 use Rattle.labelling.specs.Counted.{all_before, sum_before, is_first}
 use Rattle.labelling.specs.Layout.{ties_in, share_by}
+use Rattle.decoding.specs.Decoding.{SiteNumbers}
 use Rattle.words.specs.declared.tied.TiedSite.{TiedSite}
 use Rattle.words.specs.declared.tied.Head.{Head}
 use Rattle.layouts.specs.declared.labels.Among.{Among}
@@ -14,11 +15,9 @@ use Rattle.layouts.specs.Flaws.{flaw_of}
 abbrev pub one_if : Bool → ℕ
 one_if b = cond b 1 0
 
--- WHAT THE LOOPS ASK: each site has its numbers, and its slot a height; the numbers are so low, and so few, that lengths fit. ties: their words
-pub record Fits (heights xs ys colours ties : List ℕ) : Type 0 where
-  pub xs-long : length ties ≤ length xs
-  pub ys-long : length ties ≤ length ys
-  pub colours-long : length ties ≤ length colours
+-- WHAT THE LOOPS ASK: each tie has its site, and its slot a height; the numbers are so low, and so few, that lengths fit. ties: their words
+pub record Fits (heights : List ℕ) (sites : List SiteNumbers) (ties : List ℕ) : Type 0 where
+  pub sites-long : length ties ≤ length sites
   pub slots-low : (i : ℕ) → i < length ties → get_or (ties_in ties) i 0 < length heights
   pub few : length ties ≤ most_sites
 

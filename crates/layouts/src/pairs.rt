@@ -1,4 +1,5 @@
 // Rules 1, 3, 4 and 5: what each asks of two tied sites, and whether every two of a layout pass it.
+ghost use Rattle.decoding.specs.Decoding.{site_colours_in, xs_in, ys_in};
 ghost use Rattle.std.specs.Prelude.{◌≡◌, Bool, length};
 ghost use Rattle.labelling.specs.Layout.{ties_in};
 ghost use Rattle.rules.specs.Rules.{colours_pass, gaps_pass, misses_pass, clears_pass};
@@ -64,14 +65,14 @@ impl PairRule for Clears {
 
 // Whether a tied site passes beside every tied site.
 fn all_pass<R: PairRule>(sites: &TiedSites, t: TiedSite) -> bool
-    ensures { result ≡ passes_all R.kept sites.now.head (tied_at sites.now.heights.now sites.now.xs.now sites.now.ys.now sites.now.colours.now (ties_in sites.now.ties.now)) (length sites.now.ties.now) t }
+    ensures { result ≡ passes_all R.kept sites.now.head (tied_at sites.now.heights.now (xs_in sites.now.sites.now) (ys_in sites.now.sites.now) (site_colours_in sites.now.sites.now) (ties_in sites.now.ties.now)) (length sites.now.ties.now) t }
 {
     (0..sites.count()).all(|j| R::passes(sites.head, t, sites.tied_at(j)))
 }
 
 // Whether every two tied sites pass.
 pub fn pairs_pass<R: PairRule>(sites: &TiedSites) -> bool
-    ensures { result ≡ pairs_pass R.kept sites.now.head (tied_at sites.now.heights.now sites.now.xs.now sites.now.ys.now sites.now.colours.now (ties_in sites.now.ties.now)) (length sites.now.ties.now) }
+    ensures { result ≡ pairs_pass R.kept sites.now.head (tied_at sites.now.heights.now (xs_in sites.now.sites.now) (ys_in sites.now.sites.now) (site_colours_in sites.now.sites.now) (ties_in sites.now.ties.now)) (length sites.now.ties.now) }
 {
     (0..sites.count()).all(|i| all_pass::<R>(sites, sites.tied_at(i)))
 }

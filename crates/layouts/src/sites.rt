@@ -1,23 +1,23 @@
 // The sites of a sheet, each with its tie: what all functions over a layout are given.
+ghost use Rattle.decoding.specs.Decoding.{site_colours_in, xs_in, ys_in};
 ghost use Rattle.std.specs.Prelude.{◌≡◌, ◌<◌, length, get_or};
 ghost use Rattle.labelling.specs.Layout.{ties_in};
 ghost use Rattle.layouts.specs.Model.{Fits, Low, tied_at};
 
+use decoding::Site;
 use words::byte_field;
 use words::tied::{Head, TiedSite};
 
-// The sheet's head, its slots' heights, its sites' x, y and colours, and the ties' words. Each site has its numbers, and its slot a height; all are
+// The sheet's head, its slots' heights, its sites, and the ties' words. Each tie has its site, and its slot a height; all are
 // so low, and the sites so few, that lengths fit.
 #[derive(Clone, Copy)]
 pub struct TiedSites<'a> {
     pub head: Head,
     pub heights: &'a [u32],
-    pub xs: &'a [u32],
-    pub ys: &'a [u32],
-    pub colours: &'a [u32],
+    pub sites: &'a [Site],
     pub ties: &'a [u32],
-    pub ghost fits: { Fits heights.now xs.now ys.now colours.now ties.now },
-    pub ghost low: { Low head heights.now ys.now },
+    pub ghost fits: { Fits heights.now sites.now ties.now },
+    pub ghost low: { Low head heights.now (ys_in sites.now) },
 }
 
 impl TiedSites<'_> {
@@ -35,16 +35,27 @@ impl TiedSites<'_> {
         byte_field(self.ties[i])
     }
 
+    // A site's own numbers.
+    pub fn site_at(&self, i: usize) -> Site
+        requires { i < length self.now.ties.now }
+        ensures x { result.x ≡ get_or (xs_in self.now.sites.now) i 0 }
+        ensures y { result.y ≡ get_or (ys_in self.now.sites.now) i 0 }
+        ensures colour { result.colour ≡ get_or (site_colours_in self.now.sites.now) i 0 }
+    {
+        self.sites[i]
+    }
+
     // A site with its tie. Its slot has a height (refusal 11), so the place is not tested: loops over sites are then made for several at a time.
     pub fn tied_at(&self, i: usize) -> TiedSite
         requires { i < length self.now.ties.now }
-        ensures { result ≡ tied_at self.now.heights.now self.now.xs.now self.now.ys.now self.now.colours.now (ties_in self.now.ties.now) i }
+        ensures { result ≡ tied_at self.now.heights.now (xs_in self.now.sites.now) (ys_in self.now.sites.now) (site_colours_in self.now.sites.now) (ties_in self.now.ties.now) i }
     {
+        let Site { x, y, colour } = self.site_at(i);
         let slot = self.slot_at(i);
         TiedSite {
-            x: self.xs[i],
-            y: self.ys[i],
-            colour: self.colours[i],
+            x,
+            y,
+            colour,
             slot,
             height: self.heights[slot as usize],
         }

@@ -25,7 +25,7 @@ use Rattle.onesided.specs.Laying.{TakesOneSided, MadeBy}
 use Rattle.decoding.proofs.Fronts.{bounds-fit, product_is, same-sheet}
 use Rattle.sizes.specs.Budgets.{product_by}
 use Rattle.decoding.specs.declared.Numbers.{Numbers}
-use Rattle.decoding.specs.Decoding.{numbers_by, SheetRead}
+use Rattle.decoding.specs.Decoding.{bounds_in, numbers_by, SheetRead}
 use Rattle.maker.specs.Taken.{Taken, BindingAlone}
 
 -- a list of 32-bit numbers
@@ -88,7 +88,7 @@ module _ {d b : Numbers} {a : ℕ} {k o : List ℕ} (t : Taken d a k o) (e : Bin
   abbrev pub read_kept : SheetRead b
   read_kept = record { words = ls; accepted = takes-kept.1; numbers = kept-is }
 
-  module _ {p : ℕ} (c : p ≡ product_by (take b.kinds b.bounds)) where
+  module _ {p : ℕ} (c : p ≡ product_by (take b.kinds (bounds_in b.colour_list))) where
     pub few-budgets : p ≤ most_budgets
     few-budgets = omega (arith, c, (bounds-fit read_kept).2)
 

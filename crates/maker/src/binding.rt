@@ -2,19 +2,21 @@
 ghost use Rattle.decoding.specs.Decoding.{SheetRead};
 ghost use Rattle.maker.specs.Taken.{BindingAlone};
 
-use decoding::Numbers;
-use sizes::binding_bounds;
+use decoding::{Colour, Numbers};
+use sizes::binding_bound;
 
 pub fn binding_numbers(numbers: Numbers) -> Numbers
     requires { SheetRead numbers }
     ensures { BindingAlone numbers result }
 {
-    let kinds = numbers.kinds;
-    let bounds = numbers.bounds;
-    let counts = numbers.site_counts;
-    let binding = binding_bounds(&bounds[..kinds], &counts[..kinds]);
+    let mut colour_list = numbers.colour_list;
+    for c in 0..numbers.kinds {
+        let Colour { bound, sites } = colour_list[c];
+        let bound = binding_bound(bound, sites);
+        colour_list[c] = Colour { bound, sites };
+    }
     Numbers {
-        bounds: binding,
+        colour_list,
         ..numbers
     }
 }

@@ -34,7 +34,7 @@ fn lay_binding(
 {
     let kept = binding_numbers(numbers);
     let kinds = kept.kinds;
-    let bounds = kept.bounds;
+    let bounds = kept.bounds();
     let budgets = product_of(&bounds[..kinds]);
     let table = work_for(
         false,

@@ -11,7 +11,7 @@ use Rattle.optimum.specs.Budgets.{radices_of}
 use Rattle.optimum.proofs.optimality.Order.{ordered}
 use Rattle.arrays.specs.Arrays.{measures_of, bounds_of, draws_list, xs_of, ys_of, gathered, ranks_by, order_by, radices_by, draws_by}
 use Rattle.decoding.specs.declared.Numbers.{Numbers}
-use Rattle.decoding.specs.Decoding.{sheet_by, SheetRead}
+use Rattle.decoding.specs.Decoding.{bounds_in, xs_in, ys_in, sheet_by, SheetRead}
 use Rattle.decoding.proofs.Places.{sheet-read}
 use Rattle.arrays.specs.declared.Measures.{Measures}
 use Rattle.onesided.specs.Laying.{RankedSites}
@@ -31,17 +31,17 @@ module _ {d : Numbers} (t : SheetRead d) where
   pub measures-are : {p : ℕ} → p ≡ product_of s.colours → ◌≡◌ {A = Measures} (record { head = d.head; colours = d.kinds; budgets = p }) (measures_of s)
   measures-are e = rw (t.numbers, e) refl
 
-  pub radices : {r : List ℕ} → r ≡ padded most_colours (radices_by (take d.kinds d.bounds)) → IsFront r d.kinds (radices_of s.colours)
+  pub radices : {r : List ℕ} → r ≡ padded most_colours (radices_by (take d.kinds (bounds_in d.colour_list))) → IsFront r d.kinds (radices_of s.colours)
   radices {r} g =
       part most_colours (radices_of s.colours) r d.kinds (g ∙ ap (λ (l : List ℕ). padded most_colours (radices_by l)) (bounds t).0 ∙ ap (padded most_colours) (radices-are s.colours))
       (kinds-are t ∙ sym (bounds-long s.colours) ∙ sym (radices-long (bounds_of s.colours)) ∙ ap length (radices-are s.colours))
 
-  pub draws : {r : List ℕ} → r ≡ padded most_colours (draws_by 1 (take d.kinds d.bounds)) → IsFront r d.kinds (draws_list s)
+  pub draws : {r : List ℕ} → r ≡ padded most_colours (draws_by 1 (take d.kinds (bounds_in d.colour_list))) → IsFront r d.kinds (draws_list s)
   draws {r} g =
       part most_colours (draws_list s) r d.kinds (g ∙ ap (λ (l : List ℕ). padded most_colours (draws_by 1 l)) (bounds t).0 ∙ ap (padded most_colours) (draws-are s))
       (kinds-are t ∙ sym (bounds-long s.colours) ∙ sym (draws-long 1 (bounds_of s.colours)) ∙ ap length (draws-are s))
 
-  pub ranks : {r : List ℕ} → r ≡ padded most_sites (ranks_by (take d.sites d.xs) (take d.sites d.ys)) → IsFront r d.sites (ranks_by (xs_of s.sites) (ys_of s.sites))
+  pub ranks : {r : List ℕ} → r ≡ padded most_sites (ranks_by (take d.sites (xs_in d.site_list)) (take d.sites (ys_in d.site_list))) → IsFront r d.sites (ranks_by (xs_of s.sites) (ys_of s.sites))
   ranks {r} g =
       part most_sites (ranks_by (xs_of s.sites) (ys_of s.sites)) r d.sites (g ∙ ap₂ (λ (x y : List ℕ). padded most_sites (ranks_by x y)) (xs t).0 (ys t).0) (sites-are t ∙ sym (ranks-long s))
 
@@ -56,7 +56,7 @@ module _ {d : Numbers} (t : SheetRead d) where
       (sites-are t ∙ sym (ordered s fine).long ∙ sym (gathered-long l (order s)))
 
   -- both from the calls before: b has the ranks, q the order
-  module _ {b q : List ℕ} (x : b ≡ padded most_sites (ranks_by (take d.sites d.xs) (take d.sites d.ys)))
+  module _ {b q : List ℕ} (x : b ≡ padded most_sites (ranks_by (take d.sites (xs_in d.site_list)) (take d.sites (ys_in d.site_list))))
       (y : q ≡ padded most_sites (order_by (take d.sites b) (length (take d.sites b)) 0)) where
     pub order-by : IsFront q d.sites (order s)
     order-by = orders b q (ranks x).0 y

@@ -55,7 +55,7 @@ fn lay_sites<'a>(
     };
     let slots = numbers.slots;
     let heights = numbers.heights;
-    let bounds = numbers.bounds;
+    let bounds = numbers.bounds();
     let bounds = &bounds[..count];
     let radices = radices_of(bounds);
     let draws = draws_of(bounds);
@@ -89,9 +89,9 @@ pub fn lay_one_sided(
     ensures { MadeBy numbers work.old out.old (number_in result) work.new out.new }
 {
     let sites = numbers.sites;
-    let xs = numbers.xs;
-    let ys = numbers.ys;
-    let site_colours = numbers.colours;
+    let xs = numbers.xs();
+    let ys = numbers.ys();
+    let site_colours = numbers.site_colours();
     let xs = &xs[..sites];
     let ys = &ys[..sites];
     let ranks = ranks_of(xs, ys);

@@ -16,7 +16,7 @@ use Rattle.labelling.specs.Labels.{sum_at, colour_before, share_at}
 use Rattle.labelling.proofs.Distances.{share-le}
 use Rattle.labelling.proofs.Labels.{sum-at-le}
 use Rattle.words.specs.declared.tied.Head.{Head}
-use Rattle.decoding.specs.Decoding.{sheet_by, LayoutRead}
+use Rattle.decoding.specs.Decoding.{sheet_by, LayoutRead, site_colours_in, ys_in}
 use Rattle.decoding.specs.declared.Numbers.{Numbers}
 use Rattle.layouts.specs.Model.{Low}
 use Rattle.layouts.proofs.Fitting.{low_read}
@@ -74,10 +74,10 @@ module _ {d : Numbers} {ls : List ℕ} (p : LayoutRead d ls) where
   abbrev js : List ℕ
   js = layout_ties ls
 
-  shares-so : (i : ℕ) → share_by d.head.charge (get_or d.heights (get_or js i 0) 0) (get_or d.ys i 0) ≡ share_at s js i
+  shares-so : (i : ℕ) → share_by d.head.charge (get_or d.heights (get_or js i 0) 0) (get_or (ys_in d.site_list) i 0) ≡ share_at s js i
   shares-so i = ap₂ (share_by d.head.charge) ((decoded-read p).heights (get_or js i 0)) ((decoded-read p).ys i)
 
-  sums-are : (k n : ℕ) → n ≡ length s.sites → sums_on d.head k d.heights d.ys d.colours js n ≡ sums_at s js k
+  sums-are : (k n : ℕ) → n ≡ length s.sites → sums_on d.head k d.heights (ys_in d.site_list) (site_colours_in d.site_list) js n ≡ sums_at s js k
   sums-are k n e =
       ap₂ (λ (f : ℕ → ℕ) (g : ℕ → ℕ). sums (colour_before f js k n) (sum_at k (λ i. 1) js n) (sum_at k g js n)) (fun_ext (decoded-read p).colours) (fun_ext shares-so) ∙
       ap (λ (m : ℕ). sums (colour_before (λ i. (site_at s i).colour) js k m) (sum_at k (λ i. 1) js m) (sum_at k (share_at s js) js m)) e
@@ -88,6 +88,6 @@ module _ {d : Numbers} {ls : List ℕ} (p : LayoutRead d ls) where
   -- THE LABEL: its length fits a word
   pub length-room : {t : Sums} (k : ℕ) → t ≡ sums_at s js k → d.head.width + t.shares < top_word
   length-room k q =
-      let l = (sums-low d.head k d.heights d.ys d.colours js (low_read p) (length s.sites) (omega (arith, sites_long p, sites-few p))).1 in
+      let l = (sums-low d.head k d.heights (ys_in d.site_list) (site_colours_in d.site_list) js (low_read p) (length s.sites) (omega (arith, sites_long p, sites-few p))).1 in
       let e = ap (λ (v : Sums). v.shares) (q ∙ sym (sums-are k (length s.sites) refl)) in
       omega (arith, (low_read p).width, l, e)

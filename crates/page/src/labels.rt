@@ -2,7 +2,7 @@
 ghost use Rattle.std.specs.Prelude.{◌≡◌, ◌+◌, ◌<◌, length};
 ghost use Rattle.sheet.specs.Limits.{top_word};
 ghost use Rattle.labelling.specs.Layout.{ties_in, layout_ties};
-ghost use Rattle.decoding.specs.Decoding.{sheet_by};
+ghost use Rattle.decoding.specs.Decoding.{sheet_by, site_colours_in, ys_in};
 ghost use Rattle.page.specs.Labels.{with_site, sums_on, sums_at, label_at};
 
 use judge::opened::Opened;
@@ -36,7 +36,7 @@ fn with_site(sums: Sums, has: bool, colour: u32, share: u32) -> Sums
 
 // The sums over all sites.
 fn sums_of(sites: &TiedSites, slot: u32) -> Sums
-    ensures { result ≡ sums_on sites.now.head slot sites.now.heights.now sites.now.ys.now sites.now.colours.now (ties_in sites.now.ties.now) (length sites.now.ties.now) }
+    ensures { result ≡ sums_on sites.now.head slot sites.now.heights.now (ys_in sites.now.sites.now) (site_colours_in sites.now.sites.now) (ties_in sites.now.ties.now) (length sites.now.ties.now) }
 {
     let mut sums = Sums {
         colour: 0,
@@ -44,9 +44,10 @@ fn sums_of(sites: &TiedSites, slot: u32) -> Sums
         shares: 0,
     };
     for i in 0..sites.count() {
+        let site = sites.site_at(i);
         let at = sites.slot_at(i);
-        let share = site_share(sites.head, get(sites.heights, at), sites.ys[i]);
-        sums = with_site(sums, at == slot, sites.colours[i], share);
+        let share = site_share(sites.head, get(sites.heights, at), site.y);
+        sums = with_site(sums, at == slot, site.colour, share);
     }
     sums
 }

@@ -38,7 +38,7 @@ fn put_site(page: &mut Text, opened: &Opened, i: usize)
     let sites = opened.sites();
     let slot = sites.slot_at(i);
     let height = get(sites.heights, slot);
-    put_site_line(page, i as u32, slot, height, sites.ys[i]);
+    put_site_line(page, i as u32, slot, height, sites.site_at(i).y);
 }
 
 // The lines of all sites, in sheet order.

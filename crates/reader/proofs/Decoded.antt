@@ -9,14 +9,14 @@ use Rattle.sheet.specs.Sheet.{Sheet, sheet_in, work_for}
 use Rattle.sizes.specs.Budgets.{product_by}
 use Rattle.sizes.specs.Work.{work_of}
 use Rattle.decoding.specs.declared.Numbers.{Numbers}
-use Rattle.decoding.specs.Decoding.{colours_by, sheet_by, SheetRead}
+use Rattle.decoding.specs.Decoding.{bounds_in, colours_by, sheet_by, SheetRead}
 use Rattle.decoding.proofs.Fronts.{slots-are, kinds-are, sites-are, bounds-fit, product_is}
 use Rattle.decoding.proofs.Places.{sheet-read}
 use Rattle.reader.specs.declared.ColourSize.{ColourSize}
 use Rattle.reader.specs.declared.Sizes.{Sizes}
 use Rattle.reader.specs.Read.{eight_of, read_of}
 
-module _ {d : Numbers} (r : SheetRead d) (p : ℕ) (q : p ≡ product_by (take d.kinds d.bounds)) where
+module _ {d : Numbers} (r : SheetRead d) (p : ℕ) (q : p ≡ product_by (take d.kinds (bounds_in d.colour_list))) where
   abbrev s : Sheet
   s = sheet_in r.words
 
@@ -24,7 +24,7 @@ module _ {d : Numbers} (r : SheetRead d) (p : ℕ) (q : p ≡ product_by (take d
   few-budgets = omega (arith, q, (bounds-fit r).2)
 
   module _ (w : ℕ) (u : w ≡ work_of d.head.twosided d.slots d.kinds d.sites p)
-      (ks : List ColourSize) (v : ks ≡ eight_of (colours_by (take d.kinds d.bounds) (take d.kinds d.site_counts))) where
+      (ks : List ColourSize) (v : ks ≡ eight_of (colours_by (take d.kinds d.colour_list))) where
     work-is : w ≡ work_for s
     work-is = u ∙ (λ i. work_of (r.numbers i).head.twosided (slots-are r i) (kinds-are r i) (sites-are r i) ((q ∙ product_is r) i))
 

@@ -12,11 +12,11 @@ mod refusal_7;
 
 ghost use Rattle.std.specs.Prelude.{◌≡◌, ℕ, ◌<◌, ◌≤◌, length, get_or};
 ghost use Rattle.sheet.specs.Limits.{most_colours, byte_top};
-ghost use Rattle.decoding.specs.Decoding.{colours_by, sheet_by, SheetRead};
+ghost use Rattle.decoding.specs.Decoding.{bounds_in, site_counts_in, colours_by, sheet_by, SheetRead};
 ghost use Rattle.reader.specs.Read.{eight_of, read_of, refused_of, read_post};
 
 use crate::opened::open_sheet;
-use decoding::Numbers;
+use decoding::{Colour, Numbers};
 use sizes::{product_of, work_for};
 use words::MOST_COLOURS;
 
@@ -43,20 +43,20 @@ pub struct Sizes {
 // What stands for a colour that the sheet does not have.
 const ABSENT: ColourSize = ColourSize { bound: 0, sites: 0 };
 
-fn colour_sizes(bounds: &[u32], counts: &[u32]) -> [ColourSize; MOST_COLOURS]
-    requires bounds_len_bound { length bounds.now ≤ most_colours }
-    requires counts_len { length counts.now ≡ length bounds.now }
-    requires bounds_low { (i : ℕ) → get_or bounds.now i 0 < byte_top }
-    requires counts_low { (i : ℕ) → get_or counts.now i 0 < byte_top }
-    ensures { result ≡ eight_of (colours_by bounds.now counts.now) }
+fn colour_sizes(colours: &[Colour]) -> [ColourSize; MOST_COLOURS]
+    requires few { length colours.now ≤ most_colours }
+    requires bounds_low { (i : ℕ) → get_or (bounds_in colours.now) i 0 < byte_top }
+    requires counts_low { (i : ℕ) → get_or (site_counts_in colours.now) i 0 < byte_top }
+    ensures { result ≡ eight_of (colours_by colours.now) }
 {
-    let mut colours = [ABSENT; MOST_COLOURS];
-    for c in 0..bounds.len() {
-        let bound = bounds[c] as u8;
-        let sites = counts[c] as u8;
-        colours[c] = ColourSize { bound, sites };
+    let mut sizes = [ABSENT; MOST_COLOURS];
+    for (c, colour) in colours.iter().enumerate() {
+        sizes[c] = ColourSize {
+            bound: colour.bound as u8,
+            sites: colour.sites as u8,
+        };
     }
-    colours
+    sizes
 }
 
 fn refused(refusal: u8) -> Sizes
@@ -78,9 +78,8 @@ pub fn sizes_of(numbers: Numbers) -> Sizes
     requires { SheetRead numbers }
     ensures { result ≡ read_of (sheet_by numbers) }
 {
-    let bounds = &numbers.bounds[..numbers.kinds];
-    let counts = &numbers.site_counts[..numbers.kinds];
-    let p = product_of(bounds);
+    let bounds = numbers.bounds();
+    let p = product_of(&bounds[..numbers.kinds]);
     let work = work_for(
         numbers.head.twosided,
         numbers.slots as u32,
@@ -95,7 +94,7 @@ pub fn sizes_of(numbers: Numbers) -> Sizes
         c: numbers.kinds as u8,
         p: p as u8,
         work,
-        colours: colour_sizes(bounds, counts),
+        colours: colour_sizes(&numbers.colour_list[..numbers.kinds]),
     }
 }
 

@@ -3,31 +3,19 @@
 
 pub mod page;
 
-ghost use Rattle.std.specs.Prelude.{◌≡◌, ℕ, ◌<◌, ◌≤◌, length, get_or};
-ghost use Rattle.lists.specs.Arrays.{padded};
+ghost use Rattle.std.specs.Prelude.{◌≡◌, ℕ, ◌<◌, ◌≤◌, get_or};
 ghost use Rattle.sheet.specs.Limits.{most_slots, most_colours, most_sites, most_budgets, byte_top};
 ghost use Rattle.sheet.specs.Binding.{binding_bound};
 ghost use Rattle.sizes.specs.Work.{work_of};
-ghost use Rattle.sizes.specs.Budgets.{radix_by, product_by, binding_bounds};
+ghost use Rattle.sizes.specs.Budgets.{radix_by, product_by};
 
-use words::arrays::padded;
-use words::{MOST_COLOURS, UNBOUNDED};
+use words::UNBOUNDED;
 
 // A bound over so many sites: none where it is at least as many.
 pub fn binding_bound(bound: u32, sites: u32) -> u32
     ensures { result ≡ binding_bound bound sites }
 {
     if bound < sites { bound } else { UNBOUNDED }
-}
-
-// All bounds so, by each colour's count of sites: zeros past them.
-pub fn binding_bounds(bounds: &[u32], counts: &[u32]) -> [u32; MOST_COLOURS]
-    requires bounds_len_bound { length bounds.now ≤ most_colours }
-    requires counts_len { length counts.now ≡ length bounds.now }
-    ensures { result ≡ padded most_colours (binding_bounds bounds.now counts.now) }
-{
-    let colours = bounds.iter().zip(counts);
-    padded(colours.map(|(bound, sites)| binding_bound(*bound, *sites)))
 }
 
 // The radix of a bound: 1 if it is none.

@@ -16,7 +16,7 @@ use Rattle.labelling.proofs.Strokes.{left-width}
 use Rattle.points.specs.declared.stroke.Stroke.{Stroke}
 use Rattle.points.specs.Points.{widest_number}
 use Rattle.points.specs.Strokes.{drawn}
-use Rattle.decoding.specs.Decoding.{sheet_by, LayoutRead}
+use Rattle.decoding.specs.Decoding.{sheet_by, LayoutRead, xs_in, ys_in}
 use Rattle.decoding.specs.declared.Numbers.{Numbers}
 use Rattle.words.specs.declared.tied.Head.{Head}
 use Rattle.layouts.proofs.Fitting.{low_read}
@@ -34,13 +34,13 @@ module _ {d : Numbers} {ls : List ℕ} (p : LayoutRead d ls) where
   pub height-low : (k : ℕ) → get_or d.heights k 0 ≤ widest_number
   height-low k = omega (arith, (low_read p).heights k)
 
-  pub y-low : (i : ℕ) → get_or d.ys i 0 ≤ widest_number
+  pub y-low : (i : ℕ) → get_or (ys_in d.site_list) i 0 ≤ widest_number
   y-low i = omega (arith, (low_read p).ys i)
 
   pub left-low : (k : ℕ) → left_end s (layout_ties ls) k ≤ widest_number
   left-low k = omega (arith, left-width s (layout_ties ls) k, width_low)
 
-  pub x-low : (i : ℕ) → i < d.sites → get_or d.xs i 0 ≤ widest_number
+  pub x-low : (i : ℕ) → i < d.sites → get_or (xs_in d.site_list) i 0 ≤ widest_number
   x-low i l = omega (arith, (decoded-read p).xs i, inside i (omega (arith, sites_long p)), width_low)
     where
       inside : (i : ℕ) → i < length s.sites → (site_at s i).x ≤ s.width

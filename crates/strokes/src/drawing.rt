@@ -22,5 +22,6 @@ pub fn drop_of(opened: &Opened, i: usize) -> Stroke
 {
     let sites = opened.sites();
     let height = get(sites.heights, sites.slot_at(i));
-    drop(sites.xs[i], sites.ys[i], height)
+    let site = sites.site_at(i);
+    drop(site.x, site.y, height)
 }

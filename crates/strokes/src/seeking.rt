@@ -24,7 +24,7 @@ pub fn has_drop(opened: &Opened, i: usize) -> bool
     ensures { result ≡ is_off (sheet_by opened.now.numbers) (tie_at (sheet_by opened.now.numbers) (layout_ties opened.now.layout.now) i) }
 {
     let sites = opened.sites();
-    is_off(get(sites.heights, sites.slot_at(i)), sites.ys[i])
+    is_off(get(sites.heights, sites.slot_at(i)), sites.site_at(i).y)
 }
 
 // The number, among so many, that is listed and before which as many are as the place says; where the list is shorter, how many places are left.

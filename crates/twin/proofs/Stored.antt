@@ -15,7 +15,7 @@ use Rattle.labelling.proofs.Judge.{judged-so}
 use Rattle.labelling.proofs.Stored.{stored-accepted, stored-layout}
 use Rattle.labelling.proofs.Words.{formed, length-ties_in, ties-low}
 use Rattle.labelling.proofs.Twin.{length-fits}
-use Rattle.decoding.specs.Decoding.{head_by, numbers_by, sheet_by, LayoutRead}
+use Rattle.decoding.specs.Decoding.{head_by, numbers_by, sheet_by, LayoutRead, site_colours_in, xs_in, ys_in}
 use Rattle.decoding.specs.declared.Numbers.{Numbers}
 use Rattle.decoding.proofs.Places.{decoded, sheet-read}
 use Rattle.words.specs.declared.tied.Head.{Head}
@@ -51,10 +51,10 @@ module _ {d : Numbers} {ls : List ℕ} (p : LayoutRead d ls) where
       r ≡ length_on h hs us vs cs (ties_in ts) (length ts) → r ≡ length_of (as_one_sided (sheet_by d)) (layout_ties ls)
   length_found r eh t e =
       let n : Numbers = numbers_by s in
-      let q : r ≡ length_on (head_by (as_one_sided s)) n.heights n.xs n.ys n.colours (layout_ties ls) (length (layout_body ls)) =
+      let q : r ≡ length_on (head_by (as_one_sided s)) n.heights (xs_in n.site_list) (ys_in n.site_list) (site_colours_in n.site_list) (layout_ties ls) (length (layout_body ls)) =
       e ∙ rw (eh, t.head, t.heights, t.xs, t.ys, t.colours, t.ties, p.read.numbers) refl in
-      q ∙ ap (length_on (head_by (as_one_sided s)) n.heights n.xs n.ys n.colours (layout_ties ls)) (long p.read.words ls p.read.accepted p.form) ∙
-      length-is (as_one_sided s) _ _ _ _ (decoded (as_one_sided s) most_slots most_sites) (layout_ties ls) (length-ties_in (layout_body ls) ∙ long p.read.words ls p.read.accepted p.form) (ties-low s (layout_body ls) (formed s ls p.form).ties) ∙
+      q ∙ ap (length_on (head_by (as_one_sided s)) n.heights (xs_in n.site_list) (ys_in n.site_list) (site_colours_in n.site_list) (layout_ties ls)) (long p.read.words ls p.read.accepted p.form) ∙
+      length-is (as_one_sided s) _ _ _ _ (decoded (as_one_sided s) most_slots) (layout_ties ls) (length-ties_in (layout_body ls) ∙ long p.read.words ls p.read.accepted p.form) (ties-low s (layout_body ls) (formed s ls p.form).ties) ∙
       sym same_length
 
   -- THE FIRST WORD with another length: it is a word, and the twin's

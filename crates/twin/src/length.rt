@@ -27,9 +27,7 @@ pub fn one_sided_length(opened: &Opened) -> u32
     let one_sided = TiedSites {
         head: one_sided(sites.head),
         heights: sites.heights,
-        xs: sites.xs,
-        ys: sites.ys,
-        colours: sites.colours,
+        sites: sites.sites,
         ties: sites.ties,
     };
     totals_of(&one_sided).length

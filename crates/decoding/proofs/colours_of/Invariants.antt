@@ -1,12 +1,9 @@
-use Rattle.lists.proofs.Grown.{Grown}
-use Rattle.sheet.specs.Words.{count_kind}
-use Rattle.decoding.specs.Decoding.{site_colours}
-use mathlib.Core.Path.{◌≡◌}
-use Prim.Native.Nat.{◌+◌}
+use mathlib.Core.List.{map}
 use lib.ListN.{drop}
+use Rattle.lists.proofs.Grown.{Grown}
+use Rattle.sheet.specs.Sheet.{colours_in}
+use Rattle.decoding.specs.Decoding.{colour_numbers}
 use Rattle.decoding.proofs.colours_of.Given as goal
 
-abbrev pub invariant-loop-w : goal.invariant-loop-w
-invariant-loop-w l =
-    (l.colours + count_kind 3 (drop l.w-index l.body) ≡ count_kind 3 l.body)
-    × Grown l.initial.array l.array (site_colours 0 l.body) (site_colours l.colours (drop l.w-index l.body)) l.sites
+abbrev pub invariant-loop-place : goal.invariant-loop-place
+invariant-loop-place l = Grown l.initial.array l.array (map colour_numbers (colours_in l.body)) (map colour_numbers (colours_in (drop l.place l.body))) l.colours

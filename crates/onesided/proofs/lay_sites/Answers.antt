@@ -2,7 +2,7 @@ use Rattle.lists.specs.Arrays.{padded}
 use Rattle.sheet.specs.Limits.{most_colours}
 use Rattle.sheet.specs.Sheet.{sheet_in}
 use Rattle.decoding.specs.declared.Numbers.{Numbers}
-use Rattle.decoding.specs.Decoding.{sheet_by}
+use Rattle.decoding.specs.Decoding.{bounds_in, sheet_by}
 use Rattle.decoding.proofs.Fronts.{few, heights, bounds, bounds-fit, same-sheet, stands}
 use Rattle.onesided.proofs.Parts.{measures-are, radices, draws, by-words}
 use Rattle.arrays.specs.Arrays.{radices_by, draws_by}
@@ -18,69 +18,69 @@ use lib.ListN.{take}
 use Rattle.onesided.proofs.lay_sites.Goals as goal
 
 -- THE ARRAYS that are made of the numbers, with the sites by rank, are the sheet's
-arrays : {d : Numbers} {p : ℕ} {k o : List ℕ} (t : TakesOneSided d p k o) {rs ds xs ys cs os : List ℕ}
-    → rs ≡ padded most_colours (radices_by (take d.kinds d.bounds)) → ds ≡ padded most_colours (draws_by 1 (take d.kinds d.bounds))
+arrays : {d : Numbers} {p : ℕ} {k o : List ℕ} (t : TakesOneSided d p k o) {bs rs ds xs ys cs os : List ℕ}
+    → bs ≡ bounds_in d.colour_list → rs ≡ padded most_colours (radices_by (take d.kinds bs)) → ds ≡ padded most_colours (draws_by 1 (take d.kinds bs))
     → RankedSites (sheet_by d) xs ys cs os
-    → given (record { head = d.head; colours = d.kinds; budgets = p }) (take d.slots d.heights) (take d.kinds d.bounds)
+    → given (record { head = d.head; colours = d.kinds; budgets = p }) (take d.slots d.heights) (take d.kinds bs)
     (take d.kinds rs) (take d.kinds ds) xs ys cs os [] [] ≡ arrays_of (sheet_in t.read.words)
-arrays t x y r =
+arrays {d} t b x y r =
     let p = t.read in
-    arrays-are _ (measures-are p t.product) (heights p).0 (bounds p).0 (radices p x).0 (draws p y).0 (by-words p r)
+    arrays-are _ (measures-are p t.product) (heights p).0 (ap (take d.kinds) b ∙ (bounds p).0) (radices p (rw b at x)).0 (draws p (rw b at y)).0 (by-words p r)
 
 pub overflow_cast-measures : goal.overflow_cast-measures
 overflow_cast-measures c = omega (arith, few c.requires.takes_one_sided.read)
 
 pub slice_bounds-bounds-end : goal.slice_bounds-bounds-end
-slice_bounds-bounds-end c = stands _ _ (bounds c.requires.takes_one_sided.read).1
+slice_bounds-bounds-end c = rw c.bounds-bounds.ensures (stands _ _ (bounds c.requires.takes_one_sided.read).1)
 
 pub slice_bounds-bounds-end-2 : goal.slice_bounds-bounds-end-2
-slice_bounds-bounds-end-2 c = (bounds c.requires.takes_one_sided.read).1
+slice_bounds-bounds-end-2 c = rw c.bounds-bounds.ensures (bounds c.requires.takes_one_sided.read).1
 
 pub radices_of-radices-requires : goal.radices_of-radices-requires
 radices_of-radices-requires c =
     let b = bounds-fit c.requires.takes_one_sided.read in
-    record { bounds_len_bound = b.0; by_index = b.1 }
+    rw c.bounds-bounds.ensures (record { bounds_len_bound = b.0; by_index = b.1 })
 
 pub draws_of-draws-requires : goal.draws_of-draws-requires
 draws_of-draws-requires c =
     let b = bounds-fit c.requires.takes_one_sided.read in
-    record { bounds_len_bound = b.0; by_index = b.1; bounds_bound = b.2 }
+    rw c.bounds-bounds.ensures (record { bounds_len_bound = b.0; by_index = b.1; bounds_bound = b.2 })
 
 pub slice_bounds-radices-end : goal.slice_bounds-radices-end
-slice_bounds-radices-end c = stands _ _ (radices c.requires.takes_one_sided.read c.radices_of-radices.ensures).1
+slice_bounds-radices-end c = stands _ _ (radices c.requires.takes_one_sided.read (rw c.bounds-bounds.ensures at c.radices_of-radices.ensures)).1
 
 pub slice_bounds-radices-end-2 : goal.slice_bounds-radices-end-2
-slice_bounds-radices-end-2 c = (radices c.requires.takes_one_sided.read c.radices_of-radices.ensures).1
+slice_bounds-radices-end-2 c = (radices c.requires.takes_one_sided.read (rw c.bounds-bounds.ensures at c.radices_of-radices.ensures)).1
 
 pub slice_bounds-draws-end : goal.slice_bounds-draws-end
-slice_bounds-draws-end c = stands _ _ (draws c.requires.takes_one_sided.read c.draws_of-draws.ensures).1
+slice_bounds-draws-end c = stands _ _ (draws c.requires.takes_one_sided.read (rw c.bounds-bounds.ensures at c.draws_of-draws.ensures)).1
 
 pub slice_bounds-sheet-end-2 : goal.slice_bounds-sheet-end-2
-slice_bounds-sheet-end-2 c = (draws c.requires.takes_one_sided.read c.draws_of-draws.ensures).1
+slice_bounds-sheet-end-2 c = (draws c.requires.takes_one_sided.read (rw c.bounds-bounds.ensures at c.draws_of-draws.ensures)).1
 
 pub splits_of-splits-requires : goal.splits_of-splits-requires
 splits_of-splits-requires c =
     let p = c.requires.takes_one_sided in
-    let e = arrays p c.radices_of-radices.ensures c.draws_of-draws.ensures c.requires.ranked_sites in
+    let e = arrays p c.bounds-bounds.ensures c.radices_of-radices.ensures c.draws_of-draws.ensures c.requires.ranked_sites in
     (arrays-held p.read.words p.takes.1 _ e).0.few_budgets
 
 pub invariant_of-radices : goal.invariant_of-radices
 invariant_of-radices c =
     let p = c.requires.takes_one_sided in
-    let e = arrays p c.radices_of-radices.ensures c.draws_of-draws.ensures c.requires.ranked_sites in
+    let e = arrays p c.bounds-bounds.ensures c.radices_of-radices.ensures c.draws_of-draws.ensures c.requires.ranked_sites in
     record { divides = (arrays-held p.read.words p.takes.1 _ e).0.divides }
 
 pub invariant_of-sheet : goal.invariant_of-sheet
 invariant_of-sheet c =
     let p = c.requires.takes_one_sided in
-    let e = arrays p c.radices_of-radices.ensures c.draws_of-draws.ensures c.requires.ranked_sites in
+    let e = arrays p c.bounds-bounds.ensures c.radices_of-radices.ensures c.draws_of-draws.ensures c.requires.ranked_sites in
     let h = arrays-held p.read.words p.takes.1 _ e in
     record { of_sheet = with-splits h.0 _ _; bounded = h.1; ranked = h.2; listed = c.splits_of-splits.ensures }
 
 pub lay_ranked-requires : goal.lay_ranked-requires
 lay_ranked-requires c =
     let p = c.requires.takes_one_sided in
-    let e = arrays p c.radices_of-radices.ensures c.draws_of-draws.ensures c.requires.ranked_sites in
+    let e = arrays p c.bounds-bounds.ensures c.radices_of-radices.ensures c.draws_of-draws.ensures c.requires.ranked_sites in
     let l = lays-is p.read.words p.takes.1 _ _ _ e p.takes.4 p.takes.2 p.takes.3 in
     record { fits = l.fits; answer_fits = l.answer_fits }
 
@@ -88,7 +88,7 @@ pub returns : goal.returns
 returns c =
     let a = c.args in
     let p = c.requires.takes_one_sided in
-    let e = arrays p c.radices_of-radices.ensures c.draws_of-draws.ensures c.requires.ranked_sites in
+    let e = arrays p c.bounds-bounds.ensures c.radices_of-radices.ensures c.draws_of-draws.ensures c.requires.ranked_sites in
     let l = c.lay_ranked.ensures in
     λ ws t q.
     let m = laid-is ws a.work.now a.out.now t _ _ (e ∙ ap arrays_of (same-sheet p.read ws q)) refl in

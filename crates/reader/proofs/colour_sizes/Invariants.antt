@@ -7,4 +7,4 @@ use Rattle.reader.proofs.Eight.{sizes_from}
 use Rattle.reader.proofs.colour_sizes.Given as goal
 
 abbrev pub invariant-loop-c : goal.invariant-loop-c
-invariant-loop-c l = Grown (replicate most_colours absent) l.colours (sizes_from l.bounds l.counts 0) (sizes_from l.bounds l.counts l.c) l.c
+invariant-loop-c l = Grown (replicate most_colours absent) l.sizes (sizes_from l.colours 0) (sizes_from l.colours l.c) l.c

@@ -4,6 +4,7 @@ use lib.ListN.{length}
 use borrow.Author.Tests.{tests}
 use native.Mathlib.Omega.{arith}
 use Prim.Native.Nat.{ℕ}
+use Rattle.decoding.specs.Decoding.{site_colours_in}
 use Rattle.std.proofs.Common.{rules}
 use Rattle.std.proofs.lemmas.Iterator.{YieldsList-from_range}
 use Rattle.std.proofs.lemmas.Iterator.Consumers.{YieldsList-from_filter, count_from_yields_List}
@@ -17,6 +18,6 @@ use Rattle.layouts.proofs.labels.labels_of.Goals as goal
 pub returns : goal.returns
 returns c =
     let s = c.args.sites.now in
-    let p : ℕ → Bool = is_first (among_by c.args.a s.colours.now) (ties_in s.ties.now) in
+    let p : ℕ → Bool = is_first (among_by c.args.a (site_colours_in s.sites.now)) (ties_in s.ties.now) in
     count_from_yields_List c.filter.result _ c.count-2.ensures.ran (YieldsList-from_filter _ p (YieldsList-from_range 0 c.count.result (length s.ties.now) (cc) (omega arith)) c.filter.ensures.closure (λ x b q k. search (rules, tests))) ∙
     length-filter p _ ∙ count-range p _

@@ -1,18 +1,22 @@
-use Rattle.decoding.proofs.Fronts.{bounds, counts, stands}
-use Rattle.maker.proofs.Kept.{numbers-kept}
+use mathlib.Core.Path.{refl}
+use native.Mathlib.Omega.{arith}
+use Rattle.lists.proofs.Grown.{grown-none}
+use Rattle.decoding.proofs.Fronts.{few}
+use Rattle.maker.proofs.Kept.{kept-more, numbers-kept}
 use Rattle.maker.proofs.binding.binding_numbers.Goals as goal
 
-pub slice_bounds-bounds-end : goal.slice_bounds-bounds-end
-slice_bounds-bounds-end c = stands _ _ (bounds c.requires).1
+pub bounds-colour_list-c : goal.bounds-colour_list-c
+bounds-colour_list-c c = omega (arith, c.loop-c-test.true, few c.requires)
 
-pub slice_bounds-binding_bounds-end : goal.slice_bounds-binding_bounds-end
-slice_bounds-binding_bounds-end c = (bounds c.requires).1
+pub bounds-colour_list-c-in-loop-c : goal.bounds-colour_list-c-in-loop-c
+bounds-colour_list-c-in-loop-c c = omega (arith, c.loop-c-test.true, few c.requires)
 
-pub slice_bounds-counts-end : goal.slice_bounds-counts-end
-slice_bounds-counts-end c = stands _ _ (counts c.requires).1
+pub bounds-colour_list-c-in-loop-c-2 : goal.bounds-colour_list-c-in-loop-c-2
+bounds-colour_list-c-in-loop-c-2 c = omega (arith, c.loop-c-test.true, few c.requires)
 
-pub slice_bounds-binding_bounds-end-2 : goal.slice_bounds-binding_bounds-end-2
-slice_bounds-binding_bounds-end-2 c = (counts c.requires).1
+pub loop-c-preserved : goal.loop-c-preserved
+loop-c-preserved c = let l = c.loop-c in
+    kept-more _ _ _ l.c _ (omega (arith, few c.requires)) c.loop-c-test.true (rw c.binding_bound-bound.ensures refl) l.invariant
 
 pub returns : goal.returns
-returns c = λ ws h e. numbers-kept (record { words = ws; accepted = h; numbers = e }) c.binding_bounds-binding.ensures
+returns c = λ ws h e. numbers-kept (record { words = ws; accepted = h; numbers = e }) c.loop-c-test.false c.loop-c.invariant

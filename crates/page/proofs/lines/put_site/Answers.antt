@@ -20,4 +20,4 @@ pub returns : goal.returns
 returns c =
     let o = c.args.opened.now in
     let r = layout-read o.sheet.now o.layout.now o.accepted o.read o.formed in
-    subst (Puts _ _) (site-line-is r c.sites-sites.ensures c.args.i c.slot_at-slot.ensures c.get-height.ensures) c.put_site_line.ensures
+    subst (Puts _ _) (site-line-is r c.sites-sites.ensures c.args.i c.slot_at-slot.ensures c.get-height.ensures) (rw c.site_at.ensures.y at c.put_site_line.ensures)

@@ -1,15 +1,11 @@
 use mathlib.Core.Path.{refl}
-use Rattle.decoding.proofs.Fronts.{stands}
-use Rattle.judge.proofs.Ruled.{kinds-front, rule-found}
+use native.Mathlib.Omega.{arith}
+use Rattle.judge.proofs.Ruled.{kinds-few, rule-found}
 use Rattle.judge.proofs.opened.Opened.broken_rule.Goals as goal
 
-pub slice_bounds-broken_by-end : goal.slice_bounds-broken_by-end
-slice_bounds-broken_by-end c = let o = c.args.self.now in
-    kinds-front o.sheet.now o.accepted o.read
-
-pub slice_bounds-bounds-end : goal.slice_bounds-bounds-end
-slice_bounds-bounds-end c = let o = c.args.self.now in
-    stands _ _ (kinds-front o.sheet.now o.accepted o.read)
+pub shared_ref_as_front-colours : goal.shared_ref_as_front-colours
+shared_ref_as_front-colours c = let o = c.args.self.now in
+    omega (arith, kinds-few o.sheet.now o.accepted o.read)
 
 pub returns : goal.returns
 returns c =
