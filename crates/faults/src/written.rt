@@ -6,6 +6,7 @@ ghost use Rattle.faults.specs.Results.{written_of};
 
 use crate::refusal::Refusal;
 
+// A C struct, so its refusal is a number.
 // refusal: that of what the tool is given, or 9; 0 for none. written: how many places of the area, words or bytes, 0 beside a refusal.
 #[repr(C)]
 #[derive(Drop)]

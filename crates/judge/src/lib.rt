@@ -10,6 +10,7 @@ ghost use Rattle.judge.specs.Judge.{judge_post};
 use crate::opened::open_layout;
 use layouts::rule::Rule;
 
+// A C struct, so refusal and rule are numbers.
 // refusal: 1 to 7 or 11, 0 for none. rule: the least broken one, 0 for none and beside a refusal.
 #[repr(C)]
 #[derive(Drop)]

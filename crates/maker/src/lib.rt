@@ -67,7 +67,8 @@ fn lay_sheet(sheet: &[u32], work: &mut [u32], out: &mut [u32]) -> Result<(), Ref
     lay_binding(numbers, needed, work, out)
 }
 
-// 0 with the best of all layouts in the first n + 1 answer words, or the number of a refusal, 1 to 10 or 18.
+// 0 with the best of all layouts in the first n + 1 answer words, or the number of a refusal, 1 to 10 or 18: a number, as C has it and as
+// `make_fault` states it.
 pub fn make_layout(sheet: &[u32], work: &mut [u32], out: &mut [u32]) -> u8
     ensures value { result ≡ make_fault sheet.now work.old out.old }
     ensures work_after { work.new ≡ make_work sheet.now work.old out.old }

@@ -1,14 +1,11 @@
 // What a call of the layout maker should answer and leave, by the search. Some calls are lent too little.
 use crate::search::{Found, search};
 use crate::small_sheet::recipe::Recipe;
+use crate::small_sheet::words::WordKind;
 use crate::small_sheet::{MOST_SITES, Sheet};
 use arrayvec::ArrayVec;
 
-// The first word of a layout, whose count of labels stands above 21 bits, and a tie.
-const LAYOUT: u32 = 8 << 28;
-
-const TIE: u32 = 9 << 28;
-
+// In the first word of a layout the count of labels stands above 21 bits.
 const LABELS_BIT: u32 = 21;
 
 // So many words has an answer at most.
@@ -40,7 +37,7 @@ pub struct Call {
 fn old_word(place: usize, seed: u32) -> u32 {
     let place = (place % HALF_TOP) as u16;
     let half = (seed >> 16) as u16;
-    LAYOUT | u32::from(place.wrapping_mul(7).wrapping_add(half))
+    WordKind::Layout.word() | u32::from(place.wrapping_mul(7).wrapping_add(half))
 }
 
 // Does an area hold what it held before a call, from a place on?
@@ -109,10 +106,13 @@ impl Call {
         let mut words = ArrayVec::new();
         if let Ok(found) = &self.outcome {
             let size = found.size;
-            let _ = words.try_push(LAYOUT | size.labels << LABELS_BIT | size.length);
+            let _ = words.try_push(
+                WordKind::Layout.word() | size.labels << LABELS_BIT | size.length,
+            );
             for site in &self.sheet.sites {
                 let tie = found.ties.iter().find(|tie| tie.site == *site);
-                let _ = words.extend(tie.map(|tie| TIE | u32::from(tie.slot.number)));
+                let _ = words.extend(tie.map(|tie| WordKind::Tie.word()
+                    | u32::from(tie.slot.number)));
             }
         }
         words

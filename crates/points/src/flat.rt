@@ -6,6 +6,7 @@ ghost use Rattle.points.specs.Strokes.{flat_ends, flat_refusal, flat_of};
 use crate::stroke::{End, Stroke};
 use faults::refusal::Refusal;
 
+// A C struct, so refusal and kind are numbers.
 // refusal: 1 to 7, 11, 13 or 14, 0 for none. kind: 0 a backbone, 1 a drop. The first end, the second end. All zero beside a refusal.
 #[repr(C)]
 #[derive(Drop)]

@@ -24,6 +24,7 @@ pub fn one_sided_length(opened: &Opened) -> u32
     ensures { result ≡ length_of (as_one_sided (sheet_by opened.now.numbers)) (layout_ties opened.now.layout.now) }
 {
     let sites = opened.sites();
+    // Field by field: a struct with a ghost field takes no `..`.
     let one_sided = TiedSites {
         head: one_sided(sites.head),
         heights: sites.heights,
