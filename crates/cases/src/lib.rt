@@ -35,11 +35,6 @@ pub fn take_words(text: &[u8], words: &mut Words) {
     }
 }
 
-// A line without the byte that ends it.
-pub fn line_of(line: &[u8]) -> &[u8] {
-    line.strip_suffix(b"\n").unwrap_or(line)
-}
-
 // Writes a line's name, and gives its words.
 pub fn take_case(rt: &impl Print, line: &[u8]) -> io::Result<Words> {
     let end = line.iter().position(|b| *b == b':');

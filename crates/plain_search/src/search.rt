@@ -1,9 +1,9 @@
 // The best lawful layout of a sheet: all layouts are tried, in the order in which equals come.
 use crate::rules::{Layout, Size, Tie};
-use crate::small_sheet::{MOST_SITES, Sheet, Site, Terms};
+use crate::small_sheet::{MOST_SITES, Sheet, Site, Sites, Terms};
 use arrayvec::ArrayVec;
 
-// No layout of a small sheet has more.
+// A layout of a small sheet has no more ties, so that there is room for each.
 pub type Ties = ArrayVec<Tie, MOST_SITES>;
 
 #[derive(Drop)]
@@ -62,9 +62,7 @@ fn try_slots(
 
 // With no site there is one layout, and with no slot and some site there is none.
 pub fn search(sheet: &Sheet, terms: Terms) -> Option<Found> {
-    let mut sites = ArrayVec::<Site, MOST_SITES>::try_from(
-        sheet.sites.as_slice(),
-    ).unwrap_or_default();
+    let mut sites = Sites::try_from(sheet.sites.as_slice()).unwrap_or_default();
     sites.sort_unstable_by_key(|site| site.x);
     let mut best = None;
     try_slots(sheet, terms, &sites, &mut Ties::new(), &mut best);

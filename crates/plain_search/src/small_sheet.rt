@@ -32,6 +32,8 @@ pub struct Site {
     pub colour: u8,
 }
 
+pub type Sites = ArrayVec<Site, MOST_SITES>;
+
 // What of a sheet a search can be asked to leave out.
 #[derive(Clone, Copy)]
 pub struct Terms {
@@ -51,7 +53,7 @@ pub struct Sheet {
     pub terms: Terms,
     pub slots: ArrayVec<Slot, MOST_SLOTS>,
     pub colours: ArrayVec<Colour, MOST_COLOURS>,
-    pub sites: ArrayVec<Site, MOST_SITES>,
+    pub sites: Sites,
 }
 
 impl Sheet {

@@ -31,7 +31,10 @@ impl AddAssign for Tally {
 // Both numbers have 16 bits; where more differ, what is past them is added to the cases.
 impl fmt::Display for Tally {
     fn fmt<W: fmt::Write>(&self, f: &mut fmt::Formatter<W>) -> fmt::Result {
-        let both = self.cases.wrapping_mul(NUMBER_TOP).wrapping_add(self.differ);
+        let both = self
+            .cases
+            .wrapping_mul(NUMBER_TOP)
+            .wrapping_add(self.differ);
         let (cases, differ) = (both / NUMBER_TOP, both % NUMBER_TOP);
         write!(f, "{cases} cases, {differ} differ")
     }
@@ -49,9 +52,16 @@ fn is_wanted(sizes: Sizes, wanted: &[u32]) -> bool {
         sizes.work,
     ];
     let colours = sizes.colours;
-    let colours = colours.iter().flat_map(|colour| [u32::from(colour.bound), u32::from(colour.sites)]);
+    let pairs = colours.iter().flat_map(|colour| [
+        u32::from(colour.bound),
+        u32::from(colour.sites),
+    ]);
     let wanted = wanted.iter().copied().chain(iter::repeat(0));
-    numbers.into_iter().chain(colours).zip(wanted).all(|(given, wanted)| given == wanted)
+    numbers
+        .into_iter()
+        .chain(pairs)
+        .zip(wanted)
+        .all(|(given, wanted)| given == wanted)
 }
 
 // How many words say what is wanted: a refusal's number alone, or 0, n, m, C, P, the work words and the colours.

@@ -3,7 +3,7 @@
 // 01 and 02: the verdict, then each stroke, by its ends in units, up to the place that is refused, then the page, if there is one.
 #![tactic(auto)]
 
-use cases::{TEXT_BYTES, line_of, take_case};
+use cases::{TEXT_BYTES, take_case};
 use judge::{Verdict, judge_layout};
 use page::write_page;
 use points::in_points;
@@ -80,7 +80,7 @@ fn try_line(rt: &impl Print, line: &[u8]) -> io::Result<()> {
 fn try_lines(rt: &impl Print, text: &[u8]) -> io::Result<()> {
     for line in text.split_inclusive(|b| *b == b'\n') {
         if !line.starts_with(b"#") {
-            try_line(rt, line_of(line))?;
+            try_line(rt, line.strip_suffix(b"\n").unwrap_or(line))?;
         }
     }
     Ok(())

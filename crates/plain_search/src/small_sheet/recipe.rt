@@ -1,7 +1,7 @@
 // Small sheets from a fixed arithmetic recipe: numbers drawn from a seed, and from a second one what is not of the sheet's first form.
 ghost use Rattle.std.specs.Prelude.{◌≤◌};
 
-use crate::small_sheet::{Colour, MOST_COLOURS, MOST_SITES, MOST_SLOTS, Sheet, Site, Slot, Terms};
+use crate::small_sheet::{Colour, MOST_COLOURS, MOST_SLOTS, Sheet, Site, Sites, Slot, Terms};
 use arrayvec::ArrayVec;
 
 // The most work words that a sheet here may need.
@@ -72,7 +72,7 @@ impl Recipe {
         (drawn(first, 1) == 1).then_some(drawn(self.second, 7))
     }
 
-    // Slots one to five apart.
+    // Slots one to five apart. There is room for each, as for each colour and each site.
     fn slots(&mut self, count: u8) -> ArrayVec<Slot, MOST_SLOTS> {
         let mut slots = ArrayVec::new();
         let mut height = self.draw(2);
@@ -113,8 +113,8 @@ impl Recipe {
     }
 
     // Sites in free columns, not above a row. Each has the colour of the one before it or the next, as far as there is one.
-    fn sites(&mut self, count: u8, width: u8, top: u8, last: u8) -> ArrayVec<Site, MOST_SITES> {
-        let mut sites = ArrayVec::new();
+    fn sites(&mut self, count: u8, width: u8, top: u8, last: u8) -> Sites {
+        let mut sites = Sites::new();
         let mut colour = u8::from(self.is_one_in_eight());
         for _ in 0..count {
             colour = colour.min(last);
