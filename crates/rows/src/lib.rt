@@ -104,7 +104,10 @@ pub fn marked_by(p: Strip, d: u32) -> Strip
 pub fn part_places(sheet: &RankedSheet, p: Strip, s: Site, low: usize, k: u32, d: u32) -> PartRows
     requires level_fits { low + level_of sheet.now.measures sheet.now.heights.now ≤ most_place }
     requires lies { Lies (slot_count sheet.now) (colour_count sheet.now) (strip_of p) × (s.c < sheet.now.measures.colours) × (k + 1 < p.b) × (d < mark_count) }
-    ensures places { (result.upper ≡ low + row_of (slot_count sheet.now) (colour_count sheet.now) (upper_part d (strip_of p) (point_of s) k) * sheet.now.measures.budgets) × (result.lower ≡ low + row_of (slot_count sheet.now) (colour_count sheet.now) (lower_part (strip_of p) (point_of s) k) * sheet.now.measures.budgets) }
+    ensures places { let m = slot_count sheet.now in
+        let C = colour_count sheet.now in
+        (result.upper ≡ low + row_of m C (upper_part d (strip_of p) (point_of s) k) * sheet.now.measures.budgets)
+        × (result.lower ≡ low + row_of m C (lower_part (strip_of p) (point_of s) k) * sheet.now.measures.budgets) }
     ensures within { (result.upper < low + level_of sheet.now.measures sheet.now.heights.now) × (result.lower < low + level_of sheet.now.measures sheet.now.heights.now) }
 {
     let c = s.c + 1;
