@@ -23,12 +23,14 @@ fn twin_first(opened: &Opened) -> u32
     w - length_field(w) + one_sided_length(opened)
 }
 
-// The words over the front of the area.
+// The words over the front of the area, one after the other: `copy_from_slice` calls `memmove`, which a program in C that has no library of its own need not have.
 fn copy(stored: &[u32], out: &mut [u32])
     requires { length stored.now ≤ length out.old }
     ensures { out.new ≡ stored.now ++ drop (length stored.now) out.old }
 {
-    out[..stored.len()].copy_from_slice(stored);
+    for i in 0..stored.len() {
+        out[i] = stored[i];
+    }
 }
 
 // The twin of a stored sheet that was opened, over the front of the area.
