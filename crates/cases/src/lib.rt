@@ -2,6 +2,9 @@
 // A text is bytes, of any kind: each byte of a word counts as a digit.
 #![tactic(auto)]
 
+ghost use Rattle.std.specs.Prelude.{◌≤◌, length};
+ghost use Rattle.arrayvec.specs.ArrayVec.{array_vec_len};
+
 use arrayvec::ArrayVec;
 use std::io;
 
@@ -17,38 +20,64 @@ pub type Words = ArrayVec<u32, CASE_WORDS>;
 const DIGIT_BITS: u32 = 4;
 
 // The value of a hexadecimal digit: a letter has bit 6, and the low bits 1 for A.
-fn digit(b: u8) -> u32 {
+fn digit(b: u8) -> u32
+    ensures { result ≤ 15 }
+{
     u32::from((b % 16 + b / 64 * 9) % 16)
 }
 
-// The number that digits say. A blank among them says nothing.
-fn number_of(digits: &[u8]) -> u32 {
-    let digits = digits.iter().filter(|b| **b != b' ');
-    digits.fold(0, |number, b| number << DIGIT_BITS | digit(*b))
+// Takes a byte: a blank begins a word, if there is room for one; another byte goes on with the last one, if there is one.
+fn take_byte<const N: usize>(b: u8, words: &mut ArrayVec<u32, N>)
+    ensures { (array_vec_len words.old ≤ array_vec_len words.new) × (array_vec_len words.new ≤ N) }
+{
+    if b == b' ' {
+        let _ = words.try_push(0);
+    } else if let Some(last) = words.last_mut() {
+        *last = *last << DIGIT_BITS | digit(b);
+    }
 }
 
-// Takes the words after the first blank, as many as there is room for: what comes after them goes on with the last one.
-pub fn take_words(text: &[u8], words: &mut Words) {
-    let most = words.remaining_capacity();
-    for digits in text.splitn(most + 1, |b| *b == b' ').skip(1) {
-        let _ = words.try_push(number_of(digits));
+// Takes the words after the first blank, as many as there is room for: what comes after them goes on with the last one, and what
+// comes before them with the last one that was held.
+pub fn take_words<const N: usize>(text: &[u8], words: &mut ArrayVec<u32, N>)
+    ensures { (array_vec_len words.old ≤ array_vec_len words.new) × (array_vec_len words.new ≤ N) }
+{
+    prove!(words.len() <= N);
+    for b in text {
+        take_byte(*b, words);
+    }
+}
+
+// The first place of a byte from a place on, or the end.
+pub fn place_of(text: &[u8], from: usize, b: u8) -> usize
+    requires { from ≤ length text.now }
+    ensures { (from ≤ result) × (result ≤ length text.now) }
+{
+    match text[from..].iter().position(|other| *other == b) {
+        Some(place) => from + place,
+        None => text.len(),
     }
 }
 
 // Writes a line's name, and gives its words.
 pub fn take_case(rt: &impl Print, line: &[u8]) -> io::Result<Words> {
-    let end = line.iter().position(|b| *b == b':');
-    let (name, rest) = line.split_at(end.unwrap_or(line.len()));
+    let (name, rest) = line.split_at(place_of(line, 0, b':'));
     rt.write_all(name)?;
     let mut words = Words::new();
     take_words(rest, &mut words);
     Ok(words)
 }
 
+// Ends a line with a number. What stands before the number is a write of its own, as it was.
+pub fn print_number(rt: &impl Print, before: &[u8], number: u32) -> io::Result<()> {
+    rt.write_all(before)?;
+    println!(rt; "{number}")
+}
+
 // Ends a line with what the layout maker gives.
 pub fn print_answer(rt: &impl Print, fault: u8, answer: &[u32]) -> io::Result<()> {
     if fault != 0 {
-        return println!(rt; ": refused {fault}");
+        return print_number(rt, b": refused ", u32::from(fault));
     }
     print!(rt; ":")?;
     for word in answer {

@@ -23,7 +23,7 @@ pub enum Refusal {
 }
 
 // A call with a sheet: so many words are lent for work and for the answer, and what it should give.
-#[derive(Drop)]
+#[derive(Clone, Copy)]
 pub struct Call {
     pub sheet: Sheet,
     pub work: usize,
@@ -109,8 +109,8 @@ impl Call {
             let _ = words.try_push(
                 WordKind::Layout.word() | size.labels << LABELS_BIT | size.length,
             );
-            for site in &self.sheet.sites {
-                let tie = found.ties.iter().find(|tie| tie.site == *site);
+            for site in self.sheet.sites() {
+                let tie = found.ties().iter().find(|tie| tie.site == *site);
                 let _ = words.extend(tie.map(|tie| WordKind::Tie.word()
                     | u32::from(tie.slot.number)));
             }

@@ -47,9 +47,9 @@ pub const KINDS: [Kind; 16] = [
 ];
 
 fn has_equal_rows(sheet: &Sheet) -> bool {
-    sheet.sites.iter().enumerate().any(|(place, site)| {
+    sheet.sites().iter().enumerate().any(|(place, site)| {
         sheet
-            .sites
+            .sites()
             .iter()
             .take(place)
             .any(|other| other.y == site.y)
@@ -57,7 +57,7 @@ fn has_equal_rows(sheet: &Sheet) -> bool {
 }
 
 fn has_site_on_slot(sheet: &Sheet) -> bool {
-    sheet.sites.iter().any(|site| sheet.slots.iter().any(|slot| slot.height == site.y))
+    sheet.sites().iter().any(|site| sheet.slots().iter().any(|slot| slot.height == site.y))
 }
 
 // Does the answer give some colour with a bound all the labels that it may have?
@@ -65,9 +65,9 @@ fn spends_bound(sheet: &Sheet, found: &Found) -> bool {
     let layout = Layout {
         sheet,
         terms: sheet.terms,
-        ties: &found.ties,
+        ties: found.ties(),
     };
-    sheet.colours.iter().any(|colour| {
+    sheet.colours().iter().any(|colour| {
         colour.bound.is_some_and(|most| 0 < most && layout.labels(*colour) == usize::from(most))
     })
 }
@@ -81,7 +81,7 @@ fn charge_alters(sheet: &Sheet, found: &Found) -> bool {
         charge: None,
         ..sheet.terms
     };
-    search(sheet, uncharged).is_none_or(|other| other.ties != found.ties)
+    search(sheet, uncharged).is_none_or(|other| other.ties() != found.ties())
 }
 
 // Is the answer, or that there is none, another than where rule 5 counts no site left of a tip? With gap 1 it counts none.
@@ -94,7 +94,7 @@ fn tip_alters(sheet: &Sheet, found: Option<&Found>) -> bool {
         ..sheet.terms
     };
     let other = search(sheet, uncleared);
-    other.as_ref().map(|other| &other.ties) != found.map(|found| &found.ties)
+    other.as_ref().map(|other| other.ties()) != found.map(|found| found.ties())
 }
 
 impl Call {

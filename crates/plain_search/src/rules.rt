@@ -49,7 +49,7 @@ impl Layout<'_> {
         let is_label = |slot: &&Slot| {
             self.ties.iter().any(|tie| tie.slot == **slot && tie.site.colour == colour.number)
         };
-        self.sheet.slots.iter().filter(is_label).count()
+        self.sheet.slots().iter().filter(is_label).count()
     }
 
     // Rule 1: no slot has sites of two colours.
@@ -62,7 +62,7 @@ impl Layout<'_> {
 
     // Rule 2: no colour has more labels than its bound.
     fn keeps_bounds(&self) -> bool {
-        self.sheet.colours.iter().all(|colour| {
+        self.sheet.colours().iter().all(|colour| {
             colour
                 .bound
                 .is_none_or(|most| self.labels(*colour) <= usize::from(most))
@@ -81,14 +81,14 @@ impl Layout<'_> {
         let near = site.y.abs_diff(slot.height);
         let between = site.y.min(label.height)..=site.y.max(label.height);
         let is_crossed = end <= site.x && between.contains(&slot.height);
-        let is_counted = end < site.x.saturating_add(self.terms.clearance);
+        let is_counted = u16::from(end) < u16::from(site.x) + u16::from(self.terms.clearance);
         let gap = self.sheet.gap;
         label == slot || gap <= over && !is_crossed && (!is_counted || gap <= near)
     }
 
     // Rules 1 to 5: the colours, then each site and each slot.
     pub fn is_lawful(&self) -> bool {
-        let slots = &self.sheet.slots;
+        let slots = self.sheet.slots();
         let is_clear = |tie: &Tie| slots.iter().all(|slot| self.is_clear(*tie, *slot));
         self.keeps_colours_apart() && self.keeps_bounds() && self.ties.iter().all(is_clear)
     }
@@ -109,7 +109,7 @@ impl Layout<'_> {
         let mut size = Size::default();
         for end in self
             .sheet
-            .slots
+            .slots()
             .iter()
             .filter_map(|slot| self.left_end(*slot))
         {

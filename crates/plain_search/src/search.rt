@@ -1,18 +1,49 @@
 // The best lawful layout of a sheet: all layouts are tried, in the order in which equals come.
 use crate::rules::{Layout, Size, Tie};
-use crate::small_sheet::{MOST_SITES, Sheet, Site, Sites, Terms};
+use crate::small_sheet::{MOST_SITES, Sheet, Site, Terms};
 use arrayvec::ArrayVec;
 
 // A layout of a small sheet has no more ties, so that there is room for each.
-pub type Ties = ArrayVec<Tie, MOST_SITES>;
+type Tried = ArrayVec<Tie, MOST_SITES>;
 
-#[derive(Drop)]
+// A layout's ties, as many as there is room for: an array and a count, since what was found is passed by value, Copy as it was, and
+// no ArrayVec is Copy.
+#[derive(Clone, Copy)]
+pub struct Ties {
+    all: [Tie; MOST_SITES],
+    count: usize,
+}
+
+impl Ties {
+    pub fn of(ties: &[Tie]) -> Self {
+        let mut all = [Tie::default(); MOST_SITES];
+        for (place, tie) in all.iter_mut().zip(ties) {
+            *place = *tie;
+        }
+        Ties {
+            all,
+            count: ties.len(),
+        }
+    }
+
+    pub fn as_slice(&self) -> &[Tie] {
+        self.all.get(..self.count).unwrap_or(&self.all)
+    }
+}
+
+#[derive(Clone, Copy)]
 pub struct Found {
     // of the best layout, from left to right
     pub ties: Ties,
     pub size: Size,
     // layouts tried so far with the same count and length as the best
     pub equals: u32,
+}
+
+impl Found {
+    pub fn ties(&self) -> &[Tie] {
+        self.ties.as_slice()
+    }
 }
 
 // Takes a layout if it is lawful, and better than the best before it.
@@ -29,7 +60,7 @@ fn take(layout: Layout<'_>, best: &mut Option<Found>) {
         }
         _ => {
             *best = Some(Found {
-                ties: Ties::try_from(layout.ties).unwrap_or_default(),
+                ties: Ties::of(layout.ties),
                 size,
                 equals: 1,
             });
@@ -42,13 +73,13 @@ fn try_slots(
     sheet: &Sheet,
     terms: Terms,
     left: &[Site],
-    ties: &mut Ties,
+    ties: &mut Tried,
     best: &mut Option<Found>,
 ) {
     let Some((site, left)) = left.split_first() else {
         return take(Layout { sheet, terms, ties }, best);
     };
-    for slot in &sheet.slots {
+    for slot in sheet.slots() {
         let tie = Tie {
             site: *site,
             slot: *slot,
@@ -62,9 +93,11 @@ fn try_slots(
 
 // With no site there is one layout, and with no slot and some site there is none.
 pub fn search(sheet: &Sheet, terms: Terms) -> Option<Found> {
-    let mut sites = Sites::try_from(sheet.sites.as_slice()).unwrap_or_default();
+    let mut sites: ArrayVec<Site, MOST_SITES> = ArrayVec::try_from(
+        sheet.sites(),
+    ).unwrap_or_default();
     sites.sort_unstable_by_key(|site| site.x);
     let mut best = None;
-    try_slots(sheet, terms, &sites, &mut Ties::new(), &mut best);
+    try_slots(sheet, terms, &sites, &mut Tried::new(), &mut best);
     best
 }

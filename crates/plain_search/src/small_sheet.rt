@@ -2,8 +2,6 @@
 pub mod recipe;
 pub mod words;
 
-use arrayvec::ArrayVec;
-
 // A recipe draws no more slots, colours and sites.
 pub const MOST_SLOTS: usize = 5;
 
@@ -32,7 +30,78 @@ pub struct Site {
     pub colour: u8,
 }
 
-pub type Sites = ArrayVec<Site, MOST_SITES>;
+// A sheet's slots, as many as there is room for: an array and a count, since a sheet is passed by value, Copy as it was, and no
+// ArrayVec is Copy.
+#[derive(Clone, Copy)]
+pub struct Slots {
+    all: [Slot; MOST_SLOTS],
+    count: usize,
+}
+
+impl Slots {
+    pub fn of(slots: &[Slot]) -> Self {
+        let mut all = [Slot::default(); MOST_SLOTS];
+        for (place, slot) in all.iter_mut().zip(slots) {
+            *place = *slot;
+        }
+        Slots {
+            all,
+            count: slots.len(),
+        }
+    }
+
+    pub fn as_slice(&self) -> &[Slot] {
+        self.all.get(..self.count).unwrap_or(&self.all)
+    }
+}
+
+// A sheet's colours, in the same way.
+#[derive(Clone, Copy)]
+pub struct Colours {
+    all: [Colour; MOST_COLOURS],
+    count: usize,
+}
+
+impl Colours {
+    pub fn of(colours: &[Colour]) -> Self {
+        let mut all = [Colour::default(); MOST_COLOURS];
+        for (place, colour) in all.iter_mut().zip(colours) {
+            *place = *colour;
+        }
+        Colours {
+            all,
+            count: colours.len(),
+        }
+    }
+
+    pub fn as_slice(&self) -> &[Colour] {
+        self.all.get(..self.count).unwrap_or(&self.all)
+    }
+}
+
+// A sheet's sites, in the same way.
+#[derive(Clone, Copy)]
+pub struct Sites {
+    all: [Site; MOST_SITES],
+    count: usize,
+}
+
+impl Sites {
+    pub fn of(sites: &[Site]) -> Self {
+        let mut all = [Site::default(); MOST_SITES];
+        for (place, site) in all.iter_mut().zip(sites) {
+            *place = *site;
+        }
+        Sites {
+            all,
+            count: sites.len(),
+        }
+    }
+
+    pub fn as_slice(&self) -> &[Site] {
+        self.all.get(..self.count).unwrap_or(&self.all)
+    }
+}
 
 // What of a sheet a search can be asked to leave out.
 #[derive(Clone, Copy)]
@@ -43,7 +112,7 @@ pub struct Terms {
     pub clearance: u8,
 }
 
-#[derive(Drop)]
+#[derive(Clone, Copy)]
 pub struct Sheet {
     pub two_sided: bool,
     // is the aim the shortest layout, rather than the one with the fewest labels?
@@ -51,17 +120,29 @@ pub struct Sheet {
     pub gap: u8,
     pub width: u8,
     pub terms: Terms,
-    pub slots: ArrayVec<Slot, MOST_SLOTS>,
-    pub colours: ArrayVec<Colour, MOST_COLOURS>,
+    pub slots: Slots,
+    pub colours: Colours,
     pub sites: Sites,
 }
 
 impl Sheet {
+    pub fn slots(&self) -> &[Slot] {
+        self.slots.as_slice()
+    }
+
+    pub fn colours(&self) -> &[Colour] {
+        self.colours.as_slice()
+    }
+
+    pub fn sites(&self) -> &[Site] {
+        self.sites.as_slice()
+    }
+
     // The work words that the sheet needs.
     pub fn work_words(&self) -> usize {
-        let slots = self.slots.len().saturating_add(2);
-        let ends = slots.saturating_mul(self.colours.len().saturating_add(1));
-        let bounds = self.colours.iter().filter_map(|colour| colour.bound);
+        let slots = self.slots().len().saturating_add(2);
+        let ends = slots.saturating_mul(self.colours().len().saturating_add(1));
+        let bounds = self.colours().iter().filter_map(|colour| colour.bound);
         let words = bounds.fold(
             ends,
             |words, most| words.saturating_mul(usize::from(most) + 1),
@@ -69,12 +150,12 @@ impl Sheet {
         if self.two_sided {
             return words;
         }
-        ends.saturating_mul(self.sites.len().saturating_add(1))
+        ends.saturating_mul(self.sites().len().saturating_add(1))
             .saturating_mul(words)
     }
 
     // The words of an answer: its count and length, and a tie for each site.
     pub fn answer_words(&self) -> usize {
-        self.sites.len().saturating_add(1)
+        self.sites().len().saturating_add(1)
     }
 }

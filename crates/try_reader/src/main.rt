@@ -14,5 +14,7 @@ fn main(rt: HostRuntime) -> io::Result<()> {
     let mut text = [0u8; TEXT_BYTES];
     let got = read_full(&mut rt.stdin(), &mut text)?;
     let all = read_groups(&rt, &text[..got])?;
-    println!(rt; "all: {all}")
+    // a write of its own, as each group's name is
+    rt.write_all(b"all")?;
+    println!(rt; ": {all}")
 }

@@ -3,7 +3,7 @@
 // 01 and 02: the verdict, then each stroke, by its ends in units, up to the place that is refused, then the page, if there is one.
 #![tactic(auto)]
 
-use cases::{TEXT_BYTES, take_case};
+use cases::{TEXT_BYTES, print_number, take_case};
 use judge::{Verdict, judge_layout};
 use page::write_page;
 use points::in_points;
@@ -24,9 +24,9 @@ const NUMBER_TOP: u32 = 16384;
 fn print_verdict(rt: &impl Print, verdict: Verdict) -> io::Result<()> {
     let Verdict { refusal, rule } = verdict;
     if refusal != 0 {
-        return println!(rt; ": refused {refusal}");
+        return print_number(rt, b": refused ", u32::from(refusal));
     }
-    println!(rt; ": rule {rule}")
+    print_number(rt, b": rule ", u32::from(rule))
 }
 
 // The whole number whose eighth this is.
@@ -36,18 +36,19 @@ fn units_of(x: f32) -> u32 {
         .unwrap_or(NUMBER_TOP)
 }
 
-fn print_ends(rt: &impl Print, name: &str, first: End, second: End) -> io::Result<()> {
-    print!(rt; "  {name}")?;
-    for x in [first.x, first.y, second.x, second.y] {
+// The name, each number but the last, and what stands before that are each a write of their own, as they were.
+fn print_ends(rt: &impl Print, name: &[u8], first: End, second: End) -> io::Result<()> {
+    rt.write_all(name)?;
+    for x in [first.x, first.y, second.x] {
         print!(rt; " {}", units_of(x))?;
     }
-    println!(rt)
+    print_number(rt, b" ", units_of(second.y))
 }
 
 fn print_stroke(rt: &impl Print, stroke: Stroke) -> io::Result<()> {
     match stroke {
-        Stroke::Bone(first, second) => print_ends(rt, "bone", first, second),
-        Stroke::Drop(first, second) => print_ends(rt, "drop", first, second),
+        Stroke::Bone(first, second) => print_ends(rt, b"  bone", first, second),
+        Stroke::Drop(first, second) => print_ends(rt, b"  drop", first, second),
     }
 }
 
@@ -56,7 +57,7 @@ fn print_strokes(rt: &impl Print, stored: &[u32]) -> io::Result<()> {
     for place in 0..PLACES {
         match stroke_at(stored, place) {
             Ok(stroke) => print_stroke(rt, stroke)?,
-            Err(refusal) => return println!(rt; "  refused {}", refusal.number()),
+            Err(refusal) => return print_number(rt, b"  refused ", u32::from(refusal.number())),
         }
     }
     Ok(())

@@ -1,11 +1,16 @@
 // Small sheets from a fixed arithmetic recipe: numbers drawn from a seed, and from a second one what is not of the sheet's first form.
 ghost use Rattle.std.specs.Prelude.{◌≤◌};
 
-use crate::small_sheet::{Colour, MOST_COLOURS, MOST_SLOTS, Sheet, Site, Sites, Slot, Terms};
+use crate::small_sheet::{
+    Colour, Colours, MOST_COLOURS, MOST_SITES, MOST_SLOTS, Sheet, Site, Sites, Slot, Slots, Terms,
+};
 use arrayvec::ArrayVec;
 
 // The most work words that a sheet here may need.
 const MOST_WORK_WORDS: usize = 8192;
+
+// A seed's upper half is below this.
+const HALF_TOP: u32 = 65536;
 
 #[derive(Drop)]
 pub struct Recipe {
@@ -18,15 +23,21 @@ pub struct Recipe {
     lowest: u8,
 }
 
-fn next(seed: u32) -> u32 {
+pub fn next(seed: u32) -> u32 {
     seed.wrapping_mul(1_664_525).wrapping_add(1_013_904_223)
 }
 
-// The number from 0 to `most` that a seed gives.
-fn drawn(seed: u32, most: u8) -> u8
+// The number from 0 to `most` that a seed gives, of `most` what is below 2^16.
+pub fn drawn(seed: u32, most: u32) -> u32
     ensures { result ≤ most }
 {
-    ((seed >> 16) % (u32::from(most) + 1)) as u8
+    (seed >> 16) % (most % HALF_TOP + 1)
+}
+
+fn drawn_byte(seed: u32, most: u8) -> u8
+    ensures { result ≤ most }
+{
+    drawn(seed, u32::from(most)) as u8
 }
 
 fn take_bounds(colours: &mut [Colour]) {
@@ -49,7 +60,7 @@ impl Recipe {
         ensures { result ≤ most }
     {
         self.seed = next(self.seed);
-        drawn(self.seed, most)
+        drawn_byte(self.seed, most)
     }
 
     // True one time in eight.
@@ -69,7 +80,7 @@ impl Recipe {
     fn charge(&mut self) -> Option<u8> {
         let first = next(self.second);
         self.second = next(first);
-        (drawn(first, 1) == 1).then_some(drawn(self.second, 7))
+        (drawn_byte(first, 1) == 1).then_some(drawn_byte(self.second, 7))
     }
 
     // Slots one to five apart. There is room for each, as for each colour and each site.
@@ -113,8 +124,8 @@ impl Recipe {
     }
 
     // Sites in free columns, not above a row. Each has the colour of the one before it or the next, as far as there is one.
-    fn sites(&mut self, count: u8, width: u8, top: u8, last: u8) -> Sites {
-        let mut sites = Sites::new();
+    fn sites(&mut self, count: u8, width: u8, top: u8, last: u8) -> ArrayVec<Site, MOST_SITES> {
+        let mut sites = ArrayVec::new();
         let mut colour = u8::from(self.is_one_in_eight());
         for _ in 0..count {
             colour = colour.min(last);
@@ -155,12 +166,12 @@ impl Recipe {
                 charge,
                 clearance: gap,
             },
-            slots,
-            colours,
-            sites,
+            slots: Slots::of(&slots),
+            colours: Colours::of(&colours),
+            sites: Sites::of(&sites),
         };
         if MOST_WORK_WORDS < sheet.work_words() {
-            take_bounds(&mut sheet.colours);
+            take_bounds(&mut sheet.colours.all);
         }
         sheet
     }

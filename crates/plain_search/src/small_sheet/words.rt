@@ -46,7 +46,7 @@ fn head_word(sheet: &Sheet) -> u32 {
 fn push_colour(words: &mut Words, sheet: &Sheet, colour: Colour) {
     let _ = words.try_push(WordKind::Colour.word() | u32::from(colour.bound.unwrap_or(NO_BOUND)));
     for site in sheet
-        .sites
+        .sites()
         .iter()
         .filter(|site| site.colour == colour.number)
     {
@@ -68,11 +68,11 @@ pub fn sheet_words(sheet: &Sheet) -> Words {
     );
     let _ = words.extend(
         sheet
-            .slots
+            .slots()
             .iter()
             .map(|slot| WordKind::Slot.word() | u32::from(slot.height)),
     );
-    for colour in &sheet.colours {
+    for colour in sheet.colours() {
         push_colour(&mut words, sheet, *colour);
     }
     words
