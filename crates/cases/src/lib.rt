@@ -2,6 +2,9 @@
 // A text is bytes, of any kind: each byte of a word counts as a digit.
 #![tactic(auto)]
 
+ghost use Rattle.std.specs.Prelude.{◌≤◌, IfOk};
+ghost use Rattle.arrayvec.specs.ArrayVec.{array_vec_len};
+
 use arrayvec::ArrayVec;
 use std::io;
 
@@ -17,7 +20,9 @@ pub type Words = ArrayVec<u32, CASE_WORDS>;
 const DIGIT_BITS: u32 = 4;
 
 // The value of a hexadecimal digit: a letter has bit 6, and the low bits 1 for A.
-fn digit(b: u8) -> u32 {
+fn digit(b: u8) -> u32
+    ensures { result ≤ 15 }
+{
     u32::from((b % 16 + b / 64 * 9) % 16)
 }
 
@@ -28,7 +33,9 @@ fn number_of(digits: &[u8]) -> u32 {
 }
 
 // Takes the words after the first blank, as many as there is room for: what comes after them goes on with the last one.
-pub fn take_words(text: &[u8], words: &mut Words) {
+pub fn take_words(text: &[u8], words: &mut Words)
+    ensures { array_vec_len words.new ≤ 128 }
+{
     let most = words.remaining_capacity();
     for digits in text.splitn(most + 1, |b| *b == b' ').skip(1) {
         let _ = words.try_push(number_of(digits));
@@ -36,7 +43,9 @@ pub fn take_words(text: &[u8], words: &mut Words) {
 }
 
 // Writes a line's name, and gives its words.
-pub fn take_case(rt: &impl Print, line: &[u8]) -> io::Result<Words> {
+pub fn take_case(rt: &impl Print, line: &[u8]) -> io::Result<Words>
+    ensures { IfOk result (λ words. array_vec_len words ≤ 128) }
+{
     let end = line.iter().position(|b| *b == b':');
     let (name, rest) = line.split_at(end.unwrap_or(line.len()));
     rt.write_all(name)?;
