@@ -127,29 +127,46 @@ pub struct Numbers {
 }
 
 // One number of each colour or site in an array of its own, for what reads that number alone: sizes, and the table's inner loops.
+// Loops over the places: `map` of an array is made into tagged options, one by one.
 impl Numbers {
     pub fn bounds(&self) -> [u32; MOST_COLOURS]
         ensures { result ≡ bounds_in self.now.colour_list }
     {
-        self.colour_list.map(|colour| colour.bound)
+        let mut bounds = [0; MOST_COLOURS];
+        for i in 0..MOST_COLOURS {
+            bounds[i] = self.colour_list[i].bound;
+        }
+        bounds
     }
 
     pub fn xs(&self) -> [u32; MOST_SITES]
         ensures { result ≡ xs_in self.now.site_list }
     {
-        self.site_list.map(|site| site.x)
+        let mut xs = [0; MOST_SITES];
+        for i in 0..MOST_SITES {
+            xs[i] = self.site_list[i].x;
+        }
+        xs
     }
 
     pub fn ys(&self) -> [u32; MOST_SITES]
         ensures { result ≡ ys_in self.now.site_list }
     {
-        self.site_list.map(|site| site.y)
+        let mut ys = [0; MOST_SITES];
+        for i in 0..MOST_SITES {
+            ys[i] = self.site_list[i].y;
+        }
+        ys
     }
 
     pub fn site_colours(&self) -> [u32; MOST_SITES]
         ensures { result ≡ site_colours_in self.now.site_list }
     {
-        self.site_list.map(|site| site.colour)
+        let mut colours = [0; MOST_SITES];
+        for i in 0..MOST_SITES {
+            colours[i] = self.site_list[i].colour;
+        }
+        colours
     }
 }
 
