@@ -72,14 +72,14 @@ unfolding site_colours_in site_array
 site-colours-array ss = array-padded (λ (s : SiteNumbers). s.colour) no_site_numbers refl site_numbers ss most_sites (colours_of ss) (site-colours-are ss) (colours-long ss)
 
 -- what was written over the front of what is zeros
-array-end : {A B : Type 0} (f : B → A) (l : List B) (z : A) (m : ℕ) → map f l ++ drop (length (map f l)) (replicate m z) ≡ map f l ++ replicate (m - length l) z
-array-end f l z m = ap (λ (r : List _). map f l ++ r) (drop-replicate (length (map f l)) m z ∙ ap (λ (n : ℕ). replicate (m - n) z) (length-map l f))
+array-end : {A B : Type 0} (f : B → A) (l : List B) (z : A) (m : ℕ) → map f l ++ drop (length l) (replicate m z) ≡ map f l ++ replicate (m - length l) z
+array-end f l z m = ap (λ (r : List _). map f l ++ r) (drop-replicate (length l) m z)
 
-pub colour-end : (ks : List Colour) → map colour_numbers ks ++ drop (length (map colour_numbers ks)) (replicate most_colours no_colour_numbers) ≡ colour_array ks
+pub colour-end : (ks : List Colour) → map colour_numbers ks ++ drop (length ks) (replicate most_colours no_colour_numbers) ≡ colour_array ks
 unfolding colour_array
 colour-end ks = array-end colour_numbers ks no_colour_numbers most_colours
 
-pub site-end : (ss : List Site) → map site_numbers ss ++ drop (length (map site_numbers ss)) (replicate most_sites no_site_numbers) ≡ site_array ss
+pub site-end : (ss : List Site) → map site_numbers ss ++ drop (length ss) (replicate most_sites no_site_numbers) ≡ site_array ss
 unfolding site_array
 site-end ss = array-end site_numbers ss no_site_numbers most_sites
 
