@@ -11,5 +11,7 @@ pub fn zero_part(area: &mut [u32], from: usize, to: usize)
     requires { (from ≤ to) × (to ≤ length area.old) }
     ensures { area.new ≡ zeroed from to area.old }
 {
-    area[from..to].fill(0);
+    for i in from..to {
+        area[i] = 0;
+    }
 }

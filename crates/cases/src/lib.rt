@@ -2,7 +2,7 @@
 // A text is bytes, of any kind: each byte of a word counts as a digit.
 #![tactic(auto)]
 
-ghost use Rattle.std.specs.Prelude.{◌≤◌, length};
+ghost use Rattle.std.specs.Prelude.{◌≤◌, length, IfOk};
 ghost use Rattle.arrayvec.specs.ArrayVec.{array_vec_len};
 
 use arrayvec::ArrayVec;
@@ -60,7 +60,9 @@ pub fn place_of(text: &[u8], from: usize, b: u8) -> usize
 }
 
 // Writes a line's name, and gives its words.
-pub fn take_case(rt: &impl Print, line: &[u8]) -> io::Result<Words> {
+pub fn take_case(rt: &impl Print, line: &[u8]) -> io::Result<Words>
+    ensures { IfOk result (λ words. array_vec_len words ≤ 128) }
+{
     let (name, rest) = line.split_at(place_of(line, 0, b':'));
     rt.write_all(name)?;
     let mut words = Words::new();
@@ -68,7 +70,7 @@ pub fn take_case(rt: &impl Print, line: &[u8]) -> io::Result<Words> {
     Ok(words)
 }
 
-// Ends a line with a number. What stands before the number is a write of its own, as it was.
+// Ends a line with a number. What stands before it is a write of its own, so that it stands there too where the output ends early.
 pub fn print_number(rt: &impl Print, before: &[u8], number: u32) -> io::Result<()> {
     rt.write_all(before)?;
     println!(rt; "{number}")

@@ -1,12 +1,13 @@
 -- The fields of an array's colours and sites, as lists of numbers: what they are, of a front part, at a place. Assumes nothing.
 use mathlib.Core.Path.{◌≡◌, refl, ap, ap₂, sym, ◌∙◌}
-use mathlib.Core.List.{List, [], ◌∷◌, ◌++◌, map}
-use Prim.Native.Nat.{ℕ, zero, suc, ◌-◌, ◌≤◌}
+use mathlib.Core.List.{List, [], ◌∷◌, ◌++◌, map, append-nil}
+use Prim.Native.Nat.{ℕ, zero, suc, ◌+◌, ◌-◌, ◌<◌, ◌≤◌}
+use native.Mathlib.Numerals.{add-one}
 use native.Mathlib.Omega.{arith}
-use lib.ListN.{length, get_or, take, drop, replicate, length-append, length-map, get_or-map}
-use Rattle.std.proofs.lemmas.List.{take-map, drop-replicate, ext_get_or, get_or-map as at-map}
-use Rattle.std.specs.Array.{IsMapOf}
-use denote.Param.Members.{Mut, Called}
+use lib.ListN.{length, get_or, take, drop, replicate, length-append, length-map, length-replicate, get_or-map, drop_of_length-le}
+use lib.Seq.{drop-cons}
+use Rattle.std.proofs.lemmas.List.{take-map, drop-replicate}
+use Rattle.lists.proofs.Grown.{Grown, grown-end}
 use Rattle.lists.specs.Arrays.{padded}
 use Rattle.sheet.specs.Limits.{most_colours, most_sites}
 use Rattle.sheet.specs.Sheet.{Site, Colour}
@@ -71,14 +72,14 @@ unfolding site_colours_in site_array
 site-colours-array ss = array-padded (λ (s : SiteNumbers). s.colour) no_site_numbers refl site_numbers ss most_sites (colours_of ss) (site-colours-are ss) (colours-long ss)
 
 -- what was written over the front of what is zeros
-array-end : {A B : Type 0} (f : B → A) (l : List B) (z : A) (m : ℕ) → map f l ++ drop (length (map f l)) (replicate m z) ≡ map f l ++ replicate (m - length l) z
-array-end f l z m = ap (λ (r : List _). map f l ++ r) (drop-replicate (length (map f l)) m z ∙ ap (λ (n : ℕ). replicate (m - n) z) (length-map l f))
+array-end : {A B : Type 0} (f : B → A) (l : List B) (z : A) (m : ℕ) → map f l ++ drop (length l) (replicate m z) ≡ map f l ++ replicate (m - length l) z
+array-end f l z m = ap (λ (r : List _). map f l ++ r) (drop-replicate (length l) m z)
 
-pub colour-end : (ks : List Colour) → map colour_numbers ks ++ drop (length (map colour_numbers ks)) (replicate most_colours no_colour_numbers) ≡ colour_array ks
+pub colour-end : (ks : List Colour) → map colour_numbers ks ++ drop (length ks) (replicate most_colours no_colour_numbers) ≡ colour_array ks
 unfolding colour_array
 colour-end ks = array-end colour_numbers ks no_colour_numbers most_colours
 
-pub site-end : (ss : List Site) → map site_numbers ss ++ drop (length (map site_numbers ss)) (replicate most_sites no_site_numbers) ≡ site_array ss
+pub site-end : (ss : List Site) → map site_numbers ss ++ drop (length ss) (replicate most_sites no_site_numbers) ≡ site_array ss
 unfolding site_array
 site-end ss = array-end site_numbers ss no_site_numbers most_sites
 
@@ -116,12 +117,15 @@ pub site-colours-place : (ss : List SiteNumbers) (i : ℕ) → get_or (site_colo
 unfolding site_colours_in
 site-colours-place ss i = get_or-map (λ (s : SiteNumbers). s.colour) ss i no_site_numbers
 
--- WHAT A MAP OF AN ARRAY gives
-pub mapped : {F A : Type 0} (g : Mut F (A × Unit {0}) ℕ) (f : F) (xs : List A) (ys : List ℕ) (n : ℕ) (of : A → ℕ) (d : A) → IsMapOf g f xs ys n → length xs ≡ n →
-    ((p q : F) (x : A) (y : ℕ) → Called g p (x, tt) y q → y ≡ of x) → ys ≡ map of xs
-mapped g f xs ys n of d m l acts =
-    ext_get_or 0 ys (map of xs) (m.long ∙ sym (length-map xs of ∙ l))
-    (λ i h. let call = m.at i d 0 (omega (arith, m.long)) in acts call.0 call.1 _ _ call.2 ∙ sym (at-map of xs i d 0 (omega (arith, m.long))))
+-- ONE NUMBER OF EACH, put into an array of zeros place by place
+pub field-next : {A : Type 0} (of : A → ℕ) (d : A) (xs : List A) (i : ℕ) → i < length xs → map of (drop i xs) ≡ of (get_or xs i d) ∷ map of (drop (i + 1) xs)
+field-next of d xs i h = rw (add-one i, drop-cons xs i d h) refl
+
+pub fields-end : {A : Type 0} (of : A → ℕ) (xs : List A) (out : List ℕ) (i n : ℕ) → length xs ≤ i → length xs ≡ n → Grown (replicate n 0) out (map of xs) (map of (drop i xs)) i → out ≡ map of xs
+fields-end of xs out i n h e g =
+    grown-end _ out _ _ i (ap (map of) (drop_of_length-le xs h)) g
+    ∙ ap (λ (r : List ℕ). map of xs ++ r) (drop_of_length-le (replicate n 0) (omega (arith, length-map xs of, length-replicate {A = ℕ} n 0)))
+    ∙ append-nil (map of xs)
 
 -- READ BACK
 pub colours-back : (ks : List Colour) → colours_by (map colour_numbers ks) ≡ ks

@@ -2,15 +2,13 @@
 // to those that have refused first: each asks for an accepted sheet, or for an array that is long enough.
 #![tactic(auto)]
 
-ghost use Rattle.std.specs.Prelude.{◌≡◌, ◌≤◌};
+ghost use Rattle.std.specs.Prelude.{◌≡◌, ◌≤◌, ◌++◌, length, drop, map};
 ghost use Rattle.sheet.specs.Limits.{most_slots, most_colours, most_sites};
 ghost use Rattle.sheet.specs.Sheet.{slots_in, colours_in, sites_in, sheet_in, sheet_fault};
 ghost use Rattle.sheet.specs.Words.{count_kind};
-ghost use Rattle.decoding.specs.Decoding.{numbers_by, no_numbers, head_by, bounds_in, xs_in, ys_in, site_colours_in, colour_array, site_array};
-ghost use Rattle.lists.specs.Arrays.{padded};
+ghost use Rattle.decoding.specs.Decoding.{numbers_by, no_numbers, head_by, bounds_in, xs_in, ys_in, site_colours_in, colour_numbers, site_numbers};
 
-use words::arrays::padded;
-use words::body::{body_of, count_kind, sites_run};
+use words::body::{body_of, sites_run};
 use words::charge::charge_of;
 use words::kinds::{Kind, is_kind};
 use words::tied::Head;
@@ -33,13 +31,20 @@ fn head_of(sheet: &[u32]) -> Head
     }
 }
 
-// The slots' heights: zeros past the last.
-fn heights_of(body: &[u32]) -> [u32; MOST_SLOTS]
-    requires { count_kind 2 body.now ≤ most_slots }
-    ensures { result ≡ padded most_slots (slots_in body.now) }
+// The slots' heights, put into an array from its first place on; how many they are.
+fn take_heights(body: &[u32], heights: &mut [u32]) -> usize
+    requires { count_kind 2 body.now ≤ length heights.old }
+    ensures count { result ≡ length (slots_in body.now) }
+    ensures filled { heights.new ≡ slots_in body.now ++ drop (length (slots_in body.now)) heights.old }
 {
-    let words = body.iter().copied();
-    padded(words.filter(|w| is_kind(*w, Kind::Slot)).map(low_field))
+    let mut slots = 0;
+    for w in body {
+        if is_kind(*w, Kind::Slot) {
+            heights[slots] = low_field(*w);
+            slots += 1;
+        }
+    }
+    slots
 }
 
 // ---- colours and sites
@@ -68,39 +73,40 @@ const NO_SITE: Site = Site {
     colour: 0,
 };
 
-fn colours_of(body: &[u32]) -> [Colour; MOST_COLOURS]
-    requires few_colours { count_kind 3 body.now ≤ most_colours }
+// The colours, in the same way.
+fn take_colours(body: &[u32], colours: &mut [Colour]) -> usize
+    requires fit { count_kind 3 body.now ≤ length colours.old }
     requires few_sites { count_kind 4 body.now ≤ most_sites }
-    ensures { result ≡ colour_array (colours_in body.now) }
+    ensures count { result ≡ length (colours_in body.now) }
+    ensures filled { colours.new ≡ map colour_numbers (colours_in body.now) ++ drop (length (colours_in body.now)) colours.old }
 {
-    let mut array = [NO_COLOUR; MOST_COLOURS];
-    let mut colours = 0;
+    let mut kinds = 0;
     for (place, w) in body.iter().enumerate() {
         if is_kind(*w, Kind::Colour) {
-            array[colours] = Colour {
+            colours[kinds] = Colour {
                 bound: byte_field(*w),
                 sites: sites_run(body, place + 1) as u32,
             };
-            colours += 1;
+            kinds += 1;
         }
     }
-    array
+    kinds
 }
 
-// A site's colour is the last before it.
-fn sites_of(body: &[u32]) -> [Site; MOST_SITES]
-    requires few_sites { count_kind 4 body.now ≤ most_sites }
+// The sites, in the same way. A site's colour is the last before it.
+fn take_sites(body: &[u32], list: &mut [Site]) -> usize
+    requires fit { count_kind 4 body.now ≤ length list.old }
     requires few_colours { count_kind 3 body.now ≤ most_colours }
-    ensures { result ≡ site_array (sites_in 0 body.now) }
+    ensures count { result ≡ length (sites_in 0 body.now) }
+    ensures filled { list.new ≡ map site_numbers (sites_in 0 body.now) ++ drop (length (sites_in 0 body.now)) list.old }
 {
-    let mut array = [NO_SITE; MOST_SITES];
     let mut colours: u32 = 0;
     let mut sites = 0;
     for w in body {
         if is_kind(*w, Kind::Colour) {
             colours += 1;
         } else if is_kind(*w, Kind::Site) {
-            array[sites] = Site {
+            list[sites] = Site {
                 x: high_field(*w),
                 y: low_field(*w),
                 colour: colours.saturating_sub(1),
@@ -108,7 +114,7 @@ fn sites_of(body: &[u32]) -> [Site; MOST_SITES]
             sites += 1;
         }
     }
-    array
+    sites
 }
 
 // ---- all of them
@@ -127,29 +133,46 @@ pub struct Numbers {
 }
 
 // One number of each colour or site in an array of its own, for what reads that number alone: sizes, and the table's inner loops.
+// Loops over the places: `map` of an array is made into tagged options, one by one.
 impl Numbers {
     pub fn bounds(&self) -> [u32; MOST_COLOURS]
         ensures { result ≡ bounds_in self.now.colour_list }
     {
-        self.colour_list.map(|colour| colour.bound)
+        let mut bounds = [0; MOST_COLOURS];
+        for i in 0..MOST_COLOURS {
+            bounds[i] = self.colour_list[i].bound;
+        }
+        bounds
     }
 
     pub fn xs(&self) -> [u32; MOST_SITES]
         ensures { result ≡ xs_in self.now.site_list }
     {
-        self.site_list.map(|site| site.x)
+        let mut xs = [0; MOST_SITES];
+        for i in 0..MOST_SITES {
+            xs[i] = self.site_list[i].x;
+        }
+        xs
     }
 
     pub fn ys(&self) -> [u32; MOST_SITES]
         ensures { result ≡ ys_in self.now.site_list }
     {
-        self.site_list.map(|site| site.y)
+        let mut ys = [0; MOST_SITES];
+        for i in 0..MOST_SITES {
+            ys[i] = self.site_list[i].y;
+        }
+        ys
     }
 
     pub fn site_colours(&self) -> [u32; MOST_SITES]
         ensures { result ≡ site_colours_in self.now.site_list }
     {
-        self.site_list.map(|site| site.colour)
+        let mut colours = [0; MOST_SITES];
+        for i in 0..MOST_SITES {
+            colours[i] = self.site_list[i].colour;
+        }
+        colours
     }
 }
 
@@ -179,13 +202,19 @@ pub fn numbers_of(sheet: &[u32]) -> Numbers
     ensures { result ≡ numbers_by (sheet_in sheet.now) }
 {
     let body = body_of(sheet);
+    let mut heights = [0; MOST_SLOTS];
+    let slots = take_heights(body, &mut heights);
+    let mut colour_list = [NO_COLOUR; MOST_COLOURS];
+    let kinds = take_colours(body, &mut colour_list);
+    let mut site_list = [NO_SITE; MOST_SITES];
+    let sites = take_sites(body, &mut site_list);
     Numbers {
         head: head_of(sheet),
-        slots: count_kind(body, Kind::Slot),
-        kinds: count_kind(body, Kind::Colour),
-        sites: count_kind(body, Kind::Site),
-        heights: heights_of(body),
-        colour_list: colours_of(body),
-        site_list: sites_of(body),
+        slots,
+        kinds,
+        sites,
+        heights,
+        colour_list,
+        site_list,
     }
 }

@@ -55,7 +55,7 @@ fn lay_sheet(sheet: &[u32], work: &mut [u32], out: &mut [u32]) -> Result<(), Ref
     ensures out_after { out.new ≡ make_answer sheet.now work.old out.old }
 {
     let numbers = open_sheet(sheet)?;
-    let sizes = sizes_of(numbers);
+    let sizes = sizes_of(&numbers);
     let needed = sizes.work as usize;
     maker_fault(
         is_two_sided(sheet),

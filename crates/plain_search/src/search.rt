@@ -6,8 +6,7 @@ use arrayvec::ArrayVec;
 // A layout of a small sheet has no more ties, so that there is room for each.
 type Tried = ArrayVec<Tie, MOST_SITES>;
 
-// A layout's ties, as many as there is room for: an array and a count, since what was found is passed by value, Copy as it was, and
-// no ArrayVec is Copy.
+// A layout's ties, as many as there is room for: an array and a count, since what was found is Copy and no ArrayVec is.
 #[derive(Clone, Copy)]
 pub struct Ties {
     all: [Tie; MOST_SITES],

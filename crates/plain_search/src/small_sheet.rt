@@ -30,8 +30,7 @@ pub struct Site {
     pub colour: u8,
 }
 
-// A sheet's slots, as many as there is room for: an array and a count, since a sheet is passed by value, Copy as it was, and no
-// ArrayVec is Copy.
+// A sheet's slots, as many as there is room for: an array and a count, since a sheet is Copy and no ArrayVec is.
 #[derive(Clone, Copy)]
 pub struct Slots {
     all: [Slot; MOST_SLOTS],

@@ -15,8 +15,8 @@ ghost use Rattle.sheet.specs.Limits.{most_colours, byte_top};
 ghost use Rattle.decoding.specs.Decoding.{bounds_in, site_counts_in, colours_by, sheet_by, SheetRead};
 ghost use Rattle.reader.specs.Read.{eight_of, read_of, refused_of, read_post};
 
-use crate::opened::open_sheet;
-use decoding::{Colour, Numbers};
+use crate::order::sheet_fault;
+use decoding::{Colour, Numbers, numbers_of};
 use sizes::{product_of, work_for};
 use words::MOST_COLOURS;
 
@@ -74,9 +74,9 @@ fn refused(refusal: u8) -> Sizes
 }
 
 // The reader's answer for a sheet that was opened: internal to reader and maker, which open it first.
-pub fn sizes_of(numbers: Numbers) -> Sizes
-    requires { SheetRead numbers }
-    ensures { result ≡ read_of (sheet_by numbers) }
+pub fn sizes_of(numbers: &Numbers) -> Sizes
+    requires { SheetRead numbers.now }
+    ensures { result ≡ read_of (sheet_by numbers.now) }
 {
     let bounds = numbers.bounds();
     let p = product_of(&bounds[..numbers.kinds]);
@@ -98,12 +98,13 @@ pub fn sizes_of(numbers: Numbers) -> Sizes
     }
 }
 
-// The refusal's number, or n, m, C, P, the number of work words and the eight colours.
+// The refusal's number, or n, m, C, P, the number of work words and the eight colours. The sheet is opened here as `open_sheet` opens it:
+// through its `Result` the arrays would be copied twice more.
 pub fn read_sheet(sheet: &[u32]) -> Sizes
     ensures { result ≡ read_post sheet.now }
 {
-    match open_sheet(sheet) {
-        Ok(numbers) => sizes_of(numbers),
+    match sheet_fault(sheet) {
+        Ok(()) => sizes_of(&numbers_of(sheet)),
         Err(refusal) => refused(refusal.number()),
     }
 }

@@ -36,7 +36,7 @@ fn units_of(x: f32) -> u32 {
         .unwrap_or(NUMBER_TOP)
 }
 
-// The name, each number but the last, and what stands before that are each a write of their own, as they were.
+// The name, each number but the last, and what stands before that are each a write of their own.
 fn print_ends(rt: &impl Print, name: &[u8], first: End, second: End) -> io::Result<()> {
     rt.write_all(name)?;
     for x in [first.x, first.y, second.x] {

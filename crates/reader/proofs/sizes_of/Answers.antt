@@ -1,5 +1,6 @@
 -- `reader::sizes_of` meets its contract.
 use native.Mathlib.Omega.{arith}
+use lib.ListN.{length-take}
 use Rattle.decoding.proofs.Fronts.{few, bounds, bounds-fit, counts-fit}
 use Rattle.decoding.proofs.Records.{bounds-front, site-counts-front}
 use Rattle.reader.proofs.Decoded.{few-budgets, sizes-are}
@@ -35,11 +36,14 @@ overflow_cast-result-3 c = omega (arith, few c.requires)
 pub overflow_cast-result-4 : goal.overflow_cast-result-4
 overflow_cast-result-4 c = omega (arith, few-budgets c.requires _ (rw c.bounds-bounds.ensures at c.product_of-p.ensures))
 
+pub colour_sizes-requires-clause-few : goal.colour_sizes-requires-clause-few
+colour_sizes-requires-clause-few c = let d = c.args.numbers.now in omega (arith, few c.requires, length-take d.kinds d.colour_list)
+
 pub colour_sizes-requires-clause-bounds_low : goal.colour_sizes-requires-clause-bounds_low
-colour_sizes-requires-clause-bounds_low c = let d = c.args.numbers in λ i. rw (bounds-front d.kinds d.colour_list) ((bounds-fit c.requires).1 i)
+colour_sizes-requires-clause-bounds_low c = let d = c.args.numbers.now in λ i. rw (bounds-front d.kinds d.colour_list) ((bounds-fit c.requires).1 i)
 
 pub colour_sizes-requires-clause-counts_low : goal.colour_sizes-requires-clause-counts_low
-colour_sizes-requires-clause-counts_low c = let d = c.args.numbers in λ i. rw (site-counts-front d.kinds d.colour_list) ((counts-fit c.requires).1 i)
+colour_sizes-requires-clause-counts_low c = let d = c.args.numbers.now in λ i. rw (site-counts-front d.kinds d.colour_list) ((counts-fit c.requires).1 i)
 
 pub returns : goal.returns
 returns c = sizes-are c.requires _ (rw c.bounds-bounds.ensures at c.product_of-p.ensures) _ c.work_for-work.ensures _ c.colour_sizes.ensures

@@ -1,8 +1,15 @@
-use Rattle.std.proofs.Common.{rules}
+use native.Mathlib.Omega.{arith}
+use Rattle.lists.proofs.Grown.{grown-more}
+use Rattle.sheet.specs.Limits.{most_sites}
 use Rattle.decoding.specs.Decoding.{SiteNumbers, no_site_numbers, xs_in}
-use Rattle.decoding.proofs.Records.{mapped}
+use Rattle.decoding.proofs.Records.{field-next, fields-end}
 use Rattle.decoding.proofs.Numbers.xs.Goals as goal
+
+pub loop-i-preserved : goal.loop-i-preserved
+loop-i-preserved c = let l = c.loop-i in
+    grown-more _ _ _ _ _ _ _ (omega (arith, l.invariant.long)) (field-next (λ (n : SiteNumbers). n.x) no_site_numbers c.args.self.now.site_list l.i (omega arith)) l.invariant
 
 pub returns : goal.returns
 unfolding xs_in
-returns c = mapped _ _ _ _ _ (λ (n : SiteNumbers). n.x) no_site_numbers c.map.ensures.items (search rules) (λ p q x y k. search rules)
+returns c = let l = c.loop-i in
+    fields-end (λ (n : SiteNumbers). n.x) c.args.self.now.site_list l.xs l.i most_sites (omega arith) (omega arith) l.invariant

@@ -3,7 +3,7 @@ use lib.ListN.{drop}
 use Rattle.lists.proofs.Grown.{Grown}
 use Rattle.sheet.specs.Sheet.{colours_in}
 use Rattle.decoding.specs.Decoding.{colour_numbers}
-use Rattle.decoding.proofs.colours_of.Given as goal
+use Rattle.decoding.proofs.take_colours.Given as goal
 
 abbrev pub invariant-loop-place : goal.invariant-loop-place
-invariant-loop-place l = Grown l.initial.array l.array (map colour_numbers (colours_in l.body)) (map colour_numbers (colours_in (drop l.place l.body))) l.colours
+invariant-loop-place l = Grown l.initial.colours l.colours (map colour_numbers (colours_in l.body)) (map colour_numbers (colours_in (drop l.place l.body))) l.kinds
