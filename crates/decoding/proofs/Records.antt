@@ -118,8 +118,8 @@ unfolding site_colours_in
 site-colours-place ss i = get_or-map (λ (s : SiteNumbers). s.colour) ss i no_site_numbers
 
 -- ONE NUMBER OF EACH, put into an array of zeros place by place
-pub field-next : {A : Type 0} (of : A → ℕ) (d : A) (xs : List A) (i : ℕ) → i < length xs → map of (drop i xs) ≡ of (get_or xs i d) ∷ map of (drop (i + 1) xs)
-field-next of d xs i h = rw (add-one i, drop-cons xs i d h) refl
+pub field-next : {A : Type 0} (of : A → ℕ) (d : A) (xs : List A) (i v : ℕ) → i < length xs → v ≡ of (get_or xs i d) → map of (drop i xs) ≡ v ∷ map of (drop (i + 1) xs)
+field-next of d xs i v h e = rw (e, add-one i, drop-cons xs i d h) refl
 
 pub fields-end : {A : Type 0} (of : A → ℕ) (xs : List A) (out : List ℕ) (i n : ℕ) → length xs ≤ i → length xs ≡ n → Grown (replicate n 0) out (map of xs) (map of (drop i xs)) i → out ≡ map of xs
 fields-end of xs out i n h e g =

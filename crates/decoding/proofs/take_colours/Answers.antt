@@ -7,7 +7,7 @@ use Rattle.lists.proofs.Grown.{grown-more, grown-end, grown-length}
 use Rattle.sheet.specs.Sheet.{colours_in}
 use Rattle.sheet.proofs.Counts.{run_at, colours-count}
 use Rattle.decoding.specs.Decoding.{colour_numbers}
-use Rattle.decoding.proofs.Fields.{grown-within, colour-next, colour-none, kind-is, kind-not}
+use Rattle.decoding.proofs.Fields.{grown-within, colour-next, colour-put, colour-none, kind-is, kind-not}
 use Rattle.decoding.proofs.take_colours.Goals as goal
 use Rattle.decoding.proofs.take_colours.Goals.{then-is_kind, else-is_kind}
 
@@ -27,8 +27,9 @@ loop-place-preserved c = let s = c.args.body.now in
     let word = get_or s l.place 0 in
     elim c.if-is_kind.branch [
       | then-is_kind w ↦
-          let next = ap (map colour_numbers) (colour-next s l.place 0 t (kind-is word 3 c.is_kind.ensures w.if-is_kind.true)) in
-          rw (w.colours-is, w.kinds-is, w.byte_field.ensures, w.sites_run.ensures) (grown-more _ _ _ _ _ _ _ (grown-within _ _ _ _ _ _ _ l.invariant (omega (arith, length-map (colours_in s) colour_numbers, colours-count s, c.requires.fit)) next) next l.invariant)
+          let k = kind-is word 3 c.is_kind.ensures w.if-is_kind.true in
+          let room = grown-within _ _ _ _ _ _ _ l.invariant (omega (arith, length-map (colours_in s) colour_numbers, colours-count s, c.requires.fit)) (ap (map colour_numbers) (colour-next s l.place 0 t k)) in
+          rw (w.colours-is, w.kinds-is) (grown-more _ _ _ _ _ _ _ room (colour-put s l.place 0 t k _ _ (omega (arith, w.byte_field.ensures)) w.sites_run.ensures) l.invariant)
       | else-is_kind w ↦
           let none = ap (map colour_numbers) (colour-none s l.place 0 t (kind-not word 3 c.is_kind.ensures w.if-is_kind.false)) in
           rw (w.colours-is, w.kinds-is) (rw none at l.invariant)

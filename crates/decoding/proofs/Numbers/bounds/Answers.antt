@@ -7,7 +7,7 @@ use Rattle.decoding.proofs.Numbers.bounds.Goals as goal
 
 pub loop-i-preserved : goal.loop-i-preserved
 loop-i-preserved c = let l = c.loop-i in
-    grown-more _ _ _ _ _ _ _ (omega (arith, l.invariant.long)) (field-next (λ (n : ColourNumbers). n.bound) no_colour_numbers c.args.self.now.colour_list l.i (omega arith)) l.invariant
+    grown-more _ _ _ _ _ _ _ (omega (arith, l.invariant.long)) (field-next (λ (n : ColourNumbers). n.bound) no_colour_numbers c.args.self.now.colour_list l.i _ (omega arith) (omega arith)) l.invariant
 
 pub returns : goal.returns
 unfolding bounds_in

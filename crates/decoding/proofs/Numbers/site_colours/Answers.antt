@@ -7,7 +7,7 @@ use Rattle.decoding.proofs.Numbers.site_colours.Goals as goal
 
 pub loop-i-preserved : goal.loop-i-preserved
 loop-i-preserved c = let l = c.loop-i in
-    grown-more _ _ _ _ _ _ _ (omega (arith, l.invariant.long)) (field-next (λ (n : SiteNumbers). n.colour) no_site_numbers c.args.self.now.site_list l.i (omega arith)) l.invariant
+    grown-more _ _ _ _ _ _ _ (omega (arith, l.invariant.long)) (field-next (λ (n : SiteNumbers). n.colour) no_site_numbers c.args.self.now.site_list l.i _ (omega arith) (omega arith)) l.invariant
 
 pub returns : goal.returns
 unfolding site_colours_in

@@ -21,6 +21,10 @@ module _ {S : Type 0} (steps : S → Option ℕ → S → Type 0) where
   ends s t [] yields none = refl
   ends s t (n ∷ rest) yields none = absurd (yields.0 t none)
 
+-- what is put is the number that came
+put : (number v : ℕ) (rest others : List ℕ) → rest ≡ number ∷ others → v ≡ number → rest ≡ v ∷ others
+put number v rest others first e = first ∙ ap (λ (z : ℕ). z ∷ others) (sym e)
+
 -- an array that is full has no room for more
 full : (size : ℕ) (array all rest : List ℕ) (n : ℕ) → Grown (replicate size 0) array all rest n → size ≤ n → length all ≤ size → rest ≡ []
 full size array all [] n grown over fits = refl
@@ -35,7 +39,7 @@ loop-place-preserved g c = λ all yields.
     let l = c.loop-place in
     let (rest, left, grown) = l.invariant all yields in
     let (others, first, yet) = comes g.I.Iterator.next_gives _ _ _ rest left c.in-Some.ensures.steps in
-    (others, yet, grown-more _ _ _ _ _ _ _ (omega (arith, grown.long, length-replicate {A = ℕ} g.row.N 0)) first grown)
+    (others, yet, grown-more _ _ _ _ _ _ _ (omega (arith, grown.long, length-replicate {A = ℕ} g.row.N 0)) (put _ _ _ _ first (omega arith)) grown)
 
 pub returns : goal.returns
 returns g c = λ all gives fits.
