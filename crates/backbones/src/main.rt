@@ -50,7 +50,7 @@ fn put_program_sheet(text: &mut Text, sheet: &[u32])
     let mut answer = [0u32; ANSWER_WORDS];
     match make_layout(sheet, &mut work, &mut answer) {
         0 => put_answer(text, sheet, &answer),
-        number => put_refused(text, number),
+        number => put_refused(text, u64::from(number)),
     }
 }
 
@@ -58,7 +58,7 @@ fn put_program(text: &mut Text, input: &[u8])
     ensures { Puts text.old text.new (program_text input.now) }
 {
     if is_unfit(input.len()) {
-        return put_refused(text, Refusal::NotWords.number());
+        return put_refused(text, u64::from(Refusal::NotWords.number()));
     }
     let mut words = [0u32; INPUT_WORDS];
     let n = put_words(&mut words, input);

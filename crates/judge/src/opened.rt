@@ -48,7 +48,7 @@ impl Opened<'_> {
         ensures { result ≡ is_used slot (layout_ties self.now.layout.now) }
     {
         let sites = self.sites();
-        is_taken(Among::All, &sites, slot, sites.count())
+        is_taken(Among::All, sites.sites, sites.ties, slot, sites.count())
     }
 
     // The left end of a slot's label.

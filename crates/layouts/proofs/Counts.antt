@@ -4,7 +4,7 @@ use mathlib.Core.Logic.{◌↔◌}
 use mathlib.Core.List.{List}
 use Prim.Native.Nat.{ℕ}
 use Rattle.lists.specs.Number.{NumberOf}
-use Rattle.sheet.specs.Limits.{most_slots, most_sites}
+use Rattle.sheet.specs.Limits.{most_slots}
 use Rattle.sheet.specs.Refusals.{given}
 use Rattle.sheet.specs.Sheet.{all, in_order, is_charge, slots_in, sites_run, colours_in, sites_in, product_of, rising, has_rank, ranks_differ, rank_by, Sheet, sheet_in}
 use Rattle.labelling.specs.Layout.{tied_of, is_used, used_from, least_x, slots_of, bounds_kept, backbones, drops, tie_words, ties_in, off_by, share_by, far_by, counts_by, clear_by, layout_ties, sheet_part, layout_part, judge_fault}

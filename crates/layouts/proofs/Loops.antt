@@ -2,7 +2,7 @@
 use mathlib.Core.Path.{◌≡◌, refl, sym, ap, ap₂, ◌∙◌, fun_ext}
 use mathlib.Core.Bool.{Bool, true, false, ◌&&◌, ◌||◌, cond}
 use mathlib.Core.List.{List, [], ◌∷◌}
-use Prim.Native.Nat.{ℕ, zero, suc, ◌+◌, ◌-◌, ◌≤◌, min}
+use Prim.Native.Nat.{ℕ, zero, suc, ◌+◌, ◌-◌, ◌≤◌, ◌<◌, min}
 use native.Mathlib.Numerals.{add-one}
 use native.Mathlib.Omega.{arith}
 use lib.Dec.{eqb}
@@ -14,6 +14,8 @@ use Rattle.sheet.specs.Limits.{most_share}
 use Rattle.sheet.specs.Sheet.{bits}
 use Rattle.labelling.specs.Layout.{ties_in, share_by}
 use Rattle.labelling.proofs.Distances.{share-le}
+use Rattle.lists.proofs.Tests.{and_i, is_false, clash}
+use Rattle.labelling.proofs.Counted.{all-before}
 use Rattle.labelling.specs.Counted.{all_before, sum_before, is_taken, is_first}
 use Rattle.decoding.specs.Decoding.{ColourNumbers, bounds_in}
 use Rattle.words.specs.declared.tied.Head.{Head}
@@ -45,6 +47,19 @@ all-from f a zero = unfold all_before in refl
 all-from f a (suc n) =
     ap₂ ◌&&◌ (ap f (let e : a ≡ a + 0 = omega arith in e)) (all-from f (a + 1) n ∙ ap (λ (g : ℕ → Bool). all_before g n) (fun_ext λ i. ap f (let e : a + 1 + i ≡ a + suc i = omega arith in e))) ∙
     sym (all-front (λ i. f (a + i)) n)
+
+-- A LOOP over all
+pub all_none : (f : ℕ → Bool) → all_before f 0 ≡ true
+unfolding all_before
+all_none f = refl
+
+-- by what a callee found of the next
+pub all_more : (f : ℕ → Bool) (i : ℕ) {r : Bool} → r ≡ f i → r ≡ true → all_before f i ≡ true → all_before f (i + 1) ≡ true
+unfolding all_before
+all_more f i e k h = rw (add-one i) (and_i h (sym e ∙ k))
+
+pub all-stop : (f : ℕ → Bool) (n i : ℕ) {r : Bool} → i < n → r ≡ f i → r ≡ false → false ≡ all_before f n
+all-stop f n i l e k = sym (is_false (all_before f n) λ h. clash (all-before f n h i l) (sym e ∙ k))
 
 pub all-range : (f : ℕ → Bool) (n : ℕ) → list_all f (range_with_len 0 n) ≡ all_before f n
 all-range f n = all-from f 0 n ∙ ap (λ (g : ℕ → Bool). all_before g n) (fun_ext λ i. ap f (let e : 0 + i ≡ i = omega arith in e))

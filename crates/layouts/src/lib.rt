@@ -11,3 +11,4 @@ pub mod rule;
 mod rule_2;
 pub mod rule_6;
 pub mod sites;
+pub mod ties;

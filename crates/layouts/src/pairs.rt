@@ -63,16 +63,23 @@ impl PairRule for Clears {
     }
 }
 
-// Whether a tied site passes beside every tied site.
-fn all_pass<R: PairRule>(sites: &TiedSites, t: TiedSite) -> bool
-    ensures { result ≡ passes_all R.kept sites.now.head (tied_at sites.now.heights.now (xs_in sites.now.sites.now) (ys_in sites.now.sites.now) (site_colours_in sites.now.sites.now) (ties_in sites.now.ties.now)) (length sites.now.ties.now) t }
+// Whether a tied site passes beside every tied site. The sites are passed by value: the loop then reads none of their fields again.
+fn all_pass<R: PairRule>(sites: TiedSites<'_>, t: TiedSite) -> bool
+    ensures { result ≡ passes_all R.kept sites.entry.head (tied_at sites.entry.heights.now (xs_in sites.entry.sites.now) (ys_in sites.entry.sites.now) (site_colours_in sites.entry.sites.now) (ties_in sites.entry.ties.now)) (length sites.entry.ties.now) t }
 {
-    (0..sites.count()).all(|j| R::passes(sites.head, t, sites.tied_at(j)))
+    for j in 0..sites.count() {
+        if !R::passes(sites.head, t, sites.tied_at(j)) {
+            return false;
+        }
+    }
+    true
 }
 
-// Whether every two tied sites pass.
+// Whether every two tied sites pass. Not put into its caller, where the rules before it hold registers.
+#[inline(never)]
 pub fn pairs_pass<R: PairRule>(sites: &TiedSites) -> bool
     ensures { result ≡ pairs_pass R.kept sites.now.head (tied_at sites.now.heights.now (xs_in sites.now.sites.now) (ys_in sites.now.sites.now) (site_colours_in sites.now.sites.now) (ties_in sites.now.ties.now)) (length sites.now.ties.now) }
 {
+    let sites = *sites;
     (0..sites.count()).all(|i| all_pass::<R>(sites, sites.tied_at(i)))
 }

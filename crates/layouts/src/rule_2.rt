@@ -15,7 +15,7 @@ use rules::rule_2::{is_unbounded, is_within};
 fn bound_kept(sites: &TiedSites, c: usize, bound: u32) -> bool
     ensures { result ≡ bound_kept (count_on (Among.Of c) (site_colours_in sites.now.sites.now) (ties_in sites.now.ties.now) (length sites.now.ties.now)) bound }
 {
-    is_unbounded(bound) || is_within(labels_of(Among::Of(c), sites), bound)
+    is_unbounded(bound) || is_within(labels_of(Among::Of(c), sites.sites, sites.ties), bound)
 }
 
 // Whether no colour has more labels than its bound.

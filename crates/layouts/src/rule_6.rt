@@ -54,7 +54,7 @@ pub fn totals_of(sites: &TiedSites) -> Totals
     let mut count = 0;
     let mut length = 0;
     for i in 0..sites.count() {
-        let first = is_first(Among::All, sites, i);
+        let first = is_first(Among::All, sites.sites, sites.ties, i);
         count += usize::from(first);
         length += site_length(sites, first, i);
     }

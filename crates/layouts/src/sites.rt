@@ -4,8 +4,8 @@ ghost use Rattle.std.specs.Prelude.{◌≡◌, ◌<◌, length, get_or};
 ghost use Rattle.labelling.specs.Layout.{ties_in};
 ghost use Rattle.layouts.specs.Model.{Fits, Low, tied_at};
 
+use crate::ties;
 use decoding::Site;
-use words::byte_field;
 use words::tied::{Head, TiedSite};
 
 // The sheet's head, its slots' heights, its sites, and the ties' words. Each tie has its site, and its slot a height; all are
@@ -27,37 +27,26 @@ impl TiedSites<'_> {
         self.ties.len()
     }
 
-    // The slot of a site, from its tie's word.
     pub fn slot_at(&self, i: usize) -> u32
         requires { i < length self.now.ties.now }
         ensures { result ≡ get_or (ties_in self.now.ties.now) i 0 }
     {
-        byte_field(self.ties[i])
+        ties::slot_at(self.ties, i)
     }
 
-    // A site's own numbers.
     pub fn site_at(&self, i: usize) -> Site
         requires { i < length self.now.ties.now }
         ensures x { result.x ≡ get_or (xs_in self.now.sites.now) i 0 }
         ensures y { result.y ≡ get_or (ys_in self.now.sites.now) i 0 }
         ensures colour { result.colour ≡ get_or (site_colours_in self.now.sites.now) i 0 }
     {
-        self.sites[i]
+        ties::site_at(self.sites, i)
     }
 
-    // A site with its tie. Its slot has a height (refusal 11), so the place is not tested: loops over sites are then made for several at a time.
     pub fn tied_at(&self, i: usize) -> TiedSite
         requires { i < length self.now.ties.now }
         ensures { result ≡ tied_at self.now.heights.now (xs_in self.now.sites.now) (ys_in self.now.sites.now) (site_colours_in self.now.sites.now) (ties_in self.now.ties.now) i }
     {
-        let Site { x, y, colour } = self.site_at(i);
-        let slot = self.slot_at(i);
-        TiedSite {
-            x,
-            y,
-            colour,
-            slot,
-            height: self.heights[slot as usize],
-        }
+        ties::tied_at(self.heights, self.sites, self.ties, i)
     }
 }

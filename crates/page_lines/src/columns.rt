@@ -26,10 +26,10 @@ pub fn put_field(text: &mut Text, columns: Columns, before: &[u8], n: u64)
 }
 
 // A number without bytes before its digits.
-pub fn put_plain(text: &mut Text, columns: Columns, n: u32)
+pub fn put_plain(text: &mut Text, columns: Columns, n: u64)
     ensures { Puts text.old text.new (field_after columns.after (field columns.from columns.to (decimal n))) }
 {
-    put_field(text, columns, b"", u64::from(n));
+    put_field(text, columns, b"", n);
 }
 
 // Blanks in the columns after so many, and the line feed.

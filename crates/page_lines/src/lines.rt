@@ -86,11 +86,11 @@ pub struct Label {
 pub fn put_slot_line(text: &mut Text, label: Label)
     ensures { Puts text.old text.new (slot_line label.slot label.colour label.sites label.height label.length) }
 {
-    put_plain(text, SLOT, label.slot);
-    put_plain(text, COLOUR, label.colour);
-    put_plain(text, SITES, label.sites);
-    put_plain(text, HEIGHT, label.height);
-    put_plain(text, LENGTH, label.length);
+    put_plain(text, SLOT, u64::from(label.slot));
+    put_plain(text, COLOUR, u64::from(label.colour));
+    put_plain(text, SITES, u64::from(label.sites));
+    put_plain(text, HEIGHT, u64::from(label.height));
+    put_plain(text, LENGTH, u64::from(label.length));
     put_end(text, LENGTH.to);
 }
 
@@ -113,8 +113,8 @@ pub fn put_site_line(text: &mut Text, site: u32, slot: u32, height: u32, y: u32)
     ensures { Puts text.old text.new (site_line site slot height y) }
 {
     text.put_bytes(b"  drop");
-    put_plain(text, SITE, site);
-    put_plain(text, TIE, slot);
+    put_plain(text, SITE, u64::from(site));
+    put_plain(text, TIE, u64::from(slot));
     put_drop(text, DROP, height, y);
     put_end(text, DROP.to);
 }
@@ -123,7 +123,7 @@ pub fn put_total_line(text: &mut Text, count: u32, length: u32)
     ensures { Puts text.old text.new (total_line count length) }
 {
     text.put_bytes(b"total");
-    put_plain(text, COUNT, count);
-    put_plain(text, TOTAL, length);
+    put_plain(text, COUNT, u64::from(count));
+    put_plain(text, TOTAL, u64::from(length));
     put_end(text, TOTAL.to);
 }

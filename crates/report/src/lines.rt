@@ -17,10 +17,10 @@ fn put_named(text: &mut Text, name: &[u8], number: u64, last: u8)
 }
 
 // The line of a refusal.
-pub fn put_refused(text: &mut Text, number: u8)
+pub fn put_refused(text: &mut Text, number: u64)
     ensures { Puts text.old text.new (refused_line number) }
 {
-    put_named(text, b"refused ", u64::from(number), b'\n');
+    put_named(text, b"refused ", number, b'\n');
 }
 
 // A site's slot: a layout's ties follow its first word. 0 where there is none.

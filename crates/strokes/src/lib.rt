@@ -34,6 +34,8 @@ fn stroke_on(opened: &Opened, place: usize) -> Result<Stroke, Refusal>
 pub fn stroke_at(stored: &[u32], place: usize) -> Result<Stroke, Refusal>
     ensures { numbered result ≡ stroke_post stored.now place }
 {
-    let opened = open_stored(stored)?;
-    stroke_on(&opened, place)
+    match open_stored(stored) {
+        Ok(opened) => stroke_on(&opened, place),
+        Err(refusal) => Err(refusal),
+    }
 }

@@ -5,7 +5,7 @@ use lib.ListN.{take}
 use Rattle.backbones.proofs.put_program.Goals as goal
 
 pub returns-then-is_unfit : goal.returns-then-is_unfit
-returns-then-is_unfit c = rw (← text-unfit c.args.input.now (sym c.is_unfit.ensures ∙ c.if-is_unfit.true)) (rw c.number.ensures at c.put_refused.ensures)
+returns-then-is_unfit c = rw (← text-unfit c.args.input.now (sym c.is_unfit.ensures ∙ c.if-is_unfit.true)) (rw (c.from.ensures, c.number.ensures) at c.put_refused.ensures)
 
 pub returns : goal.returns
 returns c =

@@ -18,4 +18,4 @@ returns-in-0 c =
 pub returns-in_default : goal.returns-in_default
 unfolding program_sheet_text
 returns-in_default c =
-    rw (← sheet_refused c.args.sheet.now (replicate work_words 0) (replicate answer_words 0) c.make_layout.ensures.value (λ z. omega arith)) c.put_refused.ensures
+    rw (← sheet_refused c.args.sheet.now (replicate work_words 0) (replicate answer_words 0) c.make_layout.ensures.value (λ z. omega arith)) (rw c.from.ensures at c.put_refused.ensures)

@@ -17,7 +17,6 @@ use Rattle.layouts.proofs.labels.labels_of.Goals as goal
 
 pub returns : goal.returns
 returns c =
-    let s = c.args.sites.now in
-    let p : ℕ → Bool = is_first (among_by c.args.a (site_colours_in s.sites.now)) (ties_in s.ties.now) in
-    count_from_yields_List c.filter.result _ c.count-2.ensures.ran (YieldsList-from_filter _ p (YieldsList-from_range 0 c.count.result (length s.ties.now) (cc) (omega arith)) c.filter.ensures.closure (λ x b q k. search (rules, tests))) ∙
+    let p : ℕ → Bool = is_first (among_by c.args.a (site_colours_in c.args.sites.now)) (ties_in c.args.ties.now) in
+    count_from_yields_List c.filter.result _ c.count.ensures.ran (YieldsList-from_filter _ p (YieldsList-from_range 0 _ (length c.args.ties.now) c.filter.ensures.source (omega arith)) c.filter.ensures.closure (λ x b q k. search (rules, tests))) ∙
     length-filter p _ ∙ count-range p _

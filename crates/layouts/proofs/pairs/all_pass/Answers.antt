@@ -1,20 +1,15 @@
-use mathlib.Core.Bool.{Bool}
-use mathlib.Core.Path.{refl, ◌∙◌}
-use lib.ListN.{length}
-use borrow.Author.Tests.{tests}
+use mathlib.Core.Path.{ap, ◌∙◌}
 use native.Mathlib.Omega.{arith}
-use Prim.Native.Nat.{ℕ}
-use Rattle.decoding.specs.Decoding.{site_colours_in, xs_in, ys_in}
-use Rattle.std.proofs.Common.{rules}
-use Rattle.std.proofs.lemmas.Iterator.{YieldsList-from_range}
-use Rattle.std.proofs.lemmas.Iterator.Search.{all_from_yields_List}
-use Rattle.labelling.specs.Layout.{ties_in}
-use Rattle.layouts.specs.Model.{tied_at}
-use Rattle.layouts.proofs.Loops.{all-range}
+use Rattle.layouts.proofs.Loops.{all_none, all_more, all-stop}
 use Rattle.layouts.proofs.pairs.all_pass.Goals as goal
 
-pub returns : goal.returns
-returns g c =
-    let s = c.args.sites.now in
-    let f : ℕ → Bool = λ j. g.R.PairRule.kept s.head c.args.t (tied_at s.heights.now (xs_in s.sites.now) (ys_in s.sites.now) (site_colours_in s.sites.now) (ties_in s.ties.now) j) in
-    all_from_yields_List f _ _ _ c.all.ensures.ran (YieldsList-from_range 0 c.count.result (length s.ties.now) refl (omega arith)) (λ x b q k. search (rules, tests)) ∙ all-range f _
+pub loop-j-init : goal.loop-j-init
+loop-j-init g c = all_none _
+
+pub returns-then-not-passes : goal.returns-then-not-passes
+returns-then-not-passes g c = let s = c.args.sites in
+    all-stop _ _ c.loop-j.j (omega (arith, c.loop-j-test.true, c.count-j-end.ensures)) (c.passes.ensures ∙ ap (g.R.PairRule.kept s.head c.args.t) c.tied_at.ensures) c.if-not-passes.true
+
+pub loop-j-preserved : goal.loop-j-preserved
+loop-j-preserved g c = let s = c.args.sites in
+    all_more _ c.loop-j.j (c.passes.ensures ∙ ap (g.R.PairRule.kept s.head c.args.t) c.tied_at.ensures) c.if-not-passes.false c.loop-j.invariant

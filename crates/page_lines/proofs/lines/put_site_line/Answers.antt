@@ -9,6 +9,6 @@ pub returns : goal.returns
 unfolding right_in
 returns c = let a = c.args in
     field_put 0 (field 1 6 site_start) _ c.put_bytes.ensures
-    (field_put 6 (field 8 10 (decimal a.site)) _ c.put_plain.ensures
-    (field_put 10 (field 12 14 (decimal a.slot)) _ c.put_plain-2.ensures
+    (field_put 6 (field 8 10 (decimal a.site)) _ (rw c.from.ensures at c.put_plain.ensures)
+    (field_put 10 (field 12 14 (decimal a.slot)) _ (rw c.from-2.ensures at c.put_plain-2.ensures)
     (field_put 14 (field 16 23 (drop_text a.height a.y)) [] c.put_drop.ensures (end-put 23 c.put_end.ensures))))

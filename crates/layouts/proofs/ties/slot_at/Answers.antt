@@ -1,7 +1,7 @@
 use Rattle.layouts.proofs.Loops.{ties-at}
 use mathlib.Core.Path.{sym, ◌∙◌}
-use Rattle.layouts.proofs.sites.TiedSites.slot_at.Goals as goal
+use Rattle.layouts.proofs.ties.slot_at.Goals as goal
 
 pub returns : goal.returns
 returns c = let a = c.args in
-    c.byte_field.ensures ∙ sym (ties-at a.self.now.ties.now a.i)
+    c.byte_field.ensures ∙ sym (ties-at a.ties.now a.i)
