@@ -5,3 +5,4 @@ pub mod Marks
 pub mod Points
 pub mod Barred
 pub mod Narrowed
+pub mod Listed

@@ -7,7 +7,8 @@ use Rattle.search.specs.Radix.{below}
 abbrev pub Divides : List ℕ → Type 0
 Divides rs = (k : ℕ) → k < length rs → 0 < get_or rs k 0
 
--- of the numbers below w, just those that may be taken from v are listed
+-- of the numbers below w, just those that may be taken from v are listed. A ghost field is a proposition, so `whole` says only that there is a
+-- place; arrays/proofs/Listed finds it.
 pub record Listed (rs : List ℕ) (v w count : ℕ) (at : ℕ → ℕ) : Type 0 where
   pub few : count ≤ w
   pub small : (i : ℕ) → i < count → at i < w

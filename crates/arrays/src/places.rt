@@ -4,6 +4,7 @@
 ghost use Rattle.std.specs.Prelude.{◌≡◌};
 ghost use Rattle.optimum.specs.Slots as model;
 ghost use Rattle.arrays.specs.Arrays.{slots_by};
+ghost use Rattle.arrays.specs.declared.Measures as measured;
 
 use crate::ranked::RankedSheet;
 use rules::{rule_3, rule_5};
@@ -11,7 +12,7 @@ use words::get;
 
 // The edge or label a stands above the height y or at it.
 pub fn is_over(sheet: &RankedSheet, a: u32, y: u32) -> bool
-    ensures { result ≡ model.over (slots_by sheet.now.measures sheet.now.heights.now) a y }
+    ensures { (q : measured.Measures) → result ≡ model.over (slots_by q sheet.now.heights.now) a y }
 {
     if a == 0 {
         return true;
@@ -21,7 +22,7 @@ pub fn is_over(sheet: &RankedSheet, a: u32, y: u32) -> bool
 
 // The edge or label b stands below the height y.
 pub fn is_under(sheet: &RankedSheet, b: u32, y: u32) -> bool
-    ensures { result ≡ model.under (slots_by sheet.now.measures sheet.now.heights.now) b y }
+    ensures { (q : measured.Measures) → result ≡ model.under (slots_by q sheet.now.heights.now) b y }
 {
     if b == 0 {
         return false;

@@ -1,4 +1,5 @@
 // An accepted sheet as all that lays it out reads it: its numbers in arrays, the sites by rising rank.
+ghost use Rattle.std.specs.Prelude.{◌≡◌};
 ghost use Rattle.arrays.specs.Given.{given, OfSheet, Bounded, Ranked};
 ghost use Rattle.arrays.specs.Budgets.{SplitsOf};
 
@@ -9,7 +10,7 @@ use crate::splits::Splits;
 // The slots' heights; the colours' bounds, radices and draws; the sites' x, y and colours by rising rank, and their places in the sheet;
 // what may be taken from each budget.
 #[derive(Clone, Copy)]
-pub struct RankedSheet<'a, 'r> {
+pub struct RankedSheet<'a, 'r, 's> {
     pub measures: Measures,
     pub heights: &'a [u32],
     pub bounds: &'a [u32],
@@ -19,9 +20,10 @@ pub struct RankedSheet<'a, 'r> {
     pub ys: &'a [u32],
     pub colours: &'a [u32],
     pub order: &'a [u32],
-    pub splits: &'a Splits,
-    ghost of_sheet: { OfSheet (given measures heights.now bounds.now radices.list.now draws.now xs.now ys.now colours.now order.now splits.now.parts splits.now.counts) },
-    ghost bounded: { Bounded (given measures heights.now bounds.now radices.list.now draws.now xs.now ys.now colours.now order.now splits.now.parts splits.now.counts) },
-    ghost ranked: { Ranked (given measures heights.now bounds.now radices.list.now draws.now xs.now ys.now colours.now order.now splits.now.parts splits.now.counts) },
-    ghost listed: { SplitsOf radices.list.now measures.budgets splits.now.parts splits.now.counts },
+    pub splits: Splits<'s>,
+    ghost of_sheet: { OfSheet (given measures heights.now bounds.now radices.list.now draws.now xs.now ys.now colours.now order.now splits.parts.now splits.counts.now) },
+    ghost bounded: { Bounded (given measures heights.now bounds.now radices.list.now draws.now xs.now ys.now colours.now order.now splits.parts.now splits.counts.now) },
+    ghost ranked: { Ranked (given measures heights.now bounds.now radices.list.now draws.now xs.now ys.now colours.now order.now splits.parts.now splits.counts.now) },
+    ghost listed: { SplitsOf radices.list.now measures.budgets splits.parts.now splits.counts.now },
+    ghost all_listed: { splits.budgets ≡ measures.budgets },
 }

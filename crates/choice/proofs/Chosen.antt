@@ -2,9 +2,9 @@
 use mathlib.Core.Path.{◌≡◌}
 use mathlib.Core.List.{List}
 use Prim.Native.Nat.{ℕ}
-use Rattle.arrays.specs.Given.{Given}
 use Rattle.rows.specs.Rest.{LevelIn}
 
--- the labels and the marks are as they were
-pub level-same : (g : Given) (work : List ℕ) (base : ℕ) (old new was now : List ℕ) → new ≡ old → now ≡ was → LevelIn g work base old was → LevelIn g work base new now
-level-same g work base old new was now e f l = rw (e, f) l
+-- the labels and the marks are as they were, and as many budgets are listed as the level has
+pub level-same : {work : List ℕ} {base C R n : ℕ} {old new was now : List ℕ} → n ≡ R → new ≡ old → now ≡ was → LevelIn work base C R old was
+    → LevelIn work base C n new now
+level-same h e f l = rw (h, e, f) l

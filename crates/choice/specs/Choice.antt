@@ -22,9 +22,8 @@ abbrev pub marked_at : (labels marks : List ℕ) → (a d k : ℕ) → List ℕ
 marked_at L M a d k = cond (eqb (get_or L k 0) 0) (set (set M (suc k) 0) a d) (set M a d)
 
 -- a price, and REST of these labels and marks at the budget v, come to the cost
-abbrev pub comes_to : Given → (work : List ℕ) (base : ℕ) → (labels marks : List ℕ) → (v price cost : ℕ) → Bool
-comes_to g work base L M v price cost =
-    eqb (plus top_word price (rest_rows g.parts g.counts work base (length L) g.measures.colours g.measures.budgets L M v)) cost
+abbrev pub comes_to : (parts counts work : List ℕ) (base C R : ℕ) → (labels marks : List ℕ) → (v price cost : ℕ) → Bool
+comes_to parts counts work base C R L M v price cost = eqb (plus top_word price (rest_rows parts counts work base (length L) C R L M v)) cost
 
 -- slot k keeps the least cost `here`; the next level begins at the word `base`
 abbrev pub keeps_cost : Given → (work : List ℕ) → (base : ℕ) → Strip → Point → (labels marks : List ℕ) → (v here k : ℕ) → Bool
@@ -45,19 +44,21 @@ pub record MarksIn (labels marks : List ℕ) (a k : ℕ) : Type 0 where
   pub marks_long : length marks ≡ length labels + 1
   pub place_low : a < length marks
 
--- where a slot is tried: the next level stands in the work area, and slot, place, mark, colour, budget and cost are in range
-pub record TriedIn (g : Given) (work : List ℕ) (base : ℕ) (labels marks : List ℕ) (tie : Tie) (v cost : ℕ) : Type 0 where
-  pub level : LevelIn g work base labels marks
+-- where a slot is tried: the next level, of C colours and R budgets, stands in the work area, and slot, place, mark, colour, budget and cost
+-- are in range
+pub record TriedIn (work : List ℕ) (base C R : ℕ) (labels marks : List ℕ) (tie : Tie) (v cost : ℕ) : Type 0 where
+  pub level : LevelIn work base C R labels marks
   pub places : MarksIn labels marks tie.above tie.slot
   pub mark_low : tie.mark < mark_count
-  pub colour_low : tie.colour < g.measures.colours + 1
-  pub budget : v < g.measures.budgets
+  pub colour_low : tie.colour < C + 1
+  pub budget : v < R
   pub low : cost < top_word
 
 -- where a slot is chosen for the site s, in the strip below the place a
 pub record ChosenIn (g : Given) (work : List ℕ) (base : ℕ) (labels marks : List ℕ) (a : ℕ) (s : Point) (left : Left) : Type 0 where
-  pub level : LevelIn g work base labels marks
+  pub level : LevelIn work base g.measures.colours g.measures.budgets labels marks
   pub site : SiteIn g.measures s
+  pub labels_long : length labels ≡ length g.heights
   pub marks_long : length marks ≡ length g.heights + 1
   pub place_low : a < length marks
   pub budget : left.budget < g.measures.budgets

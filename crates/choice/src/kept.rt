@@ -1,9 +1,8 @@
 // Whether a step of the one-sided walk keeps the least cost.
 ghost use Rattle.std.specs.Prelude.{◌≡◌, set};
-ghost use Rattle.arrays.specs.Ranked.{given_of};
 ghost use Rattle.choice.specs.Choice.{MarksIn, TriedIn, marked_at, comes_to};
 
-use arrays::ranked::RankedSheet;
+use arrays::splits::Splits;
 use costs::comes_to;
 use rows::rest::rest_of;
 use strips::Step;
@@ -30,10 +29,11 @@ pub fn write_marks(labels: &[u32], marks: &mut [u32], tie: Tie)
     marks[above] = tie.mark;
 }
 
-// The step that a tie makes comes to `cost` with REST after it, whose level begins at the word `base`.
+// The step that a tie makes comes to `cost` with REST after it, whose level begins at the word `base`. REST asks for no sheet, and so does this.
 // A step that is not lawful keeps no cost, so REST is not asked for.
 pub fn keeps_cost(
-    sheet: &RankedSheet,
+    splits: Splits,
+    colours: u32,
     work: &[u32],
     base: usize,
     labels: &mut [u32],
@@ -42,9 +42,10 @@ pub fn keeps_cost(
     step: Step,
     cost: u32,
 ) -> bool
-    requires { TriedIn (given_of sheet.now) work.now base labels.old marks.old tie step.left cost }
+    requires { TriedIn work.now base colours splits.budgets labels.old marks.old tie step.left cost }
     ensures value { let after = marked_at labels.old marks.old tie.above tie.mark tie.slot in
-        result ≡ comes_to (given_of sheet.now) work.now base (set labels.old tie.slot tie.colour) after step.left step.price cost }
+        let L = set labels.old tie.slot tie.colour in
+        result ≡ comes_to splits.entry.parts.now splits.entry.counts.now work.now base colours splits.entry.budgets L after step.left step.price cost }
     ensures labels_unchanged { labels.new ≡ labels.old }
     ensures marks_unchanged { marks.new ≡ marks.old }
 {
@@ -59,7 +60,7 @@ pub fn keeps_cost(
     let old_above = marks[above];
     write_marks(labels, marks, tie);
     labels[at] = tie.colour;
-    let after = rest_of(sheet, work, base, labels, marks, step.left);
+    let after = rest_of(splits, colours, work, base, labels, marks, step.left);
     labels[at] = old;
     marks[above] = old_above;
     marks[below] = old_below;

@@ -44,7 +44,17 @@ pub fn choose_slot(
             colour: s.c + 1,
         };
         let step = strips::step_of(sheet, p, s, left.budget, k);
-        if keeps_cost(sheet, work, base, labels, marks, tie, step, left.cost) {
+        if keeps_cost(
+            sheet.splits,
+            sheet.measures.colours,
+            work,
+            base,
+            labels,
+            marks,
+            tie,
+            step,
+            left.cost,
+        ) {
             return k;
         }
     }

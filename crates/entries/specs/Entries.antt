@@ -118,7 +118,7 @@ rows_below l work = row_in work l.low (slots_in l) (colours_in l) (budgets_in l)
 -- the row at `base` holds what joining a label costs; nothing else changed
 abbrev pub RowJoined : Level → Strip → (old new : List ℕ) → Type 0
 RowJoined l p old new =
-    RowIs l.base (budgets_in l) (join_entry l.arrays.measures l.arrays.heights l.arrays.bounds (rows_below l old) p l.site) old new
+    (bs : List ℕ) → RowIs l.base (budgets_in l) (join_entry l.arrays.measures l.arrays.heights bs (rows_below l old) p l.site) old new
 
 -- the row at `base`, once a label was tried at slot k; at all slots between the strip's ends
 abbrev pub SlotTried : Level → Strip → (k : ℕ) → (old new : List ℕ) → Type 0

@@ -4,7 +4,6 @@
 pub mod filling;
 
 ghost use Rattle.std.specs.Prelude.{◌≡◌, ◌+◌, ◌<◌, ◌≤◌, min, length, get_or};
-ghost use Rattle.sheet.specs.Limits.{most_budgets};
 ghost use Rattle.search.specs.Cost.{plus};
 ghost use Rattle.optimum.specs.OneSided.{top_word};
 ghost use Rattle.arrays.specs.Ranked.{given_of};
@@ -76,15 +75,15 @@ fn start_joined(work: &mut [u32], level: &TableLevel, p: Strip, base: usize)
 fn opened(
     old: u32,
     work: &[u32],
-    splits: &Splits,
+    splits: Splits,
     upper: usize,
     lower: usize,
     n: usize,
     cost: u32,
     u: usize,
 ) -> u32
-    requires { (n ≤ most_budgets) × (upper + n ≤ length work.now) × (lower + n ≤ length work.now) }
-    ensures { result ≡ min old (open_at splits.now.parts splits.now.counts work.now n cost u upper lower) }
+    requires { (n ≤ splits.budgets) × (upper + n ≤ length work.now) × (lower + n ≤ length work.now) }
+    ensures { result ≡ min old (open_at splits.entry.parts.now splits.entry.counts.now work.now n cost u upper lower) }
 {
     if n <= u {
         old
@@ -96,7 +95,7 @@ fn opened(
 // Opens a label that costs `cost` in a row; `left` says what it leaves of each budget, which the rows at `upper` and `lower` share.
 fn open_row(
     work: &mut [u32],
-    splits: &Splits,
+    splits: Splits,
     left: &[u8],
     base: usize,
     upper: usize,
@@ -104,8 +103,8 @@ fn open_row(
     n: usize,
     cost: u32,
 )
-    requires { (n ≤ most_budgets) × PartsFit n base (length work.old) upper lower × (n ≤ length left.now) }
-    ensures { RowLowered base n (λ v. open_at splits.now.parts splits.now.counts work.old n cost (get_or left.now v 0) upper lower) work.old work.new }
+    requires { (n ≤ splits.budgets) × PartsFit n base (length work.old) upper lower × (n ≤ length left.now) }
+    ensures { RowLowered base n (λ v. open_at splits.entry.parts.now splits.entry.counts.now work.old n cost (get_or left.now v 0) upper lower) work.old work.new }
 {
     for v in 0..n {
         let u = left[v] as usize;
@@ -148,9 +147,9 @@ fn open_slot(work: &mut [u32], filling: &Filling, p: Strip, base: usize, k: u32)
 }
 
 // There is but one budget, and it allows the label.
-fn is_single(n: usize, splits: &Splits, left: &[u8]) -> bool
+fn is_single(n: usize, splits: Splits, left: &[u8]) -> bool
     requires { (n ≤ length left.now) × (0 < n) }
-    ensures { result ≡ is_single n splits.now.parts splits.now.counts left.now }
+    ensures { result ≡ is_single n splits.entry.parts.now splits.entry.counts.now left.now }
 {
     n == 1 && splits.parts[0] == 0 && splits.counts[0] == 1 && left[0] == 0
 }

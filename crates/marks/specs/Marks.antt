@@ -48,8 +48,8 @@ StripMarked g low p stays old new =
 abbrev pub JoinsMarked : Level → Strip → (old new : List ℕ) → Type 0
 JoinsMarked l p old new =
     Marking old new l.low (words_in l)
-    × (rise_cost l.arrays.measures l.arrays.heights l.arrays.bounds p l.site < top_word → Marked new l.low (slots_in l) (colours_in l) (budgets_in l) (risen l.arrays.heights p l.site))
-    × (fall_cost l.arrays.measures l.arrays.heights l.arrays.bounds p l.site < top_word → Marked new l.low (slots_in l) (colours_in l) (budgets_in l) (fallen l.arrays.heights p l.site))
+    × ((bs : List ℕ) → rise_cost l.arrays.measures l.arrays.heights bs p l.site < top_word → Marked new l.low (slots_in l) (colours_in l) (budgets_in l) (risen l.arrays.heights p l.site))
+    × ((bs : List ℕ) → fall_cost l.arrays.measures l.arrays.heights bs p l.site < top_word → Marked new l.low (slots_in l) (colours_in l) (budgets_in l) (fallen l.arrays.heights p l.site))
 
 abbrev pub WindowMarked : Level → Strip → Window → (old new : List ℕ) → Type 0
 WindowMarked l p w old new =

@@ -11,10 +11,11 @@ ghost use Rattle.onesided.specs.Laying.{TakesOneSided, MadeBy, RankedSites, Lays
 use areas::zero_part;
 use arrays::radices::Radices;
 use arrays::ranked::RankedSheet;
+use arrays::splits::{BUDGETS_LENGTH, SPLITS_LENGTH, Splits};
 use arrays::{Measures, draws_of, gathered_of, order_of, radices_of, ranks_of};
 use decoding::Numbers;
 use faults::refusal::Refusal;
-use rows::budgets::splits_of;
+use rows::budgets::list_splits;
 use rows::rest::level_size;
 
 // Lays out a ranked sheet.
@@ -62,7 +63,14 @@ fn lay_sites<'a>(
     let radices = Radices {
         list: &radices[..count],
     };
-    let splits = splits_of(radices, budgets as usize);
+    let mut parts = [0; SPLITS_LENGTH];
+    let mut counts = [0; BUDGETS_LENGTH];
+    list_splits(radices, budgets as usize, &mut parts, &mut counts);
+    let splits = Splits {
+        budgets,
+        parts: &parts,
+        counts: &counts,
+    };
     let sheet = RankedSheet {
         measures,
         heights: &heights[..slots],
@@ -73,7 +81,7 @@ fn lay_sites<'a>(
         ys,
         colours,
         order,
-        splits: &splits,
+        splits,
     };
     lay_ranked(&sheet, work, out)
 }

@@ -18,7 +18,6 @@ use Rattle.search.proofs.Sums.{listing-first, length-listing}
 use native.Mathlib.Nat.{mul-le-mul}
 use Rattle.rows.specs.Rows.{Lies, level_size}
 use Rattle.rows.proofs.Places.{row_fits, rows_few}
-use Rattle.arrays.specs.Given.{Given}
 use Rattle.rows.specs.Budgets.{Within, part_at, split_by}
 use Rattle.rows.specs.Rest.{split_row, row_start, LevelIn, join_row, fold_rows}
 use Rattle.sheet.specs.Limits.{most_slots, most_colours, most_budgets, most_level, most_rows}
@@ -32,9 +31,9 @@ pub record Joined (parts counts old work : List ℕ) (row : ℕ) (acc : List ℕ
   pub kept : (k : ℕ) → k < v → get_or acc k 0 ≡ get_or old k 0
   pub done : (k : ℕ) → v ≤ k → k < length old → get_or acc k 0 ≡ split_row parts counts old work row k
 
-pub joined-more : {parts counts old work : List ℕ} {row : ℕ} {acc : List ℕ} {v u x : ℕ} → Joined parts counts old work row acc v → u + 1 ≡ v
-    → Within most_budgets parts counts → length old ≤ most_budgets → x ≡ split_by parts counts (λ w. get_or acc (0 + w) 0) (λ w. get_or work (row + w) 0) u → Joined parts counts old work row (set acc u x) u
-joined-more {parts} {counts} {old} {work} {row} {acc} {v} {u} {x} j e i few h =
+pub joined-more : {parts counts old work : List ℕ} {row R : ℕ} {acc : List ℕ} {v u x : ℕ} → Joined parts counts old work row acc v → u + 1 ≡ v
+    → Within R parts counts → length old ≤ R → x ≡ split_by parts counts (λ w. get_or acc (0 + w) 0) (λ w. get_or work (row + w) 0) u → Joined parts counts old work row (set acc u x) u
+joined-more {parts} {counts} {old} {work} {row} {R} {acc} {v} {u} {x} j e i few h =
     record {
       long = length-set acc u x ∙ j.long;
       within = omega (arith, j.within);
@@ -76,14 +75,13 @@ pub record Folding (parts counts work : List ℕ) (base C R : ℕ) (L M start ac
   pub same : fold_rows parts counts work base (length L) C R (length L) 0 0 0 L M start ≡ fold_rows parts counts work base (length L) C R (length L - i) i a ca L M acc
 
 -- the strip from the last label passed to an end below it; its row lies in the level
-module _ {g : Given} {work L M : List ℕ} {base : ℕ} (p : LevelIn g work base L M) {start acc : List ℕ} {a ca i : ℕ} (f : Folding g.parts g.counts work base g.measures.colours g.measures.budgets L M start acc a ca i) (b cb : ℕ) {d : ℕ} where
-  pub strip_lies : b ≤ length L + 1 → cb ≤ g.measures.colours → d ≡ get_or M a 0 → Lies (length g.heights) g.measures.colours (record { a = a; ca = ca; b = b; cb = cb; d = d })
+module _ {parts counts work L M : List ℕ} {base C R : ℕ} (p : LevelIn work base C R L M) {start acc : List ℕ} {a ca i : ℕ} (f : Folding parts counts work base C R L M start acc a ca i) (b cb : ℕ) {d : ℕ} where
+  pub strip_lies : b ≤ length L + 1 → cb ≤ C → d ≡ get_or M a 0 → Lies (length L) C (record { a = a; ca = ca; b = b; cb = cb; d = d })
   strip_lies h l e =
-      record { a_low = omega (arith, f.above, f.passed, p.long); ca_low = omega (arith, f.colour); b_low = omega (arith, p.long); cb_low = omega arith; d_low = rw e (p.marked a) }
+      record { a_low = omega (arith, f.above, f.passed); ca_low = omega (arith, f.colour); b_low = omega arith; cb_low = omega arith; d_low = rw e (p.marked a) }
 
-  pub row_inside : {row : ℕ} → b ≤ length L + 1 → cb ≤ g.measures.colours → d ≡ get_or M a 0 → row ≡ row_start (length g.heights) g.measures.colours g.measures.budgets a ca b cb d
-      → base + row + g.measures.budgets ≤ length work
-  row_inside h l e r = omega (arith, r, row_fits (length g.heights) g.measures.colours g.measures.budgets _ (strip_lies h l e), p.within)
+  pub row_inside : {row : ℕ} → b ≤ length L + 1 → cb ≤ C → d ≡ get_or M a 0 → row ≡ row_start (length L) C R a ca b cb d → base + row + R ≤ length work
+  row_inside h l e r = omega (arith, r, row_fits (length L) C R _ (strip_lies h l e), p.within)
 
 module _ {parts counts work : List ℕ} {base C R : ℕ} {L M start acc : List ℕ} {a ca i : ℕ} (f : Folding parts counts work base C R L M start acc a ca i) where
   step : i < length L → fold_rows parts counts work base (length L) C R (length L - i) i a ca L M acc ≡ fold_rows parts counts work base (length L) C R (suc (length L - (i + 1))) i a ca L M acc

@@ -3,11 +3,11 @@ use mathlib.Core.Path.{◌≡◌, refl, ◌∙◌}
 use mathlib.Core.Bool.{true, false}
 use mathlib.Core.Logic.{∥∥₁_map}
 use mathlib.Core.List.{List}
-use Prim.Native.Nat.{ℕ, zero, suc, ◌+◌, ◌<◌, min}
+use Prim.Native.Nat.{ℕ, ◌+◌, ◌<◌, min}
 use native.Mathlib.Omega.{arith}
 use native.Mathlib.Numerals.{add-one}
 use Rattle.std.proofs.Common.{add-zero}
-use lib.ListN.{length, get_or, set, replicate}
+use lib.ListN.{length, get_or, set}
 use mir.Val.{bool_byte}
 use lib.Seq.{get_or-set_same, get_or-set_other}
 use Rattle.lists.proofs.Tests.{by-test, by_order, clash}
@@ -80,9 +80,3 @@ entries-more Q l v n h f q x l1 =
     by_order v x
     (λ k. let e : x ≡ v = omega arith in rw (e, get_or-set_same l v n 0 h) q)
     (λ k. rw (get_or-set_other l v x n 0 (λ e. omega arith)) (f x k))
-
--- an area of zeros
-pub zeros : (n i : ℕ) → get_or (replicate {A = ℕ} n 0) i 0 ≡ 0
-zeros zero i = refl
-zeros (suc n) zero = refl
-zeros (suc n) (suc i) = zeros n i

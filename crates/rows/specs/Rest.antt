@@ -1,24 +1,25 @@
 -- REST, as code folds it: the strips of the open labels take their shares one after the other, by rising slot. The table's
 -- entries are words of the work area, and lists say which shares may be taken from each budget. Definitions.
-use Rattle.std.specs.Prelude.{◌≡◌, cond, List, ℕ, zero, suc, ◌+◌, ◌*◌, ◌≤◌, ◌<◌, eqb, length, get_or}
-use Rattle.arrays.specs.Given.{Given}
+use Rattle.std.specs.Prelude.{cond, List, ℕ, zero, suc, ◌+◌, ◌*◌, ◌≤◌, ◌<◌, eqb, length, get_or}
+use Rattle.sheet.specs.Limits.{most_slots, most_colours}
 use Rattle.search.specs.Split.{just}
 use Rattle.search.specs.Sums.{listing}
 use Rattle.optimum.specs.OneSided.{top_word, mark_count}
 use Rattle.rows.specs.Budgets.{split_by}
 use Rattle.rows.specs.Rows as rows
-use Rattle.rows.specs.Rows.{level_of}
+use Rattle.rows.specs.Rows.{level_size}
 
 -- where the entries of a strip begin in its level: m slots, C colours, R budgets
 abbrev pub row_start : (m C R a ca b cb d : ℕ) → ℕ
 row_start m C R a ca b cb d = rows.row_of m C (record { a = a; ca = ca; b = b; cb = cb; d = d }) * R
 
--- a level stands in the work area from the word `base` on, every slot has its label, if any, the labels' colours are the sheet's, and the
--- marks are in range
-pub record LevelIn (g : Given) (work : List ℕ) (base : ℕ) (labels marks : List ℕ) : Type 0 where
-  pub long : length labels ≡ length g.heights
-  pub within : base + level_of g.measures g.heights ≤ length work
-  pub coloured : (i : ℕ) → get_or labels i 0 < g.measures.colours + 1
+-- a level of C colours and R budgets, which has a slot for each label, stands in the work area from the word `base` on, and the labels'
+-- colours and the marks are in range
+pub record LevelIn (work : List ℕ) (base C R : ℕ) (labels marks : List ℕ) : Type 0 where
+  pub few_slots : length labels ≤ most_slots
+  pub few_colours : C ≤ most_colours
+  pub within : base + level_size (length labels) C R ≤ length work
+  pub coloured : (i : ℕ) → get_or labels i 0 < C + 1
   pub marked : (i : ℕ) → get_or marks i 0 < mark_count
 
 -- one strip more, whose row begins at the word `row`, takes its share of each budget

@@ -6,7 +6,7 @@ ghost use Rattle.rows.specs.Budgets.{Others, split_by, left_by};
 
 use arrays::radices::Radices;
 use arrays::ranked::RankedSheet;
-use arrays::splits::{BUDGETS_LENGTH, SPLITS_LENGTH, Splits};
+use arrays::splits::{BUDGETS_LENGTH, Splits};
 use costs::masks::{is_below, mask_below};
 
 // A byte that is no budget. What a draw leaves is not an Option: it stands in an array of bytes, one for each budget, which the table's
@@ -33,23 +33,21 @@ fn list_below(radices: Radices, v: usize, parts: &mut [u8]) -> u8
     count
 }
 
-// What may be taken from each budget below P.
-pub fn splits_of(radices: Radices, budgets: usize) -> Splits
-    requires { budgets ≤ most_budgets }
-    ensures { SplitsOf radices.entry.list.now budgets result.parts result.counts }
+// Lists, for each budget below P, what may be taken from it, and counts it. The contract says of what may be taken that it stands somewhere
+// in the list; arrays/proofs/Listed finds the place.
+pub fn list_splits(radices: Radices, budgets: usize, parts: &mut [u8], counts: &mut [u8])
+    requires { (budgets ≤ most_budgets) × (length parts.old ≡ splits_length) × (length counts.old ≡ most_budgets) }
+    ensures { SplitsOf radices.entry.list.now budgets parts.new counts.new }
 {
-    let mut parts = [0; SPLITS_LENGTH];
-    let mut counts = [0; BUDGETS_LENGTH];
     for v in 0..budgets {
-        counts[v] = list_below(radices, v, &mut parts);
+        counts[v] = list_below(radices, v, parts);
     }
-    Splits { parts, counts }
 }
 
 // The least cost of sharing u between the rows f and g, which start at two places of two areas.
-pub fn least_split(splits: &Splits, f: &[u32], from: usize, g: &[u32], at: usize, u: usize) -> u32
-    requires { (u < most_budgets) × (from + u < length f.now) × (at + u < length g.now) }
-    ensures { result ≡ split_by splits.now.parts splits.now.counts (λ w. get_or f.now (from + w) 0) (λ w. get_or g.now (at + w) 0) u }
+pub fn least_split(splits: Splits, f: &[u32], from: usize, g: &[u32], at: usize, u: usize) -> u32
+    requires { (u < splits.budgets) × (from + u < length f.now) × (at + u < length g.now) }
+    ensures { result ≡ split_by splits.entry.parts.now splits.entry.counts.now (λ w. get_or f.now (from + w) 0) (λ w. get_or g.now (at + w) 0) u }
 {
     let end = at + u;
     let mut best = NONE;

@@ -9,7 +9,7 @@ use arrays::ranked::RankedSheet;
 // The level is marked or filled from the word `base` on; the level below it begins at the word `low`.
 #[derive(Clone, Copy)]
 pub struct TableLevel<'a> {
-    pub sheet: &'a RankedSheet<'a, 'a>,
+    pub sheet: &'a RankedSheet<'a, 'a, 'a>,
     pub site: Site,
     pub base: usize,
     pub low: usize,

@@ -5,11 +5,13 @@ pub mod budgets;
 pub mod level;
 pub mod rest;
 
-ghost use Rattle.std.specs.Prelude.{◌≡◌, ◌+◌, ◌*◌, ◌<◌, ◌≤◌, length};
-ghost use Rattle.sheet.specs.Limits.{most_slots, most_colours};
+ghost use Rattle.std.specs.Prelude.{◌≡◌, List, ℕ, ◌+◌, ◌*◌, ◌<◌, ◌≤◌, length};
+ghost use Rattle.sheet.specs.Limits.{most_slots, most_colours, most_budgets};
 ghost use Rattle.optimum.specs.Strips as model;
 ghost use Rattle.optimum.specs.OneSided.{mark_count};
-ghost use Rattle.arrays.specs.Given.{instance_of, point_in};
+ghost use Rattle.arrays.specs.Arrays.{instance_by};
+ghost use Rattle.arrays.specs.declared.Measures as measured;
+ghost use Rattle.arrays.specs.Given.{point_in};
 ghost use Rattle.arrays.specs.Ranked.{given_of, slot_count, colour_count};
 ghost use Rattle.rows.specs.Rows.{strip_of, point_of, row_of, rows_of, level_of, most_place, Lies, marked_by, upper_part, lower_part, end_place, low_place, upper_end};
 
@@ -81,16 +83,26 @@ pub fn rows_of(sheet: &RankedSheet) -> usize
     ends * colours * ends * colours * MARK_COUNT
 }
 
+// The place of a strip's row in a level of m slots. REST is folded without a sheet, so this asks for none.
+fn place_of(m: usize, colours: u32, budgets: u32, p: Strip) -> usize
+    requires few { (m ≤ most_slots) × (colours ≤ most_colours) × (budgets ≤ most_budgets) }
+    requires lies { Lies m colours (strip_of p) }
+    ensures { result ≡ row_of m colours (strip_of p) * budgets }
+{
+    let colours = colours as usize + 1;
+    let ends = m + 2;
+    let upper = p.a as usize * colours + p.ca as usize;
+    let strip = (upper * ends + p.b as usize) * colours + p.cb as usize;
+    (strip * MARK_COUNT + p.d as usize) * budgets as usize
+}
+
 // The place of a strip's row in its level.
 pub fn row_place(sheet: &RankedSheet, p: Strip) -> usize
     requires { Lies (slot_count sheet.now) (colour_count sheet.now) (strip_of p) }
     ensures { result ≡ row_of (slot_count sheet.now) (colour_count sheet.now) (strip_of p) * sheet.now.measures.budgets }
 {
-    let colours = sheet.measures.colours as usize + 1;
-    let ends = sheet.heights.len() + 2;
-    let upper = p.a as usize * colours + p.ca as usize;
-    let strip = (upper * ends + p.b as usize) * colours + p.cb as usize;
-    (strip * MARK_COUNT + p.d as usize) * sheet.measures.budgets as usize
+    let q = sheet.measures;
+    place_of(sheet.heights.len(), q.colours, q.budgets, p)
 }
 
 // A strip with another mark.
@@ -182,7 +194,7 @@ pub fn is_upper_end(e: End) -> bool
 // The strip that holds the height y, with its mark.
 pub fn hold_of(sheet: &RankedSheet, labels: &[u32], marks: &[u32], y: u32) -> Strip
     requires { length labels.now ≡ length sheet.now.heights.now }
-    ensures { strip_of result ≡ model.hold (instance_of (given_of sheet.now)) labels.now marks.now y }
+    ensures { (q : measured.Measures) (bs rs ds : List ℕ) → strip_of result ≡ model.hold (instance_by q sheet.now.heights.now bs rs ds) labels.now marks.now y }
 {
     let mut a = 0;
     let mut ca = 0;

@@ -3,13 +3,14 @@
 // code without branches is shown equal to its definition in one line.
 #![tactic(auto)]
 
-ghost use Rattle.std.specs.Prelude.{◌≡◌, ◌+◌, ◌<◌, ◌≤◌, length};
+ghost use Rattle.std.specs.Prelude.{◌≡◌, List, ℕ, ◌+◌, ◌<◌, ◌≤◌, length};
 ghost use Rattle.sheet.specs.Limits.{most_slots, most_colours};
 ghost use Rattle.optimum.specs.Strips as model;
 ghost use Rattle.optimum.specs.OneSided.{has_slot};
 ghost use Rattle.strips.specs.Strips.{rise_cost, fall_cost, risen, fallen, instance_on, FirstFar, FarEnd, WindowOf, site_opens, open_cost, join_cost};
 ghost use Rattle.rows.specs.Rows.{strip_of, point_of, Lies};
 ghost use Rattle.arrays.specs.Arrays.{slots_by, turn_by, held_by};
+ghost use Rattle.arrays.specs.declared.Measures as measured;
 ghost use Rattle.arrays.specs.Given.{instance_of, SiteIn};
 ghost use Rattle.arrays.specs.Ranked.{given_of, slot_count, colour_count};
 ghost use Rattle.strips.specs.Steps.{price_in, budget_left};
@@ -39,7 +40,7 @@ pub struct Step {
 // The site lies between the strip's ends.
 #[tactic(auto, unfolding(optimum::specs::Strips::inside))]
 pub fn is_inside(sheet: &RankedSheet, p: Strip, s: Site) -> bool
-    ensures { result ≡ model.inside (instance_on sheet.now.measures sheet.now.heights.now sheet.now.bounds.now) (strip_of p) (point_of s) }
+    ensures { (q : measured.Measures) (bs : List ℕ) → result ≡ model.inside (instance_on q sheet.now.heights.now bs) (strip_of p) (point_of s) }
 {
     is_over(sheet, p.a, s.y) & is_under(sheet, p.b, s.y)
 }
@@ -136,7 +137,7 @@ fn opens(sheet: &RankedSheet, p: Strip, s: Site, k: u32) -> bool
 #[tactic(auto, unfolding(optimum::specs::Strips::joins_up))]
 fn joins_up(sheet: &RankedSheet, p: Strip, s: Site, k: u32) -> bool
     requires { (s.c < most_colours) × (k ≤ most_slots) }
-    ensures { result ≡ model.joins_up (instance_on sheet.now.measures sheet.now.heights.now sheet.now.bounds.now) (strip_of p) (point_of s) k }
+    ensures { (bs : List ℕ) → result ≡ model.joins_up (instance_on sheet.now.measures sheet.now.heights.now bs) (strip_of p) (point_of s) k }
 {
     let own = (p.a == k + 1) & (p.ca == s.c + 1);
     own & is_clear(sheet, p.b, s.y) & !is_held(sheet, p, s)
@@ -145,7 +146,7 @@ fn joins_up(sheet: &RankedSheet, p: Strip, s: Site, k: u32) -> bool
 #[tactic(auto, unfolding(optimum::specs::Strips::joins_down))]
 fn joins_down(sheet: &RankedSheet, p: Strip, s: Site, k: u32) -> bool
     requires { (s.c < most_colours) × (k ≤ most_slots) }
-    ensures { result ≡ model.joins_down (instance_on sheet.now.measures sheet.now.heights.now sheet.now.bounds.now) (strip_of p) (point_of s) k }
+    ensures { (bs : List ℕ) → result ≡ model.joins_down (instance_on sheet.now.measures sheet.now.heights.now bs) (strip_of p) (point_of s) k }
 {
     let low = (k as usize) < sheet.heights.len();
     let own = (p.b == k + 1) & low & (p.cb == s.c + 1);
@@ -175,7 +176,7 @@ fn join_cost(sheet: &RankedSheet, s: Site, k: u32) -> u32
 #[tactic(auto, unfolding(crate::specs::Strips::rise_cost))]
 pub fn rise_cost(sheet: &RankedSheet, p: Strip, s: Site) -> u32
     requires { SiteIn sheet.now.measures (point_of s) × Lies (slot_count sheet.now) (colour_count sheet.now) (strip_of p) }
-    ensures { result ≡ rise_cost sheet.now.measures sheet.now.heights.now sheet.now.bounds.now (strip_of p) (point_of s) }
+    ensures { (bs : List ℕ) → result ≡ rise_cost sheet.now.measures sheet.now.heights.now bs (strip_of p) (point_of s) }
 {
     let up = p.a.saturating_sub(1);
     let slot = (up as usize) < sheet.heights.len();
@@ -189,7 +190,7 @@ pub fn rise_cost(sheet: &RankedSheet, p: Strip, s: Site) -> u32
 #[tactic(auto, unfolding(crate::specs::Strips::fall_cost))]
 pub fn fall_cost(sheet: &RankedSheet, p: Strip, s: Site) -> u32
     requires { SiteIn sheet.now.measures (point_of s) × Lies (slot_count sheet.now) (colour_count sheet.now) (strip_of p) }
-    ensures { result ≡ fall_cost sheet.now.measures sheet.now.heights.now sheet.now.bounds.now (strip_of p) (point_of s) }
+    ensures { (bs : List ℕ) → result ≡ fall_cost sheet.now.measures sheet.now.heights.now bs (strip_of p) (point_of s) }
 {
     let down = p.b.saturating_sub(1);
     if joins_down(sheet, p, s, down) {

@@ -73,11 +73,12 @@ module _ {g : Given} {work : List ℕ} (a : WalkIn g work) where
 
   -- the level of the sites after the first j
   pub level-of : (j : ℕ) (L M out : List ℕ) (v here : ℕ) → j < length order → Standing g work L M out j v here
-      → LevelIn g work ((j + 1) * level_words g) L M
+      → LevelIn work ((j + 1) * level_words g) q.colours q.budgets L M
   level-of j L M out v here l w =
       record {
-        long = w.labels_long;
-        within = let m = mul-le-mul_right (level_words g) later in omega (arith, m, a.whole);
+        few_slots = omega (arith, w.labels_long, a.sheet.few_slots);
+        few_colours = a.sheet.few_colours;
+        within = rw w.labels_long (let m = mul-le-mul_right (level_words g) later in omega (arith, m, a.whole));
         coloured = w.coloured;
         marked = w.marked;
       }

@@ -24,7 +24,16 @@ pub fn lay_least(sheet: &RankedSheet, work: &[u32], out: &mut [u32]) -> Result<(
     let mut labels = [0u32; words::MOST_SLOTS];
     let places = m + 1;
     let mut marks = [0u32; MARKS_LENGTH];
-    let least = rest_of(sheet, work, 0, &labels[..m], &marks[..places], v);
+    let colours = sheet.measures.colours;
+    let least = rest_of(
+        sheet.splits,
+        colours,
+        work,
+        0,
+        &labels[..m],
+        &marks[..places],
+        v,
+    );
     if is_none(least) {
         return Err(Refusal::NoLayout);
     }

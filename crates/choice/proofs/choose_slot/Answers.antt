@@ -12,17 +12,18 @@ pub keeps_cost-requires : goal.keeps_cost-requires
 keeps_cost-requires c =
     let p = c.requires in
     let l = c.loop-k in
+    let s = c.args.sheet.now in
     record {
-      level = level-same _ _ _ _ _ _ _ l.invariant.0 l.invariant.1 p.level;
+      level = level-same s.all_listed l.invariant.0 l.invariant.1 p.level;
       places = record {
-        slot_low = omega (arith, ap length l.invariant.0, p.level.long, c.loop-k-test.true);
-        few = omega (arith, ap length l.invariant.0, p.level.long, c.args.sheet.now.of_sheet.few_slots);
-        marks_long = omega (arith, ap length l.invariant.0, ap length l.invariant.1, p.level.long, p.marks_long);
+        slot_low = omega (arith, ap length l.invariant.0, p.labels_long, c.loop-k-test.true);
+        few = omega (arith, ap length l.invariant.0, p.labels_long, s.of_sheet.few_slots);
+        marks_long = omega (arith, ap length l.invariant.0, ap length l.invariant.1, p.labels_long, p.marks_long);
         place_low = omega (arith, ap length l.invariant.1, p.place_low);
       };
       mark_low = rw c.turn_at.ensures (turn_low _ _ _);
       colour_low = omega (arith, p.site.colour_low);
-      budget = omega (arith, c.step_of-step.ensures.left_value, p.budget);
+      budget = omega (arith, c.step_of-step.ensures.left_value, p.budget, s.all_listed);
       low = p.low;
     }
 

@@ -24,10 +24,10 @@ returns-then-not-is_inside c =
     let y = a.filling.now in
     let x = y.level.sheet.now in
     let o = c.copy_row in
-    let g = sym c.is_inside.ensures ∙ c.if-not-is_inside.true in
+    let g = sym (c.is_inside.ensures x.measures x.bounds.now) ∙ c.if-not-is_inside.true in
     let f = ap (λ (z : ℕ). y.level.low + z) c.row_place.ensures in (
       o.ensures.0,
-      λ m. row_copied x.measures x.heights.now x.bounds.now x.splits.now.parts x.splits.now.counts y.left.now a.work.now o.new.work a.base y.level.low _
+      λ m. row_copied x.measures x.heights.now x.bounds.now x.splits.parts.now x.splits.counts.now y.left.now a.work.now o.new.work a.base y.level.low _
           (strip_of a.p) (point_of y.level.site) g f o.ensures.1,
     )
 
@@ -38,12 +38,12 @@ returns-then-site_opens c =
     let x = y.level.sheet.now in
     let p = c.requires in
     let r = c.start_joined in
-    let w = r.ensures in
+    let w = r.ensures x.bounds.now in
     let o = c.open_slots in
-    let g = sym c.is_inside.ensures ∙ c.if-not-is_inside.false in
+    let g = sym (c.is_inside.ensures x.measures x.bounds.now) ∙ c.if-not-is_inside.false in
     let h = sym c.site_opens.ensures ∙ c.if-site_opens.true in (
       record { before = λ i k. o.ensures.0.before i k ∙ w.0.before i k; after = λ i k. o.ensures.0.after i k ∙ w.0.after i k },
-      λ m. row_opened x.measures x.heights.now x.bounds.now x.splits.now.parts x.splits.now.counts y.left.now a.work.now r.new.work o.new.work a.base y.level.low
+      λ m. row_opened x.measures x.heights.now x.bounds.now x.splits.parts.now x.splits.counts.now y.left.now a.work.now r.new.work o.new.work a.base y.level.low
           (strip_of a.p) (point_of y.level.site) p.apart g h w.0 w.1 o.ensures.1,
     )
 
@@ -53,10 +53,10 @@ returns-else-site_opens c =
     let y = a.filling.now in
     let x = y.level.sheet.now in
     let r = c.start_joined in
-    let w = r.ensures in
-    let g = sym c.is_inside.ensures ∙ c.if-not-is_inside.false in
+    let w = r.ensures x.bounds.now in
+    let g = sym (c.is_inside.ensures x.measures x.bounds.now) ∙ c.if-not-is_inside.false in
     let h = sym c.site_opens.ensures ∙ c.if-site_opens.false in (
       w.0,
-      λ m. row-joined x.measures x.heights.now x.bounds.now x.splits.now.parts x.splits.now.counts y.left.now a.work.now r.new.work a.base y.level.low
+      λ m. row-joined x.measures x.heights.now x.bounds.now x.splits.parts.now x.splits.counts.now y.left.now a.work.now r.new.work a.base y.level.low
           (strip_of a.p) (point_of y.level.site) g h w.1,
     )

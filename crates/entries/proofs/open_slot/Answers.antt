@@ -37,7 +37,7 @@ returns-then-cost c =
       record { before = λ i h. refl; after = λ i h. refl },
       λ v h. omega (
         arith,
-        slot-barred g.measures g.heights.now g.splits.now.parts g.splits.now.counts f.left.now row (strip_of a.p) (point_of f.level.site) a.k v
+        slot-barred g.measures g.heights.now g.splits.parts.now g.splits.counts.now f.left.now row (strip_of a.p) (point_of f.level.site) a.k v
             (sym e ∙ c.if-cost.true),
         c.slice_known-1.given (a.base + v),
       ),
@@ -85,7 +85,7 @@ returns-then-work-upper c =
     let g = f.level.sheet.now in
     let at = rw c.turn_at-turn.ensures at c.part_places-at.ensures.places in (
       record { before = λ i h. refl; after = λ i h. refl },
-      λ v h. slot-none g.measures g.heights.now g.splits.now.parts g.splits.now.counts f.left.now a.work.now f.level.low
+      λ v h. slot-none g.measures g.heights.now g.splits.parts.now g.splits.counts.now f.left.now a.work.now f.level.low
           (strip_of a.p) (point_of f.level.site) a.k v _ _ _
           (omega (arith, c.slice_known-1.given (a.base + v))) c.requires.1.1 at.0 at.1
           c.if-work-upper.true,
@@ -94,7 +94,7 @@ returns-then-work-upper c =
 pub open_row-requires : goal.open_row-requires
 open_row-requires c =
     let f = c.args.filling.now in
-    (f.level.sheet.now.of_sheet.few_budgets, places-fit f c.args.base c.requires.0 _ c.requires.1 c.turn_at-turn.ensures c.part_places-at.ensures.places, f.left_long)
+    (omega (arith, f.level.sheet.now.all_listed), places-fit f c.args.base c.requires.0 _ c.requires.1 c.turn_at-turn.ensures c.part_places-at.ensures.places, f.left_long)
 
 pub returns : goal.returns
 returns c =
@@ -106,7 +106,7 @@ returns c =
     let at = rw c.turn_at-turn.ensures at c.part_places-at.ensures.places in (
       o.0,
       λ v h. o.1 v h ∙ ap (min (get_or a.work.now (a.base + v) 0))
-          (slot-open g.measures g.heights.now g.splits.now.parts g.splits.now.counts f.left.now a.work.now f.level.low
+          (slot-open g.measures g.heights.now g.splits.parts.now g.splits.counts.now f.left.now a.work.now f.level.low
           (strip_of a.p) (point_of f.level.site) a.k v _ _ _
           c.requires.1.1 e at.0 at.1 c.if-work-upper.false),
     )

@@ -15,7 +15,7 @@ returns-then-window c =
     let f = a.filling.now in
     let g = f.level.sheet.now in
     let w = c.open_window-window in
-    let t = tried-empty g.measures g.heights.now g.splits.now.parts g.splits.now.counts f.left.now a.work.now a.base f.level.low (strip_of a.p) (point_of f.level.site)
+    let t = tried-empty g.measures g.heights.now g.splits.parts.now g.splits.counts.now f.left.now a.work.now a.base f.level.low (strip_of a.p) (point_of f.level.site)
     w.result w.ensures c.if-window.true (λ i. omega (arith, c.slice_known-1.given i)) in
     (t.others, t.row)
 
@@ -25,9 +25,9 @@ returns-then-is_single c =
     let f = a.filling.now in
     let g = f.level.sheet.now in
     let p = c.requires in
-    let o = single_of g.measures.budgets g.splits.now.parts g.splits.now.counts f.left.now (sym c.is_single.ensures ∙ c.if-is_single.true) in
+    let o = single_of g.measures.budgets g.splits.parts.now g.splits.counts.now f.left.now (sym c.is_single.ensures ∙ c.if-is_single.true) in
     let w = c.open_window-window in
-    single-row g.measures g.heights.now g.splits.now.parts g.splits.now.counts f.left.now a.work.now a.base f.level.low (strip_of a.p) (point_of f.level.site)
+    single-row g.measures g.heights.now g.splits.parts.now g.splits.counts.now f.left.now a.work.now a.base f.level.low (strip_of a.p) (point_of f.level.site)
     o w.result _
     (omega (arith, p.apart, p.within, g.of_sheet.some_budget)) w.ensures c.if-window.false c.least_open-t.ensures
 
@@ -38,7 +38,7 @@ loop-k-init c =
     let g = f.level.sheet.now in
     let p = c.requires in
     let w = c.open_window-window.ensures in
-    tried-start g.measures g.heights.now g.splits.now.parts g.splits.now.counts f.left.now a.work.now a.base f.level.low (strip_of a.p) (point_of f.level.site)
+    tried-start g.measures g.heights.now g.splits.parts.now g.splits.counts.now f.left.now a.work.now a.base f.level.low (strip_of a.p) (point_of f.level.site)
     c.open_window-window.result w c.if-window.false (λ i. omega (arith, c.slice_known-1.given i))
 
 pub loop-k-preserved : goal.loop-k-preserved
@@ -52,7 +52,7 @@ loop-k-preserved c =
     let w = c.open_window-window.ensures in
     let e : l.k + 1 - a.p.a ≡ l.k - a.p.a + 1 = omega (arith, l.auto.k, w.low) in
     let z : a.p.a + (l.k - a.p.a) ≡ l.k = omega (arith, l.auto.k, w.low) in
-    rw e (tried-more g.measures g.heights.now g.splits.now.parts g.splits.now.counts f.left.now a.work.now l.work o.new.work a.base f.level.low
+    rw e (tried-more g.measures g.heights.now g.splits.parts.now g.splits.counts.now f.left.now a.work.now l.work o.new.work a.base f.level.low
     (strip_of a.p) (point_of f.level.site) (l.k - a.p.a)
     p.apart l.invariant o.auto.work o.ensures.0 (λ v h. rw z (o.ensures.1 v h)))
 
@@ -64,7 +64,7 @@ returns c =
     let g = f.level.sheet.now in
     let p = c.requires in
     let w = c.open_window-window in
-    let t = tried-end g.measures g.heights.now g.splits.now.parts g.splits.now.counts f.left.now a.work.now l.work a.base f.level.low
+    let t = tried-end g.measures g.heights.now g.splits.parts.now g.splits.counts.now f.left.now a.work.now l.work a.base f.level.low
     (strip_of a.p) (point_of f.level.site) w.result l.k w.ensures c.if-window.false
     (omega (arith, l.auto.k-end, c.loop-k-test.false)) l.invariant in
     (t.others, t.row)

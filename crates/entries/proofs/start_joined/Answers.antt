@@ -51,9 +51,10 @@ pub returns : goal.returns
 returns c =
     let v = c.args.level.now in
     let g = v.sheet.now in
-    let o = c.start_row.ensures in (
+    let o = c.start_row.ensures in
+    λ bs. (
       o.0,
-      λ x h. o.1 x h ∙ joined_by g.measures g.heights.now g.bounds.now c.args.work.now v.low (strip_of c.args.p) (point_of v.site) x _ _ _ _
-          c.rise_cost-rise.ensures c.fall_cost-fall.ensures
+      λ x h. o.1 x h ∙ joined_by g.measures g.heights.now bs c.args.work.now v.low (strip_of c.args.p) (point_of v.site) x _ _ _ _
+          (c.rise_cost-rise.ensures bs) (c.fall_cost-fall.ensures bs)
           (joined-at _ _ _ _ c.risen_of.ensures c.row_place.ensures) (joined-at _ _ _ _ c.fallen_of.ensures c.row_place-2.ensures),
     )

@@ -38,8 +38,8 @@ returns c =
     let o = c.mark_own.ensures in
     let t = c.mark_own-2.ensures in (
       marking-join _ _ _ _ _ o.0 t.0,
-      λ h. subst (Marked c.mark_own-2.new.work v.low (length g.heights.now) g.measures.colours g.measures.budgets) c.risen_of-up.ensures
-          (t.0.kept _ (o.1 (ap (λ (z : ℕ). ltb z top_word) c.rise_cost-rises.ensures ∙ lt-ltb _ _ h))),
-      λ h. subst (Marked c.mark_own-2.new.work v.low (length g.heights.now) g.measures.colours g.measures.budgets) c.fallen_of-down.ensures
-          (t.1 (ap (λ (z : ℕ). ltb z top_word) c.fall_cost-falls.ensures ∙ lt-ltb _ _ h)),
+      λ bs h. subst (Marked c.mark_own-2.new.work v.low (length g.heights.now) g.measures.colours g.measures.budgets) c.risen_of-up.ensures
+          (t.0.kept _ (o.1 (ap (λ (z : ℕ). ltb z top_word) (c.rise_cost-rises.ensures bs) ∙ lt-ltb _ _ h))),
+      λ bs h. subst (Marked c.mark_own-2.new.work v.low (length g.heights.now) g.measures.colours g.measures.budgets) c.fallen_of-down.ensures
+          (t.1 (ap (λ (z : ℕ). ltb z top_word) (c.fall_cost-falls.ensures bs) ∙ lt-ltb _ _ h)),
     )

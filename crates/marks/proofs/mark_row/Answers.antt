@@ -22,7 +22,7 @@ returns-then-not-is_inside c =
     let v = c.args.level.now in
     let g = v.sheet.now in
     let o = c.mark_own.ensures in
-    (o.0, λ k. marked-out g.measures g.heights.now g.bounds.now (strip_of c.args.p) (point_of v.site) c.mark_own.new.work v.low (sym c.is_inside.ensures ∙ c.if-not-is_inside.true) (o.1 refl))
+    (o.0, λ k. marked-out g.measures g.heights.now g.bounds.now (strip_of c.args.p) (point_of v.site) c.mark_own.new.work v.low (sym (c.is_inside.ensures g.measures g.bounds.now) ∙ c.if-not-is_inside.true) (o.1 refl))
 
 pub mark_joins-requires : goal.mark_joins-requires
 mark_joins-requires c = (c.requires.fits, c.requires.lies)
@@ -50,10 +50,10 @@ returns-then-site_opens c =
     let p = c.requires in
     let o = c.mark_joins.ensures in
     let w = c.mark_window.ensures in
-    let i = sym c.is_inside.ensures ∙ c.if-not-is_inside.false in (
+    let i = sym (c.is_inside.ensures g.measures g.bounds.now) ∙ c.if-not-is_inside.false in (
       marking-join _ _ _ _ _ o.0 w.0,
       λ k. marked-in g.measures g.heights.now g.bounds.now (strip_of c.args.p) (point_of v.site) _ v.low c.open_window-window.result (on-slots g.of_sheet) v.site_in i
-          (λ h. w.0.kept _ (o.1 h)) (λ h. w.0.kept _ (o.2 h))
+          (λ h. w.0.kept _ (o.1 g.bounds.now h)) (λ h. w.0.kept _ (o.2 g.bounds.now h))
           (λ s. (c.open_window-window.ensures, w.1)),
     )
 
@@ -66,10 +66,10 @@ returns-else-site_opens c =
     let g = v.sheet.now in
     let p = c.requires in
     let o = c.mark_joins.ensures in
-    let i = sym c.is_inside.ensures ∙ c.if-not-is_inside.false in (
+    let i = sym (c.is_inside.ensures g.measures g.bounds.now) ∙ c.if-not-is_inside.false in (
       o.0,
       λ k. marked-in g.measures g.heights.now g.bounds.now (strip_of c.args.p) (point_of v.site) c.mark_joins.new.work v.low (record { from = 0; to = 0 }) (on-slots g.of_sheet) v.site_in i
-          o.1 o.2
+          (o.1 g.bounds.now) (o.2 g.bounds.now)
           (λ s. clash s (sym c.site_opens.ensures ∙ c.if-site_opens.false)),
     )
 

@@ -58,11 +58,14 @@ slice_bounds-draws-end c = stands _ _ (draws c.requires.takes_one_sided.read (rw
 pub slice_bounds-sheet-end-2 : goal.slice_bounds-sheet-end-2
 slice_bounds-sheet-end-2 c = (draws c.requires.takes_one_sided.read (rw c.bounds-bounds.ensures at c.draws_of-draws.ensures)).1
 
-pub splits_of-splits-requires : goal.splits_of-splits-requires
-splits_of-splits-requires c =
+pub list_splits-requires : goal.list_splits-requires
+list_splits-requires c =
     let p = c.requires.takes_one_sided in
     let e = arrays p c.bounds-bounds.ensures c.radices_of-radices.ensures c.draws_of-draws.ensures c.requires.ranked_sites in
-    (arrays-held p.read.words p.takes.1 _ e).0.few_budgets
+    ((arrays-held p.read.words p.takes.1 _ e).0.few_budgets, refl, refl)
+
+pub invariant_of-splits : goal.invariant_of-splits
+invariant_of-splits c = record { within = c.list_splits.ensures.within }
 
 pub invariant_of-radices : goal.invariant_of-radices
 invariant_of-radices c =
@@ -75,7 +78,7 @@ invariant_of-sheet c =
     let p = c.requires.takes_one_sided in
     let e = arrays p c.bounds-bounds.ensures c.radices_of-radices.ensures c.draws_of-draws.ensures c.requires.ranked_sites in
     let h = arrays-held p.read.words p.takes.1 _ e in
-    record { of_sheet = with-splits h.0 _ _; bounded = h.1; ranked = h.2; listed = c.splits_of-splits.ensures }
+    record { of_sheet = with-splits h.0 _ _; bounded = h.1; ranked = h.2; listed = c.list_splits.ensures; all_listed = refl }
 
 pub lay_ranked-requires : goal.lay_ranked-requires
 lay_ranked-requires c =

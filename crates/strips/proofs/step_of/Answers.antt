@@ -17,10 +17,10 @@ returns-else-is_below c = let a = c.args in
 
 pub returns-then-joins : goal.returns-then-joins
 returns-then-joins c = let a = c.args in
-    let r = step-joins (given_of a.sheet.now) (strip_of a.p) (point_of a.s) a.k a.v true (sym c.opens.ensures ∙ c.if-opens.false) (sym c.if-joins.true ∙ ap₂ ◌||◌ c.joins_up.ensures c.joins_down.ensures) c.join_cost-price.ensures in
+    let r = step-joins (given_of a.sheet.now) (strip_of a.p) (point_of a.s) a.k a.v true (sym c.opens.ensures ∙ c.if-opens.false) (sym c.if-joins.true ∙ ap₂ ◌||◌ (c.joins_up.ensures a.sheet.now.bounds.now) (c.joins_down.ensures a.sheet.now.bounds.now)) c.join_cost-price.ensures in
     record { left_value = r.0; price_value = r.1 }
 
 pub returns-else-joins : goal.returns-else-joins
 returns-else-joins c = let a = c.args in
-    let r = step-joins (given_of a.sheet.now) (strip_of a.p) (point_of a.s) a.k a.v false (sym c.opens.ensures ∙ c.if-opens.false) (sym c.if-joins.false ∙ ap₂ ◌||◌ c.joins_up.ensures c.joins_down.ensures) refl in
+    let r = step-joins (given_of a.sheet.now) (strip_of a.p) (point_of a.s) a.k a.v false (sym c.opens.ensures ∙ c.if-opens.false) (sym c.if-joins.false ∙ ap₂ ◌||◌ (c.joins_up.ensures a.sheet.now.bounds.now) (c.joins_down.ensures a.sheet.now.bounds.now)) refl in
     record { left_value = r.0; price_value = r.1 }

@@ -41,7 +41,7 @@ loop-p-init c =
     let g = v.sheet.now in
     let p = c.requires in
     let a = c.args in
-    (refl, refl, (omega arith, some-mark), start-end g.measures.colours a.above.slot (length g.heights.now) p.1.0, ap (λ (z : ℕ). v.base + z) c.row_place.ensures, refl, filled_none g.measures g.heights.now g.bounds.now g.splits.now.parts g.splits.now.counts y.left.now v.base v.low (point_of v.site) a.work.now a.above.slot a.above.colour _ p.1.1 (omega arith))
+    (refl, refl, (omega arith, some-mark), start-end g.measures.colours a.above.slot (length g.heights.now) p.1.0, ap (λ (z : ℕ). v.base + z) c.row_place.ensures, refl, filled_none g.measures g.heights.now g.bounds.now g.splits.parts.now g.splits.counts.now y.left.now v.base v.low (point_of v.site) a.work.now a.above.slot a.above.colour _ p.1.1 (omega arith))
 
 pub fill_row-requires : goal.fill_row-requires
 fill_row-requires c =
@@ -53,7 +53,7 @@ fill_row-requires c =
     let l = c.loop-p in
     let r = row_lies _ _ _ _ (strip_of l.p) p.1 l.invariant.0 l.invariant.1 (omega (arith, c.loop-p-test.true)) l.invariant.2 in
     record {
-      apart = row_low g.measures g.heights.now g.bounds.now g.splits.now.parts g.splits.now.counts y.left.now v.base v.low (point_of v.site) _ _ v.apart r l.invariant.4;
+      apart = row_low g.measures g.heights.now g.bounds.now g.splits.parts.now g.splits.counts.now y.left.now v.base v.low (point_of v.site) _ _ v.apart r l.invariant.4;
       within = omega (arith, l.invariant.5, p.0);
       lies = r;
     }
@@ -67,7 +67,7 @@ overflow_add-at-in-loop-p c =
     let a = c.args in
     let l = c.loop-p in
     let r = row_lies _ _ _ _ (strip_of l.p) p.1 l.invariant.0 l.invariant.1 (omega (arith, c.loop-p-test.true)) l.invariant.2 in
-    let z = row_low g.measures g.heights.now g.bounds.now g.splits.now.parts g.splits.now.counts y.left.now v.base v.low (point_of v.site) (strip_of l.p) l.at v.apart r l.invariant.4 in
+    let z = row_low g.measures g.heights.now g.bounds.now g.splits.parts.now g.splits.counts.now y.left.now v.base v.low (point_of v.site) (strip_of l.p) l.at v.apart r l.invariant.4 in
     omega (arith, z, c.requires.0)
 
 pub next_below-p-requires : goal.next_below-p-requires
@@ -105,7 +105,7 @@ loop-p-preserved c =
       omega (arith, z, e.4),
       next_row _ _ _ _ _ (strip_of l.p) (strip_of c.next_below-p.result) e.0 e.1 e.4 l.invariant.4,
       f.auto.work ∙ l.invariant.5,
-      rw (e.0, e.1, e.4) (filled_more g.measures g.heights.now g.bounds.now g.splits.now.parts g.splits.now.counts y.left.now v.base v.low (point_of v.site) _ l.work f.new.work (strip_of l.p) _ l.at v.apart r refl l.invariant.4 l.invariant.6 f.ensures.0 f.ensures.1),
+      rw (e.0, e.1, e.4) (filled_more g.measures g.heights.now g.bounds.now g.splits.parts.now g.splits.counts.now y.left.now v.base v.low (point_of v.site) _ l.work f.new.work (strip_of l.p) _ l.at v.apart r refl l.invariant.4 l.invariant.6 f.ensures.0 f.ensures.1),
     )
 
 pub shape_of-work : goal.shape_of-work
@@ -118,4 +118,4 @@ returns c =
     let g = v.sheet.now in
     let l = c.loop-p in
     let a = c.args in
-    to_end g.measures g.heights.now g.bounds.now g.splits.now.parts g.splits.now.counts y.left.now v.base v.low (point_of v.site) a.work.now l.work _ _ (ap₂ (end_place g.measures.colours) l.invariant.0 l.invariant.1) (filled-all g.measures g.heights.now g.bounds.now g.splits.now.parts g.splits.now.counts y.left.now v.base v.low (point_of v.site) a.work.now l.work (end_place g.measures.colours l.p.a l.p.ca) (strip_of l.p) (omega (arith, c.loop-p-test.false)) l.invariant.3 l.invariant.6)
+    to_end g.measures g.heights.now g.bounds.now g.splits.parts.now g.splits.counts.now y.left.now v.base v.low (point_of v.site) a.work.now l.work _ _ (ap₂ (end_place g.measures.colours) l.invariant.0 l.invariant.1) (filled-all g.measures g.heights.now g.bounds.now g.splits.parts.now g.splits.counts.now y.left.now v.base v.low (point_of v.site) a.work.now l.work (end_place g.measures.colours l.p.a l.p.ca) (strip_of l.p) (omega (arith, c.loop-p-test.false)) l.invariant.3 l.invariant.6)

@@ -13,7 +13,7 @@ loop-above-init c =
     let v = y.level in
     let g = v.sheet.now in
     let a = c.args in
-    (omega arith, slot-low g.measures.colours 0 (length g.heights.now + 1) 0 (omega arith), refl, passed_none g.measures g.heights.now g.bounds.now g.splits.now.parts g.splits.now.counts y.left.now v.base v.low (point_of v.site) a.work.now _ (omega arith))
+    (omega arith, slot-low g.measures.colours 0 (length g.heights.now + 1) 0 (omega arith), refl, passed_none g.measures g.heights.now g.bounds.now g.splits.parts.now g.splits.counts.now y.left.now v.base v.low (point_of v.site) a.work.now _ (omega arith))
 
 pub fill_below-requires : goal.fill_below-requires
 fill_below-requires c =
@@ -52,7 +52,7 @@ loop-above-preserved c =
       e.0,
       omega (arith, z, e.1),
       f.auto.work ∙ l.invariant.2,
-      rw e.1 (passed-more g.measures g.heights.now g.bounds.now g.splits.now.parts g.splits.now.counts y.left.now v.base v.low (point_of v.site) _ l.work f.new.work l.above.slot l.above.colour v.apart (omega (arith, c.loop-above-test.true)) l.invariant.0 l.invariant.3 f.ensures.0 f.ensures.1),
+      rw e.1 (passed-more g.measures g.heights.now g.bounds.now g.splits.parts.now g.splits.counts.now y.left.now v.base v.low (point_of v.site) _ l.work f.new.work l.above.slot l.above.colour v.apart (omega (arith, c.loop-above-test.true)) l.invariant.0 l.invariant.3 f.ensures.0 f.ensures.1),
     )
 
 pub shape_of-work : goal.shape_of-work
@@ -65,4 +65,4 @@ returns c =
     let g = v.sheet.now in
     let l = c.loop-above in
     let a = c.args in
-    passed-all g.measures g.heights.now g.bounds.now g.splits.now.parts g.splits.now.counts y.left.now v.base v.low (point_of v.site) a.work.now l.work _ _ (omega (arith, c.loop-above-test.false)) l.invariant.1 l.invariant.3
+    passed-all g.measures g.heights.now g.bounds.now g.splits.parts.now g.splits.counts.now y.left.now v.base v.low (point_of v.site) a.work.now l.work _ _ (omega (arith, c.loop-above-test.false)) l.invariant.1 l.invariant.3

@@ -59,12 +59,13 @@ module _ {g : Given} {work out : List ℕ} (L M : List ℕ) (a : WalkIn g work) 
   rising = a.sheet.rising
 
   -- the first level stands in the work area
-  pub first-level : LevelIn g work 0 L M
+  pub first-level : LevelIn work 0 q.colours q.budgets L M
   first-level =
       let l : length L ≡ length hs = ap length z ∙ length-replicate (length hs) 0 in
       record {
-        long = l;
-        within = let e = whole (length g.order) (level_words g) in omega (arith, f.whole, e);
+        few_slots = omega (arith, l, a.sheet.few_slots);
+        few_colours = a.sheet.few_colours;
+        within = rw l (let e = whole (length g.order) (level_words g) in omega (arith, f.whole, e));
         coloured = λ i. rw z (omega (arith, zeros (length hs) i));
         marked = λ i. rw y (omega (arith, some-mark, zeros (length hs + 1) i));
       }

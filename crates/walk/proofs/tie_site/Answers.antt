@@ -12,11 +12,13 @@ choose_slot-k-requires c =
     let a = c.args in
     let g = a.sheet.now in
     let w = walk-in g p.levels_fit in
+    let held = c.hold_of-p.ensures g.measures g.bounds.now g.radices.list.now g.draws.now in
     record {
       level = rw c.level_size-size.ensures (level-of w a.j _ _ _ _ _ p.standing.1 p.standing.0);
       site = subst⁻¹ (SiteIn a.sheet.now.measures) c.site_at-s.ensures (site-in w a.j p.standing.1);
+      labels_long = p.standing.0.labels_long;
       marks_long = p.standing.0.marks_long;
-      place_low = place_in w a.labels.now a.marks.now a.j p.standing.0 (strip_of c.hold_of-p.result) _ c.hold_of-p.ensures;
+      place_low = place_in w a.labels.now a.marks.now a.j p.standing.0 (strip_of c.hold_of-p.result) _ held;
       budget = p.standing.0.budget;
       low = p.standing.0.low;
     }
@@ -24,8 +26,10 @@ choose_slot-k-requires c =
 pub step_of-step-requires : goal.step_of-step-requires
 step_of-step-requires c =
     let a = c.args in
-    let w = walk-in a.sheet.now c.requires.levels_fit in
-    let mid = tied w c.requires.standing c.site_at-s.ensures c.hold_of-p.ensures
+    let g = a.sheet.now in
+    let w = walk-in g c.requires.levels_fit in
+    let held = c.hold_of-p.ensures g.measures g.bounds.now g.radices.list.now g.draws.now in
+    let mid = tied w c.requires.standing c.site_at-s.ensures held
     c.level_size-size.ensures c.choose_slot-k.ensures.value in
     let p = c.requires in
     (subst⁻¹ (SiteIn a.sheet.now.measures) c.site_at-s.ensures (site-in w a.j p.standing.1), omega (arith, mid.slot_low, a.sheet.now.of_sheet.few_slots))
@@ -33,8 +37,10 @@ step_of-step-requires c =
 pub write_tie-requires : goal.write_tie-requires
 write_tie-requires c =
     let a = c.args in
-    let w = walk-in a.sheet.now c.requires.levels_fit in
-    let mid = tied w c.requires.standing c.site_at-s.ensures c.hold_of-p.ensures
+    let g = a.sheet.now in
+    let w = walk-in g c.requires.levels_fit in
+    let held = c.hold_of-p.ensures g.measures g.bounds.now g.radices.list.now g.draws.now in
+    let mid = tied w c.requires.standing c.site_at-s.ensures held
     c.level_size-size.ensures c.choose_slot-k.ensures.value in
     let p = c.requires in
     record {
@@ -46,16 +52,20 @@ write_tie-requires c =
 pub write_marks-requires : goal.write_marks-requires
 write_marks-requires c =
     let a = c.args in
-    let w = walk-in a.sheet.now c.requires.levels_fit in
-    let mid = tied w c.requires.standing c.site_at-s.ensures c.hold_of-p.ensures
+    let g = a.sheet.now in
+    let w = walk-in g c.requires.levels_fit in
+    let held = c.hold_of-p.ensures g.measures g.bounds.now g.radices.list.now g.draws.now in
+    let mid = tied w c.requires.standing c.site_at-s.ensures held
     c.level_size-size.ensures c.choose_slot-k.ensures.value in
     rw (c.choose_slot-k.ensures.labels_unchanged, c.choose_slot-k.ensures.marks_unchanged) mid.marks_in
 
 pub bounds-labels-slot : goal.bounds-labels-slot
 bounds-labels-slot c =
     let a = c.args in
-    let w = walk-in a.sheet.now c.requires.levels_fit in
-    let mid = tied w c.requires.standing c.site_at-s.ensures c.hold_of-p.ensures
+    let g = a.sheet.now in
+    let w = walk-in g c.requires.levels_fit in
+    let held = c.hold_of-p.ensures g.measures g.bounds.now g.radices.list.now g.draws.now in
+    let mid = tied w c.requires.standing c.site_at-s.ensures held
     c.level_size-size.ensures c.choose_slot-k.ensures.value in
     let p = c.requires in
     omega (arith, mid.slot_low, p.standing.0.labels_long, ap length c.choose_slot-k.ensures.labels_unchanged)
@@ -63,8 +73,10 @@ bounds-labels-slot c =
 pub returns : goal.returns
 returns c =
     let a = c.args in
-    let w = walk-in a.sheet.now c.requires.levels_fit in
-    let mid = tied w c.requires.standing c.site_at-s.ensures c.hold_of-p.ensures
+    let g = a.sheet.now in
+    let w = walk-in g c.requires.levels_fit in
+    let held = c.hold_of-p.ensures g.measures g.bounds.now g.radices.list.now g.draws.now in
+    let mid = tied w c.requires.standing c.site_at-s.ensures held
     c.level_size-size.ensures c.choose_slot-k.ensures.value in
     let f = c.step_of-step.ensures in
     let o = c.choose_slot-k.ensures in

@@ -8,13 +8,13 @@ use lib.ListN.{get_or}
 use Rattle.arrays.proofs.places.is_under.Goals as goal
 
 pub returns-then-b-eq0 : goal.returns-then-b-eq0
-returns-then-b-eq0 c = sym (under-edge _ _ _ c.if-b-eq0.true)
+returns-then-b-eq0 c = λ q. sym (under-edge _ _ _ c.if-b-eq0.true)
 
 pub returns-in-Some : goal.returns-in-Some
 returns-in-Some c = let a = c.args in
     let e = c.in-Some.ensures.lookup in
     let height : c.in-Some.field-0.now ≡ get_or a.sheet.now.heights.now (a.b - 1) 0 = e.4 (omega arith) 0 in
-    ap (λ (h : ℕ). ltb a.y h) height ∙ sym (under-label (slots_by a.sheet.now.measures a.sheet.now.heights.now) a.b a.y (omega arith) e.3.0)
+    λ q. ap (λ (h : ℕ). ltb a.y h) height ∙ sym (under-label (slots_by q a.sheet.now.heights.now) a.b a.y (omega arith) e.3.0)
 
 pub returns-in-None : goal.returns-in-None
-returns-in-None c = sym (under-bottom _ _ _ (omega arith) c.in-None.ensures.lookup.3)
+returns-in-None c = λ q. sym (under-bottom _ _ _ (omega arith) c.in-None.ensures.lookup.3)

@@ -7,24 +7,25 @@ use Rattle.rows.proofs.Folding.{strip_lies, row_inside, folding-skip, folding-jo
 use Rattle.rows.proofs.rest.fold_rows.Goals as goal
 use Rattle.rows.proofs.rest.fold_rows.Goals.{then-cb-ne0, else-cb-ne0}
 
-pub row_place-requires : goal.row_place-requires
-row_place-requires c =
+pub place_of-requires : goal.place_of-requires
+place_of-requires c =
     let p = c.requires.level_in in
     let l = c.loop-i in
-    strip_lies p l.invariant (l.i + 1) (get_or c.args.labels.now l.i 0) (omega arith) (omega (arith, p.coloured l.i)) c.get-d.ensures
+    let lies = strip_lies p l.invariant (l.i + 1) (get_or c.args.labels.now l.i 0) (omega arith) (omega (arith, p.coloured l.i)) c.get-d.ensures in
+    record { few = (p.few_slots, p.few_colours, c.args.splits.within.few); lies = lies }
 
 pub overflow_add-row : goal.overflow_add-row
 overflow_add-row c =
     let p = c.requires.level_in in
     let l = c.loop-i in
-    omega (arith, row_inside p l.invariant (l.i + 1) (get_or c.args.labels.now l.i 0) (omega arith) (omega (arith, p.coloured l.i)) c.get-d.ensures c.row_place.ensures)
+    omega (arith, row_inside p l.invariant (l.i + 1) (get_or c.args.labels.now l.i 0) (omega arith) (omega (arith, p.coloured l.i)) c.get-d.ensures c.place_of.ensures)
 
 pub join_row-requires : goal.join_row-requires
 join_row-requires c =
     let p = c.requires.level_in in
     let l = c.loop-i in
-    let inside = row_inside p l.invariant (l.i + 1) (get_or c.args.labels.now l.i 0) (omega arith) (omega (arith, p.coloured l.i)) c.get-d.ensures c.row_place.ensures in
-    (omega (arith, l.invariant.long, c.args.sheet.now.of_sheet.few_budgets), omega (arith, l.invariant.long, inside))
+    let inside = row_inside p l.invariant (l.i + 1) (get_or c.args.labels.now l.i 0) (omega arith) (omega (arith, p.coloured l.i)) c.get-d.ensures c.place_of.ensures in
+    (omega (arith, l.invariant.long), omega (arith, l.invariant.long, inside))
 
 pub loop-i-preserved : goal.loop-i-preserved
 loop-i-preserved c =
@@ -32,26 +33,28 @@ loop-i-preserved c =
     let p = c.requires.level_in in
     elim c.if-cb-ne0.branch [
       | then-cb-ne0 w ↦
-          rw (w.acc-is, w.a-is, w.ca-is, w.join_row.ensures, w.row_place.ensures, w.get-d.ensures, ← p.long)
+          rw (w.acc-is, w.a-is, w.ca-is, w.join_row.ensures, w.place_of.ensures, w.get-d.ensures)
           (folding-join f c.loop-i-test.true w.if-cb-ne0.true (omega (arith, p.coloured c.loop-i.i)))
       | else-cb-ne0 w ↦ rw (w.acc-is, w.a-is, w.ca-is) (folding-skip f c.loop-i-test.true w.if-cb-ne0.false)
     ]
 
-pub row_place-requires-2 : goal.row_place-requires-2
-row_place-requires-2 c =
-    strip_lies c.requires.level_in c.loop-i.invariant (length c.args.labels.now + 1) 0 (omega arith) (omega arith) c.get-d-2.ensures
+pub place_of-requires-2 : goal.place_of-requires-2
+place_of-requires-2 c =
+    let p = c.requires.level_in in
+    let lies = strip_lies p c.loop-i.invariant (length c.args.labels.now + 1) 0 (omega arith) (omega arith) c.get-d-2.ensures in
+    record { few = (p.few_slots, p.few_colours, c.args.splits.within.few); lies = lies }
 
 pub overflow_add-row-2 : goal.overflow_add-row-2
 overflow_add-row-2 c =
-    omega (arith, row_inside c.requires.level_in c.loop-i.invariant (length c.args.labels.now + 1) 0 (omega arith) (omega arith) c.get-d-2.ensures c.row_place-2.ensures)
+    omega (arith, row_inside c.requires.level_in c.loop-i.invariant (length c.args.labels.now + 1) 0 (omega arith) (omega arith) c.get-d-2.ensures c.place_of-2.ensures)
 
 pub join_row-requires-2 : goal.join_row-requires-2
 join_row-requires-2 c =
     let l = c.loop-i in
-    let inside = row_inside c.requires.level_in l.invariant (length c.args.labels.now + 1) 0 (omega arith) (omega arith) c.get-d-2.ensures c.row_place-2.ensures in
-    (omega (arith, l.invariant.long, c.args.sheet.now.of_sheet.few_budgets), omega (arith, l.invariant.long, inside))
+    let inside = row_inside c.requires.level_in l.invariant (length c.args.labels.now + 1) 0 (omega arith) (omega arith) c.get-d-2.ensures c.place_of-2.ensures in
+    (omega (arith, l.invariant.long), omega (arith, l.invariant.long, inside))
 
 pub returns : goal.returns
 returns c =
-    let e = rw (c.row_place-2.ensures, c.get-d-2.ensures, ← c.requires.level_in.long) at c.join_row-2.ensures in
+    let e = rw (c.place_of-2.ensures, c.get-d-2.ensures) at c.join_row-2.ensures in
     ap (λ (l : List ℕ). get_or l c.args.v 0) (e ∙ folding-all c.loop-i.invariant c.loop-i-test.false)

@@ -6,7 +6,7 @@ use Rattle.rows.proofs.rest.join_row.Goals as goal
 pub loop-v-preserved : goal.loop-v-preserved
 loop-v-preserved c =
     let l = c.loop-v in
-    joined-more l.invariant (omega arith) c.args.splits.now.within (omega arith) c.least_split.ensures
+    joined-more l.invariant (omega arith) c.args.splits.within c.requires.0 c.least_split.ensures
 
 pub returns : goal.returns
 returns c =

@@ -11,8 +11,8 @@ pub returns : goal.returns
 unfolding rest_rows
 returns c =
     let a = c.args in
-    let s = a.sheet.now in
+    let s = a.splits in
     let m = length a.labels.now in
-    let fold = fold_rows s.splits.now.parts s.splits.now.counts a.work.now a.base m s.measures.colours s.measures.budgets m 0 0 0 a.labels.now a.marks.now in
-    let start = start_is s.measures.budgets most_budgets s.of_sheet.few_budgets in
+    let fold = fold_rows s.parts.now s.counts.now a.work.now a.base m a.colours s.budgets m 0 0 0 a.labels.now a.marks.now in
+    let start = start_is s.budgets most_budgets s.within.few in
     c.fold_rows.ensures ∙ ap (λ (l : List ℕ). get_or (fold l) a.v 0) start
