@@ -20,10 +20,6 @@ module _ (ws : List ℕ) {o : OpenedSheet} (e : o ≡ sheet_opened ws) where
   numbers-are : sheet_fault ws ≡ 0 → o.numbers ≡ numbers_by (sheet_in ws)
   numbers-are h = ap (λ (z : OpenedSheet). z.numbers) e ∙ rw (eq-eqb (sheet_fault ws) 0 h) refl
 
--- an accepted sheet's numbers: the sizes from there are the reader's answer
-pub sizes-read : (ws : List ℕ) (d : Numbers) → sheet_fault ws ≡ 0 → d ≡ numbers_by (sheet_in ws) → read_of (sheet_by d) ≡ read_post ws
-sizes-read ws d h e = rw (eq-eqb (sheet_fault ws) 0 h) (ap read_of (sheet-read {s = sheet_in ws} e))
-
 -- OPENED TO NUMBERS: the sheet is accepted, and they are its own
 module _ (ws : List ℕ) (d : Numbers) (e : opened_of (Ok d) ≡ sheet_opened ws) where
   pub unrefused : sheet_fault ws ≡ 0
@@ -35,5 +31,6 @@ module _ (ws : List ℕ) (d : Numbers) (e : opened_of (Ok d) ≡ sheet_opened ws
   abbrev pub accepted-read : SheetRead d
   accepted-read = record { words = ws; accepted = unrefused; numbers = numbers-of }
 
+  -- the sizes from there are the reader's answer
   pub accepted-sizes : read_of (sheet_by d) ≡ read_post ws
-  accepted-sizes = sizes-read ws d unrefused numbers-of
+  accepted-sizes = rw (eq-eqb (sheet_fault ws) 0 unrefused) (ap read_of (sheet-read {s = sheet_in ws} numbers-of))

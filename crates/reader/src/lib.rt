@@ -15,8 +15,8 @@ ghost use Rattle.sheet.specs.Limits.{most_colours, byte_top};
 ghost use Rattle.decoding.specs.Decoding.{bounds_in, site_counts_in, colours_by, sheet_by, SheetRead};
 ghost use Rattle.reader.specs.Read.{eight_of, read_of, refused_of, read_post};
 
-use crate::order::sheet_fault;
-use decoding::{Colour, Numbers, numbers_of};
+use crate::opened::open_sheet;
+use decoding::{Colour, Numbers};
 use sizes::{product_of, work_for};
 use words::MOST_COLOURS;
 
@@ -98,13 +98,12 @@ pub fn sizes_of(numbers: &Numbers) -> Sizes
     }
 }
 
-// The refusal's number, or n, m, C, P, the number of work words and the eight colours. The sheet is opened here as `open_sheet` opens it:
-// through its `Result` the arrays would be copied twice more.
+// The refusal's number, or n, m, C, P, the number of work words and the eight colours.
 pub fn read_sheet(sheet: &[u32]) -> Sizes
     ensures { result ≡ read_post sheet.now }
 {
-    match sheet_fault(sheet) {
-        Ok(()) => sizes_of(&numbers_of(sheet)),
+    match open_sheet(sheet) {
+        Ok(numbers) => sizes_of(&numbers),
         Err(refusal) => refused(refusal.number()),
     }
 }

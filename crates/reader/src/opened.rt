@@ -7,6 +7,7 @@ use decoding::{Numbers, numbers_of};
 use faults::refusal::Refusal;
 
 // The numbers of an accepted sheet, or a refusal 1 to 7.
+#[inline]
 pub fn open_sheet(sheet: &[u32]) -> Result<Numbers, Refusal>
     ensures { opened_of result ≡ sheet_opened sheet.now }
 {
