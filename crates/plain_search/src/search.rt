@@ -1,4 +1,6 @@
 // The best lawful layout of a sheet: all layouts are tried, in the order in which equals come.
+ghost use Rattle.std.specs.Prelude.{◌≡◌, take};
+
 use crate::rules::{Layout, Size, Tie};
 use crate::small_sheet::{MOST_SITES, Sheet, Site, Terms};
 use arrayvec::ArrayVec;
@@ -14,18 +16,18 @@ pub struct Ties {
 }
 
 impl Ties {
-    pub fn of(ties: &[Tie]) -> Self {
+    pub fn of(ties: &[Tie]) -> Self
+        ensures { take result.count result.all ≡ take MOST_SITES ties.now }
+    {
+        let count = ties.len().min(MOST_SITES);
         let mut all = [Tie::default(); MOST_SITES];
-        for (place, tie) in all.iter_mut().zip(ties) {
-            *place = *tie;
-        }
-        Ties {
-            all,
-            count: ties.len(),
-        }
+        all[..count].copy_from_slice(&ties[..count]);
+        Ties { all, count }
     }
 
-    pub fn as_slice(&self) -> &[Tie] {
+    fn as_slice(&self) -> &[Tie]
+        ensures { result.now ≡ take self.now.count self.now.all }
+    {
         self.all.get(..self.count).unwrap_or(&self.all)
     }
 }
@@ -40,7 +42,9 @@ pub struct Found {
 }
 
 impl Found {
-    pub fn ties(&self) -> &[Tie] {
+    pub fn ties(&self) -> &[Tie]
+        ensures { result.now ≡ take self.now.ties.count self.now.ties.all }
+    {
         self.ties.as_slice()
     }
 }

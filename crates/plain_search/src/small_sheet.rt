@@ -1,4 +1,6 @@
 // Small sheets, and a recipe that draws them. Nothing here is shared with the layout maker or the judge.
+ghost use Rattle.std.specs.Prelude.{◌≡◌, take};
+
 pub mod recipe;
 pub mod words;
 
@@ -38,18 +40,18 @@ pub struct Slots {
 }
 
 impl Slots {
-    pub fn of(slots: &[Slot]) -> Self {
+    pub fn of(slots: &[Slot]) -> Self
+        ensures { take result.count result.all ≡ take MOST_SLOTS slots.now }
+    {
+        let count = slots.len().min(MOST_SLOTS);
         let mut all = [Slot::default(); MOST_SLOTS];
-        for (place, slot) in all.iter_mut().zip(slots) {
-            *place = *slot;
-        }
-        Slots {
-            all,
-            count: slots.len(),
-        }
+        all[..count].copy_from_slice(&slots[..count]);
+        Slots { all, count }
     }
 
-    pub fn as_slice(&self) -> &[Slot] {
+    fn as_slice(&self) -> &[Slot]
+        ensures { result.now ≡ take self.now.count self.now.all }
+    {
         self.all.get(..self.count).unwrap_or(&self.all)
     }
 }
@@ -62,18 +64,18 @@ pub struct Colours {
 }
 
 impl Colours {
-    pub fn of(colours: &[Colour]) -> Self {
+    pub fn of(colours: &[Colour]) -> Self
+        ensures { take result.count result.all ≡ take MOST_COLOURS colours.now }
+    {
+        let count = colours.len().min(MOST_COLOURS);
         let mut all = [Colour::default(); MOST_COLOURS];
-        for (place, colour) in all.iter_mut().zip(colours) {
-            *place = *colour;
-        }
-        Colours {
-            all,
-            count: colours.len(),
-        }
+        all[..count].copy_from_slice(&colours[..count]);
+        Colours { all, count }
     }
 
-    pub fn as_slice(&self) -> &[Colour] {
+    fn as_slice(&self) -> &[Colour]
+        ensures { result.now ≡ take self.now.count self.now.all }
+    {
         self.all.get(..self.count).unwrap_or(&self.all)
     }
 }
@@ -86,18 +88,18 @@ pub struct Sites {
 }
 
 impl Sites {
-    pub fn of(sites: &[Site]) -> Self {
+    pub fn of(sites: &[Site]) -> Self
+        ensures { take result.count result.all ≡ take MOST_SITES sites.now }
+    {
+        let count = sites.len().min(MOST_SITES);
         let mut all = [Site::default(); MOST_SITES];
-        for (place, site) in all.iter_mut().zip(sites) {
-            *place = *site;
-        }
-        Sites {
-            all,
-            count: sites.len(),
-        }
+        all[..count].copy_from_slice(&sites[..count]);
+        Sites { all, count }
     }
 
-    pub fn as_slice(&self) -> &[Site] {
+    fn as_slice(&self) -> &[Site]
+        ensures { result.now ≡ take self.now.count self.now.all }
+    {
         self.all.get(..self.count).unwrap_or(&self.all)
     }
 }
@@ -125,15 +127,21 @@ pub struct Sheet {
 }
 
 impl Sheet {
-    pub fn slots(&self) -> &[Slot] {
+    pub fn slots(&self) -> &[Slot]
+        ensures { result.now ≡ take self.now.slots.count self.now.slots.all }
+    {
         self.slots.as_slice()
     }
 
-    pub fn colours(&self) -> &[Colour] {
+    pub fn colours(&self) -> &[Colour]
+        ensures { result.now ≡ take self.now.colours.count self.now.colours.all }
+    {
         self.colours.as_slice()
     }
 
-    pub fn sites(&self) -> &[Site] {
+    pub fn sites(&self) -> &[Site]
+        ensures { result.now ≡ take self.now.sites.count self.now.sites.all }
+    {
         self.sites.as_slice()
     }
 

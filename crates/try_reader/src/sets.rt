@@ -14,9 +14,7 @@ fn is_taken(asked: u32, set: u32) -> bool {
 fn take_line(line: &[u8], set: u32, taken: &mut Words) {
     let held = taken.len();
     take_words(line, taken);
-    if taken.last().is_some_and(|asked| is_taken(*asked, set)) {
-        taken.pop();
-    } else {
+    if taken.pop().is_none_or(|asked| !is_taken(asked, set)) {
         taken.truncate(held);
     }
 }
