@@ -56,7 +56,7 @@ impl Slots {
     }
 }
 
-// A sheet's colours, in the same way.
+// A sheet's colours, in the same way. The types differ in what they hold alone, but a generic struct has no array of a type parameter.
 #[derive(Clone, Copy)]
 pub struct Colours {
     all: [Colour; MOST_COLOURS],
