@@ -1,6 +1,6 @@
 -- The numbers of the sheet without the bounds that can't bind. Assumes nothing.
 use mathlib.Core.Path.{◌≡◌, refl, sym, ap, ap₂, ◌∙◌}
-use mathlib.Core.List.{List, [], ◌∷◌, ◌++◌, map}
+use mathlib.Core.List.{List, [], ◌∷◌, map}
 use Prim.Native.Nat.{ℕ, ◌+◌, ◌<◌, ◌≤◌}
 use native.Mathlib.Numerals.{add-one}
 use native.Mathlib.Omega.{arith}
@@ -8,7 +8,6 @@ use lib.ListN.{length, get_or, take, drop, set, length-map, drop_of_length-le}
 use lib.Seq.{drop-cons, length-take-le}
 use Rattle.std.proofs.lemmas.List.{get_or-take, get_or-drop}
 use Rattle.lists.proofs.Grown.{Grown, grown-more, grown-end}
-use Rattle.sheet.specs.Limits.{most_colours}
 use Rattle.sheet.specs.Sheet.{Colour, sheet_in}
 use Rattle.sheet.specs.Binding.{binding_bound, binding_only, binding_colours, with_colours}
 use Rattle.sheet.proofs.Accepted.{unrefused}

@@ -1,6 +1,5 @@
 use mathlib.Core.Path.{refl}
 use native.Mathlib.Omega.{arith}
-use Rattle.lists.proofs.Grown.{grown-none}
 use Rattle.decoding.proofs.Fronts.{few}
 use Rattle.maker.proofs.Kept.{kept-more, numbers-kept}
 use Rattle.maker.proofs.binding.binding_numbers.Goals as goal
