@@ -1,24 +1,29 @@
 -- Where no pair has a flaw, every two tied sites pass every test. Assumes nothing.
 use mathlib.Core.Path.{◌≡◌, sym, ap₂, ◌∙◌, subst}
 use mathlib.Core.Bool.{Bool, true, false, ◌&&◌, ◌||◌, not, cond}
-use Prim.Native.Nat.{ℕ, zero, suc, ◌<◌, ◌≤◌}
+use Prim.Native.Nat.{ℕ, zero, suc, ◌+◌, ◌-◌, ◌<◌, ◌≤◌}
 use native.Mathlib.Omega.{arith}
 use Rattle.lists.proofs.Tests.{by-test, by_order, by_equal, and_both, eqb-self, eqb-sym, same_test}
-use Rattle.labelling.specs.Counted.{sum_before}
+use Rattle.labelling.specs.Counted.{all_before, sum_before}
 use Rattle.labelling.specs.Layout.{far_by}
 use Rattle.labelling.proofs.Distances.{far-sym}
-use Rattle.labelling.proofs.Counted.{before-all}
+use Rattle.labelling.proofs.Counted.{before-all, all-before}
 use Rattle.layouts.specs.Flaws.{passes_both, passes_one, flaw_of}
 use Rattle.rules.specs.Rules.{colours_pass, gaps_pass, misses_pass, clears_pass}
 use Rattle.words.specs.declared.tied.TiedSite.{TiedSite}
 use Rattle.words.specs.declared.tied.Head.{Head}
-use Rattle.layouts.specs.Model.{PairTest, flaws_at, pairs_pass, AllPairsPass}
+use Rattle.layouts.specs.Model.{PairTest, flaws_at, passes_from, pairs_pass, AsksBoth, AllPairsPass}
 
 -- A PAIR
+turned-colours : (t u : TiedSite) → colours_pass t u ≡ colours_pass u t
+turned-colours t u = ap₂ (λ (a b : Bool). not a || b) (eqb-sym t.slot u.slot) (eqb-sym t.colour u.colour)
+
+turned-gaps : (h : Head) (t u : TiedSite) → gaps_pass h t u ≡ gaps_pass h u t
+turned-gaps h t u =
+    ap₂ ◌||◌ (eqb-sym t.slot u.slot) (same_test (far_by h.gap t.height u.height) (far_by h.gap u.height t.height) (far-sym h.gap t.height u.height) (far-sym h.gap u.height t.height))
+
 turned : (h : Head) (t u : TiedSite) → passes_both h t u ≡ passes_both h u t
-turned h t u =
-    ap₂ ◌&&◌ (ap₂ (λ (a b : Bool). not a || b) (eqb-sym t.slot u.slot) (eqb-sym t.colour u.colour))
-    (ap₂ ◌||◌ (eqb-sym t.slot u.slot) (same_test (far_by h.gap t.height u.height) (far_by h.gap u.height t.height) (far-sym h.gap t.height u.height) (far-sym h.gap u.height t.height)))
+turned h t u = ap₂ ◌&&◌ (turned-colours t u) (turned-gaps h t u)
 
 -- all that is asked of one beside the other
 record Beside (h : Head) (t u : TiedSite) : Type 0 where
@@ -46,6 +51,28 @@ flawless h t u e =
 -- beside itself a site passes
 self : (h : Head) (t : TiedSite) → Beside h t t
 self h t = record { colours = rw (eqb-self t.slot, eqb-self t.colour); gaps = rw (eqb-self t.slot); misses = rw (eqb-self t.slot); clears = rw (eqb-self t.slot) }
+
+-- RULES THAT ASK THE SAME OF BOTH: each two looked at once
+pub colours-both : AsksBoth (λ h t u. colours_pass t u)
+colours-both h t u = turned-colours t u
+
+pub gaps-both : AsksBoth gaps_pass
+gaps-both = turned-gaps
+
+pub pairs-all : (r : PairTest) (h : Head) (ts : ℕ → TiedSite) (n : ℕ) → all_before (λ i. passes_from r h ts 0 n (ts i)) n ≡ pairs_pass r h ts n
+pairs-all r h ts n =
+    same_test (all_before (λ i. passes_from r h ts 0 n (ts i)) n) (pairs_pass r h ts n)
+    (λ e. before-all _ n λ i l. before-all _ n λ j m. let q : 0 + j ≡ j = omega arith in subst (λ (z : ℕ). r h (ts i) (ts z) ≡ true) q (all-before _ (n - 0) (all-before _ n e i l) j (omega arith)))
+    (λ e. before-all _ n λ i l. before-all _ (n - 0) λ k m. all-before _ n (all-before _ n e i l) (0 + k) (omega arith))
+
+pub pairs-once : (r : PairTest) → AsksBoth r → (h : Head) (ts : ℕ → TiedSite) (n : ℕ) → all_before (λ i. passes_from r h ts i n (ts i)) n ≡ pairs_pass r h ts n
+pairs-once r b h ts n =
+    same_test (all_before (λ i. passes_from r h ts i n (ts i)) n) (pairs_pass r h ts n)
+    (λ e. before-all _ n λ i l. before-all _ n λ j m. by_order i j (λ o. from e i j m o) (λ o. b h (ts i) (ts j) ∙ from e j i l (omega arith)))
+    (λ e. before-all _ n λ i l. before-all _ (n - i) λ k m. all-before _ n (all-before _ n e i l) (i + k) (omega arith))
+  where
+    from : all_before (λ i. passes_from r h ts i n (ts i)) n ≡ true → (i j : ℕ) → j < n → i ≤ j → r h (ts i) (ts j) ≡ true
+    from e i j m o = let q : i + (j - i) ≡ j = omega arith in subst (λ (z : ℕ). r h (ts i) (ts z) ≡ true) q (all-before _ (n - i) (all-before _ n e i (omega arith)) (j - i) (omega arith))
 
 -- A SUM that comes to nothing
 zero-at : (f : ℕ → ℕ) (n : ℕ) → sum_before f n ≡ 0 → (i : ℕ) → i < n → f i ≡ 0

@@ -48,18 +48,23 @@ all-from f a (suc n) =
     ap₂ ◌&&◌ (ap f (let e : a ≡ a + 0 = omega arith in e)) (all-from f (a + 1) n ∙ ap (λ (g : ℕ → Bool). all_before g n) (fun_ext λ i. ap f (let e : a + 1 + i ≡ a + suc i = omega arith in e))) ∙
     sym (all-front (λ i. f (a + i)) n)
 
--- A LOOP over all
-pub all_none : (f : ℕ → Bool) → all_before f 0 ≡ true
-unfolding all_before
-all_none f = refl
+-- A LOOP over all from a place on: by what a callee found of the next
+module _ (f : ℕ → Bool) (i : ℕ) where
+  pub from-none : all_before (λ k. f (i + k)) (i - i) ≡ true
+  unfolding all_before
+  from-none = let e : i - i ≡ 0 = omega arith in rw e refl
 
--- by what a callee found of the next
-pub all_more : (f : ℕ → Bool) (i : ℕ) {r : Bool} → r ≡ f i → r ≡ true → all_before f i ≡ true → all_before f (i + 1) ≡ true
-unfolding all_before
-all_more f i e k h = rw (add-one i) (and_i h (sym e ∙ k))
+  pub from-more : (j : ℕ) {r : Bool} → i ≤ j → r ≡ f j → r ≡ true → all_before (λ k. f (i + k)) (j - i) ≡ true → all_before (λ k. f (i + k)) (j + 1 - i) ≡ true
+  unfolding all_before
+  from-more j l e k h =
+      let s : j + 1 - i ≡ suc (j - i) = omega arith in
+      let q : i + (j - i) ≡ j = omega arith in
+      rw s (and_i h (ap f q ∙ sym e ∙ k))
 
-pub all-stop : (f : ℕ → Bool) (n i : ℕ) {r : Bool} → i < n → r ≡ f i → r ≡ false → false ≡ all_before f n
-all-stop f n i l e k = sym (is_false (all_before f n) λ h. clash (all-before f n h i l) (sym e ∙ k))
+  pub from-stop : (n j : ℕ) {r : Bool} → i ≤ j → j < n → r ≡ f j → r ≡ false → false ≡ all_before (λ k. f (i + k)) (n - i)
+  from-stop n j l o e k =
+      let q : i + (j - i) ≡ j = omega arith in
+      sym (is_false (all_before (λ k. f (i + k)) (n - i)) λ h. clash (all-before (λ k. f (i + k)) (n - i) h (j - i) (omega arith)) (ap f q ∙ sym e ∙ k))
 
 pub all-range : (f : ℕ → Bool) (n : ℕ) → list_all f (range_with_len 0 n) ≡ all_before f n
 all-range f n = all-from f 0 n ∙ ap (λ (g : ℕ → Bool). all_before g n) (fun_ext λ i. ap f (let e : 0 + i ≡ i = omega arith in e))

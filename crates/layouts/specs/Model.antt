@@ -51,6 +51,14 @@ passes_all r h ts n t = all_before (λ j. r h t (ts j)) n
 abbrev pub pairs_pass : PairTest → Head → (sites : ℕ → TiedSite) → (count : ℕ) → Bool
 pairs_pass r h ts n = all_before (λ i. passes_all r h ts n (ts i)) n
 
+-- a tied site beside each from a place on
+abbrev pub passes_from : PairTest → Head → (sites : ℕ → TiedSite) → (from count : ℕ) → TiedSite → Bool
+passes_from r h ts i n t = all_before (λ k. r h t (ts (i + k))) (n - i)
+
+-- that a rule asks the same of t beside u and of u beside t
+abbrev pub AsksBoth : PairTest → Type 0
+AsksBoth r = (h : Head) → (t u : TiedSite) → r h t u ≡ r h u t
+
 -- rules 1, 3, 4 and 5, each beside each
 pub record AllPairsPass (h : Head) (sites : ℕ → TiedSite) (count : ℕ) : Type 0 where
   pub colours : pairs_pass (λ h t u. colours_pass t u) h sites count ≡ true

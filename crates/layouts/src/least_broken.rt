@@ -6,7 +6,7 @@ ghost use Rattle.layouts.specs.Broken.{broken_number};
 ghost use Rattle.layouts.specs.Model.{broken_on};
 
 use crate::every_pair::every_pair_passes;
-use crate::pairs::{Clears, Colours, Gaps, Misses, pairs_pass};
+use crate::pairs::{Clears, Colours, Gaps, Misses, pairs_pass, pairs_pass_once};
 use crate::rule::Rule;
 use crate::rule_2::bounds_pass;
 use crate::rule_6::totals_stated;
@@ -19,13 +19,13 @@ pub fn broken_by(sites: &TiedSites, stated: u32, colours: &[Colour]) -> Option<R
     ensures { broken_number result ≡ broken_on sites.now.head stated sites.now.heights.now (bounds_in colours.now) (xs_in sites.now.sites.now) (ys_in sites.now.sites.now) (site_colours_in sites.now.sites.now) (ties_in sites.now.ties.now) (length sites.now.ties.now) }
 {
     let known = every_pair_passes(sites);
-    if !(known || pairs_pass::<Colours>(sites)) {
+    if !(known || pairs_pass_once::<Colours>(sites)) {
         return Some(Rule::Colours);
     }
     if !bounds_pass(sites, colours) {
         return Some(Rule::Bounds);
     }
-    if !(known || pairs_pass::<Gaps>(sites)) {
+    if !(known || pairs_pass_once::<Gaps>(sites)) {
         return Some(Rule::Gaps);
     }
     if !(known || pairs_pass::<Misses>(sites)) {

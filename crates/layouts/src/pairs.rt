@@ -1,11 +1,11 @@
 // Rules 1, 3, 4 and 5: what each asks of two tied sites, and whether every two of a layout pass it.
 ghost use Rattle.decoding.specs.Decoding.{site_colours_in, xs_in, ys_in};
-ghost use Rattle.std.specs.Prelude.{◌≡◌, Bool, length};
+ghost use Rattle.std.specs.Prelude.{◌≡◌, ◌<◌, ◌≤◌, Bool, length};
 ghost use Rattle.labelling.specs.Layout.{ties_in};
 ghost use Rattle.rules.specs.Rules.{colours_pass, gaps_pass, misses_pass, clears_pass};
 ghost use Rattle.words.specs.declared.tied.Head.{Head};
 ghost use Rattle.words.specs.declared.tied.TiedSite.{TiedSite};
-ghost use Rattle.layouts.specs.Model.{tied_at, passes_all, pairs_pass};
+ghost use Rattle.layouts.specs.Model.{tied_at, passes_from, pairs_pass, AsksBoth};
 
 use crate::sites::TiedSites;
 use rules::rule_1::colours_pass;
@@ -63,11 +63,12 @@ impl PairRule for Clears {
     }
 }
 
-// Whether a tied site passes beside every tied site. The sites are passed by value: the loop then reads none of their fields again.
-fn all_pass<R: PairRule>(sites: TiedSites<'_>, t: TiedSite) -> bool
-    ensures { result ≡ passes_all R.kept sites.entry.head (tied_at sites.entry.heights.now (xs_in sites.entry.sites.now) (ys_in sites.entry.sites.now) (site_colours_in sites.entry.sites.now) (ties_in sites.entry.ties.now)) (length sites.entry.ties.now) t }
+// Whether a tied site passes beside each from a place on. The sites are passed by value: the loop then reads none of their fields again.
+fn pass_from<R: PairRule>(sites: TiedSites<'_>, t: TiedSite, from: usize) -> bool
+    requires { from ≤ length sites.ties.now }
+    ensures { result ≡ passes_from R.kept sites.entry.head (tied_at sites.entry.heights.now (xs_in sites.entry.sites.now) (ys_in sites.entry.sites.now) (site_colours_in sites.entry.sites.now) (ties_in sites.entry.ties.now)) from (length sites.entry.ties.now) t }
 {
-    for j in 0..sites.count() {
+    for j in from..sites.count() {
         if !R::passes(sites.head, t, sites.tied_at(j)) {
             return false;
         }
@@ -81,5 +82,20 @@ pub fn pairs_pass<R: PairRule>(sites: &TiedSites) -> bool
     ensures { result ≡ pairs_pass R.kept sites.now.head (tied_at sites.now.heights.now (xs_in sites.now.sites.now) (ys_in sites.now.sites.now) (site_colours_in sites.now.sites.now) (ties_in sites.now.ties.now)) (length sites.now.ties.now) }
 {
     let sites = *sites;
-    (0..sites.count()).all(|i| all_pass::<R>(sites, sites.tied_at(i)))
+    (0..sites.count()).all(|i| pass_from::<R>(sites, sites.tied_at(i), 0))
+}
+
+// The same of a rule that asks the same of both: each two are looked at once, from the first of them on, so that two that fail are found
+// no later than in all rows.
+#[inline(never)]
+pub fn pairs_pass_once<R: PairRule>(sites: &TiedSites) -> bool
+    requires { AsksBoth R.kept }
+    ensures { result ≡ pairs_pass R.kept sites.now.head (tied_at sites.now.heights.now (xs_in sites.now.sites.now) (ys_in sites.now.sites.now) (site_colours_in sites.now.sites.now) (ties_in sites.now.ties.now)) (length sites.now.ties.now) }
+{
+    let sites = *sites;
+    (0..sites.count()).all(
+        |i|
+            requires { i < length sites.ties.now }
+        { pass_from::<R>(sites, sites.tied_at(i), i) },
+    )
 }

@@ -9,13 +9,14 @@ use Rattle.std.proofs.Common.{rules}
 use Rattle.std.proofs.lemmas.Iterator.{YieldsList-from_range}
 use Rattle.std.proofs.lemmas.Iterator.Search.{all_from_yields_List}
 use Rattle.labelling.specs.Layout.{ties_in}
-use Rattle.layouts.specs.Model.{tied_at, passes_all}
+use Rattle.layouts.specs.Model.{tied_at, passes_from}
 use Rattle.layouts.proofs.Loops.{all-range}
+use Rattle.layouts.proofs.EveryPair.{pairs-all}
 use Rattle.layouts.proofs.pairs.pairs_pass.Goals as goal
 
 pub returns : goal.returns
 returns g c =
     let s = c.args.sites.now in
     let at = tied_at s.heights.now (xs_in s.sites.now) (ys_in s.sites.now) (site_colours_in s.sites.now) (ties_in s.ties.now) in
-    let f : ℕ → Bool = λ i. passes_all g.R.PairRule.kept s.head at (length s.ties.now) (at i) in
-    all_from_yields_List f _ _ _ c.all.ensures.ran (YieldsList-from_range 0 c.count.result (length s.ties.now) refl (omega arith)) (λ x b q k. search (rules, tests)) ∙ all-range f _
+    let f : ℕ → Bool = λ i. passes_from g.R.PairRule.kept s.head at 0 (length s.ties.now) (at i) in
+    all_from_yields_List f _ _ _ c.all.ensures.ran (YieldsList-from_range 0 c.count.result (length s.ties.now) refl (omega arith)) (λ x b q k. search (rules, tests)) ∙ all-range f _ ∙ pairs-all g.R.PairRule.kept s.head at (length s.ties.now)
