@@ -17,9 +17,9 @@ pub struct Splits<'a> {
     ghost within: { Within budgets parts.now counts.now },
 }
 
-impl Splits<'_> {
-    // What is listed for the budget u.
-    pub fn below(&self, u: usize) -> &[u8]
+impl<'a> Splits<'a> {
+    // What is listed for the budget u, lent as long as the lists are.
+    pub fn below(&self, u: usize) -> &'a [u8]
         requires { u < self.now.budgets }
         ensures counted { length result.now ≡ get_or self.now.counts.now u 0 }
         ensures listed { (i : ℕ) → i < length result.now → get_or result.now i 0 ≡ part_at self.now.parts.now u i }
