@@ -33,11 +33,13 @@ fn list_below(radices: Radices, v: usize, parts: &mut [u8]) -> u8
     count
 }
 
-// Lists, for each budget below P, what may be taken from it, and counts it. The contract says of what may be taken that it stands somewhere
-// in the list; arrays/proofs/Listed finds the place.
+// Lists, for each budget below P, what may be taken from it, and counts it; the counts of the others stay as they are. The contract says of
+// what may be taken that it stands somewhere in the list: arrays/proofs/Listed finds the place, and says that the lists of all budgets are
+// within bounds where the others' counts are 0.
 pub fn list_splits(radices: Radices, budgets: usize, parts: &mut [u8], counts: &mut [u8])
     requires { (budgets ≤ most_budgets) × (length parts.old ≡ splits_length) × (length counts.old ≡ most_budgets) }
-    ensures { SplitsOf radices.entry.list.now budgets parts.new counts.new }
+    ensures listed { SplitsOf radices.entry.list.now budgets parts.new counts.new }
+    ensures others { (v : ℕ) → budgets ≤ v → get_or counts.new v 0 ≡ get_or counts.old v 0 }
 {
     for v in 0..budgets {
         counts[v] = list_below(radices, v, parts);
@@ -78,4 +80,26 @@ pub fn list_left(sheet: &RankedSheet, draw: u32) -> [u8; BUDGETS_LENGTH]
         left[v] = left_of(sheet.radices, draw, v as u8);
     }
     left
+}
+
+#[cfg(test)]
+mod tests {
+    use super::*;
+    use arrays::splits::SPLITS_LENGTH;
+
+    // Radices 2 and 3, so six budgets: v % 2 labels of the first colour, v / 2 of the second. Worked out by hand.
+    #[test]
+    fn lists_what_may_be_taken_from_six_budgets(rt: HostRuntime) {
+        let mut parts = [0; SPLITS_LENGTH];
+        let mut counts = [9; BUDGETS_LENGTH];
+        list_splits(Radices { list: &[2, 3] }, 6, &mut parts, &mut counts);
+        assert_eq!(rt; &counts[..8], [1, 2, 2, 4, 3, 6, 9, 9].as_slice());
+        let lent = Splits {
+            budgets: 6,
+            parts: &parts,
+            counts: &counts,
+        }
+        .below(4);
+        assert_eq!(rt; lent, [0, 2, 4].as_slice());
+    }
 }

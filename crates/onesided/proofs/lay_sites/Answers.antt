@@ -15,6 +15,11 @@ use mathlib.Core.List.{List, []}
 use Prim.Native.Nat.{ℕ}
 use native.Mathlib.Omega.{arith}
 use lib.ListN.{take}
+use Rattle.arrays.specs.Budgets.{Within}
+use Rattle.sheet.specs.Limits.{most_budgets}
+use Rattle.arrays.proofs.Listed.{within-all}
+use Rattle.optimum.proofs.Pairs.{zeros}
+use Rattle.onesided.proofs.lay_sites.Goals.{After-list_splits}
 use Rattle.onesided.proofs.lay_sites.Goals as goal
 
 -- THE ARRAYS that are made of the numbers, with the sites by rank, are the sheet's
@@ -64,8 +69,12 @@ list_splits-requires c =
     let e = arrays p c.bounds-bounds.ensures c.radices_of-radices.ensures c.draws_of-draws.ensures c.requires.ranked_sites in
     ((arrays-held p.read.words p.takes.1 _ e).0.few_budgets, refl, refl)
 
+-- THE LISTS of what may be taken are within bounds for all budgets, the sheet's and those past its last
+pub lists-within : (c : After-list_splits) → Within most_budgets c.list_splits.new.parts c.list_splits.new.counts
+lists-within c = within-all c.list_splits.ensures.listed.within (λ v l. c.list_splits.ensures.others v l ∙ zeros most_budgets v)
+
 pub invariant_of-splits : goal.invariant_of-splits
-invariant_of-splits c = record { within = c.list_splits.ensures.within }
+invariant_of-splits c = record { within = c.list_splits.ensures.listed.within }
 
 pub invariant_of-radices : goal.invariant_of-radices
 invariant_of-radices c =
@@ -78,7 +87,7 @@ invariant_of-sheet c =
     let p = c.requires.takes_one_sided in
     let e = arrays p c.bounds-bounds.ensures c.radices_of-radices.ensures c.draws_of-draws.ensures c.requires.ranked_sites in
     let h = arrays-held p.read.words p.takes.1 _ e in
-    record { of_sheet = with-splits h.0 _ _; bounded = h.1; ranked = h.2; listed = c.list_splits.ensures; all_listed = refl }
+    record { of_sheet = with-splits h.0 _ _; bounded = h.1; ranked = h.2; listed = c.list_splits.ensures.listed; all_listed = refl }
 
 pub lay_ranked-requires : goal.lay_ranked-requires
 lay_ranked-requires c =

@@ -22,4 +22,5 @@ loop-v-preserved c =
           (λ k.
           rw (get_or-set_other l.counts v x c.list_below.result 0 (λ e. omega arith))
           (listed_same _ x (x + 1) _ _ _ (λ i b. let few = (old.2 x k).few in others.before (x * most_budgets + i) (omega arith)) (old.2 x k))),
+      λ x h. get_or-set_other l.counts v x c.list_below.result 0 (λ e. omega arith) ∙ old.3 x (omega arith),
     )
