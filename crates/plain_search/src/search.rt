@@ -1,5 +1,5 @@
 // The best lawful layout of a sheet: all layouts are tried, in the order in which equals come.
-ghost use Rattle.std.specs.Prelude.{◌≡◌, take};
+ghost use Rattle.std.specs.Prelude.{◌≡◌, ◌≤◌, length, take};
 
 use crate::rules::{Layout, Size, Tie};
 use crate::small_sheet::{MOST_SITES, Sheet, Site, Terms};
@@ -26,7 +26,8 @@ impl Ties {
     }
 
     fn as_slice(&self) -> &[Tie]
-        ensures { result.now ≡ take self.now.count self.now.all }
+        ensures held { result.now ≡ take self.now.count self.now.all }
+        ensures few { length result.now ≤ MOST_SITES }
     {
         self.all.get(..self.count).unwrap_or(&self.all)
     }
@@ -43,7 +44,8 @@ pub struct Found {
 
 impl Found {
     pub fn ties(&self) -> &[Tie]
-        ensures { result.now ≡ take self.now.ties.count self.now.ties.all }
+        ensures held { result.now ≡ take self.now.ties.count self.now.ties.all }
+        ensures few { length result.now ≤ MOST_SITES }
     {
         self.ties.as_slice()
     }

@@ -1,5 +1,5 @@
 // Small sheets, and a recipe that draws them. Nothing here is shared with the layout maker or the judge.
-ghost use Rattle.std.specs.Prelude.{◌≡◌, take};
+ghost use Rattle.std.specs.Prelude.{◌≡◌, ◌≤◌, length, take};
 
 pub mod recipe;
 pub mod words;
@@ -50,7 +50,8 @@ impl Slots {
     }
 
     fn as_slice(&self) -> &[Slot]
-        ensures { result.now ≡ take self.now.count self.now.all }
+        ensures held { result.now ≡ take self.now.count self.now.all }
+        ensures few { length result.now ≤ MOST_SLOTS }
     {
         self.all.get(..self.count).unwrap_or(&self.all)
     }
@@ -74,7 +75,8 @@ impl Colours {
     }
 
     fn as_slice(&self) -> &[Colour]
-        ensures { result.now ≡ take self.now.count self.now.all }
+        ensures held { result.now ≡ take self.now.count self.now.all }
+        ensures few { length result.now ≤ MOST_COLOURS }
     {
         self.all.get(..self.count).unwrap_or(&self.all)
     }
@@ -98,7 +100,8 @@ impl Sites {
     }
 
     fn as_slice(&self) -> &[Site]
-        ensures { result.now ≡ take self.now.count self.now.all }
+        ensures held { result.now ≡ take self.now.count self.now.all }
+        ensures few { length result.now ≤ MOST_SITES }
     {
         self.all.get(..self.count).unwrap_or(&self.all)
     }
@@ -128,19 +131,22 @@ pub struct Sheet {
 
 impl Sheet {
     pub fn slots(&self) -> &[Slot]
-        ensures { result.now ≡ take self.now.slots.count self.now.slots.all }
+        ensures held { result.now ≡ take self.now.slots.count self.now.slots.all }
+        ensures few { length result.now ≤ MOST_SLOTS }
     {
         self.slots.as_slice()
     }
 
     pub fn colours(&self) -> &[Colour]
-        ensures { result.now ≡ take self.now.colours.count self.now.colours.all }
+        ensures held { result.now ≡ take self.now.colours.count self.now.colours.all }
+        ensures few { length result.now ≤ MOST_COLOURS }
     {
         self.colours.as_slice()
     }
 
     pub fn sites(&self) -> &[Site]
-        ensures { result.now ≡ take self.now.sites.count self.now.sites.all }
+        ensures held { result.now ≡ take self.now.sites.count self.now.sites.all }
+        ensures few { length result.now ≤ MOST_SITES }
     {
         self.sites.as_slice()
     }
