@@ -1,5 +1,5 @@
--- What may be taken from a budget stands at a place of its list, which can be found: a ghost field says only that there is one. And the lists
--- of some budgets are within bounds for all, where nothing is counted for the others. Assumes nothing.
+-- What may be taken from a budget stands at a place of its list, which can be found: a ghost field says only that there is one. And lists that
+-- are within bounds for the first budgets are so for all, where nothing is counted for the others. Assumes nothing.
 use mathlib.Core.Path.{◌≡◌}
 use mathlib.Core.Bool.{true}
 use mathlib.Core.List.{List}
